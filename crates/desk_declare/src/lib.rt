@@ -1,0 +1,4 @@
+//! Suppliers' declarations, as they come in comma-separated values.
+#![tactic(auto)]
+
+mod rows;
