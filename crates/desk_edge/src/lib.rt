@@ -5,6 +5,8 @@ mod failed;
 mod link;
 mod memory_link;
 mod std_link;
+#[cfg(test)]
+mod tests;
 mod transfer;
 
 pub use failed::Failed;
