@@ -1,5 +1,6 @@
 pub mod CodeLemmas
 pub mod DayLemmas
+pub mod NameLemmas
 pub mod NumberLemmas
 pub mod PictureLemmas
 pub mod TextLemmas
