@@ -1,3 +1,4 @@
+pub mod CasLemmas
 pub mod CodeLemmas
 pub mod DayLemmas
 pub mod NameLemmas

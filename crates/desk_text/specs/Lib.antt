@@ -1,3 +1,4 @@
+pub mod Cas
 pub mod Code
 pub mod Day
 pub mod Name

@@ -2,6 +2,7 @@
 #![tactic(auto)]
 
 mod bytes;
+mod cas;
 mod code;
 mod day;
 mod exemption_number;
@@ -12,6 +13,7 @@ mod picture;
 mod word;
 
 pub use bytes::Bytes;
+pub use cas::{CAS_LIMIT, Cas, CasFault};
 pub use code::{CODE_LIMIT, Code, CodeFault};
 pub use day::{Day, DayFault};
 pub use exemption_number::{EXEMPTION_NUMBER_LIMIT, ExemptionNumber};
