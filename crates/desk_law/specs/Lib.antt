@@ -1,2 +1,5 @@
 pub mod Kind
+pub mod KindMarks
+pub mod KindSet
+pub mod Limit
 pub mod Rule

@@ -2,9 +2,13 @@
 #![tactic(auto)]
 
 mod kind;
+mod kind_set;
+mod limit;
 mod rule;
 
 pub use kind::Kind;
+pub use kind_set::KindSet;
+pub use limit::{limit_ppm, over};
 pub use rule::Rule;
 
 #[cfg(test)]
