@@ -2,7 +2,15 @@
 #![tactic(auto)]
 
 mod bytes;
+mod code;
+mod exemption_number;
 mod memory;
+mod number;
+mod picture;
+mod word;
 
 pub use bytes::Bytes;
+pub use code::{CODE_LIMIT, Code, CodeFault};
+pub use exemption_number::{EXEMPTION_NUMBER_LIMIT, ExemptionNumber};
 pub use memory::OutOfMemory;
+pub use number::{NumberFault, read_u32, read_u64};

@@ -1,0 +1,4 @@
+pub mod Code
+pub mod Number
+pub mod Picture
+pub mod Word
