@@ -1,4 +1,4 @@
-use Rattle.std.proofs.Common.{◌≡◌, [], ◌∷◌, ◌++◌, sym, ap, ◌∙◌, rules, arith}
+use Rattle.std.proofs.Common.{◌≡◌, ◌++◌, sym, ap, ◌∙◌, rules, arith}
 use Rattle.desk_law.specs.Kind.{kind_code}
 use Rattle.desk_law.specs.KindSet.{kinds_text}
 use Rattle.std.proofs.Output.{has_written_append, has_written_of_eq}
