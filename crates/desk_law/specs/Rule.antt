@@ -1,5 +1,5 @@
 -- The rules: the restricted substances of Annex II to Directive 2011/65/EU, as amended by Delegated Directive (EU) 2015/863.
-use Rattle.std.specs.Prelude.{ℕ, List, [], ◌∷◌, Option, find, codes}
+use Rattle.std.specs.Prelude.{ℕ, Bool, ◌==◌, List, [], ◌∷◌, Option, find, codes}
 use Rattle.std.specs.Str.{bytes_eq}
 use Rattle.desk_law.specs.declared.rule.Rule.{Rule}
 use Rattle.desk_law.specs.declared.rule.Rule.TheVariants.{Lead, Mercury, Cadmium, ChromiumVi, Pbb, Pbde, Dehp, Bbp, Dbp, Dibp}
@@ -16,6 +16,10 @@ rule_number Dehp = 7
 rule_number Bbp = 8
 rule_number Dbp = 9
 rule_number Dibp = 10
+
+-- two rules are one
+abbrev pub same_rule : Rule → Rule → Bool
+same_rule a b = rule_number a == rule_number b
 
 -- the code of a rule
 unfoldable pub rule_code : Rule → List ℕ

@@ -1,5 +1,5 @@
-ghost use Rattle.std.specs.Prelude.{◌≡◌, Option, Some};
-ghost use Rattle.desk_law.specs.Kind.{kind_code, kind_of};
+ghost use Rattle.std.specs.Prelude.{◌≡◌, ◌<◌, Option, Some};
+ghost use Rattle.desk_law.specs.Kind.{kind_code, kind_of, kind_place};
 
 use std::fmt;
 
@@ -83,6 +83,15 @@ impl Kind {
             Kind::Dispenser => "10",
             Kind::Other => "11",
         }
+    }
+
+    /// How many kinds stand before this one.
+    #[tactic(auto, unfolding(crate::specs::Kind::kind_place))]
+    pub(crate) fn place(self) -> usize
+        ensures place { result ≡ kind_place self }
+        ensures below { result < 14 }
+    {
+        self as usize
     }
 
     /// The kind whose code these bytes are, `None` exactly where they are no kind's code.
