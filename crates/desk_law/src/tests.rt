@@ -73,9 +73,30 @@ fn a_set_writes_its_kinds_once_in_the_order_of_the_annex(rt: HostRuntime) -> Res
     );
     assert!(rt; set.contains(Kind::Other) && !set.contains(Kind::ToyLeisureSports));
     assert!(rt; !set.is_empty() && KindSet::new().is_empty());
+    assert!(rt; KindSet::new().is_subset(&set) && !set.is_subset(&KindSet::new()));
     assert_eq!(rt;
         KindSet::new().to_string(rt.alloc())?.as_bytes(),
         b"".as_slice()
+    );
+    Ok(())
+}
+
+#[test]
+fn annex_four_is_for_medical_devices_and_instruments(rt: HostRuntime) -> Result<(), Fail> {
+    let rows = [
+        (Annex::Three, 3, "1,2,3,4,5,6,7,7t,8,8i,9,9i,10,11"),
+        (Annex::Four, 4, "8,8i,9,9i"),
+    ];
+    for (annex, number, kinds) in rows {
+        assert_eq!(rt; annex.number(), number);
+        assert_eq!(rt;
+            annex.kinds().to_string(rt.alloc())?.as_bytes(),
+            kinds.as_bytes()
+        );
+    }
+    assert_eq!(rt;
+        Annex::Four.to_string(rt.alloc())?.as_bytes(),
+        b"4".as_slice()
     );
     Ok(())
 }
