@@ -1,6 +1,5 @@
 -- A row put in at its place and a row taken out of its place, as the definitions by key say.
-use Rattle.std.proofs.Common.{◌≡◌, ℕ, zero, suc, ◌+◌, ◌<◌, ◌≤◌, List, [], ◌∷◌, length, get_or, set, refl, sym, ap, ◌∙◌, subst, cond, Ordering, Less, Equal, Greater, is_eq, Result, Ok, Err, MatchResult, Option, Some, None, insert, remove, add-one, arith}
-use Rattle.std.specs.Ordering.{match_ordering}
+use Rattle.std.proofs.Common.{◌≡◌, ℕ, suc, ◌+◌, ◌<◌, ◌≤◌, List, [], ◌∷◌, length, get_or, set, refl, sym, ap, ◌∙◌, subst, Ordering, Less, Equal, Greater, Result, Ok, Err, MatchResult, Some, None, insert, remove, arith}
 use Rattle.std.specs.Cmp.{IsTotalOrder}
 use Rattle.std.specs.List.Sorted.{IsBinarySearchResult, IsSearchInRange}
 use Rattle.std.proofs.lemmas.Cmp.{tied_itself}

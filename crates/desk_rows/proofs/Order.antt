@@ -1,10 +1,10 @@
 -- Rows in the order of their keys: what stands before and behind a key.
-use Rattle.std.proofs.Common.{◌≡◌, ℕ, suc, ◌<◌, true, false, List, [], ◌∷◌, map, length, get_or, refl, sym, ap, ◌∙◌, subst, Ordering, Less, Equal, Greater, is_eq, Option, Some, None, arith}
-use Rattle.std.specs.Ordering.{ordering_reverse, match_ordering}
+use Rattle.std.proofs.Common.{◌≡◌, List, [], ◌∷◌, map, refl, sym, ap, ◌∙◌, Ordering, Less, Equal, Greater, None}
+use Rattle.std.specs.Ordering.{ordering_reverse}
 use Rattle.std.specs.Cmp.{IsTotalOrder}
 use Rattle.std.specs.List.{AllByRecursion}
 use Rattle.std.specs.List.Sorted.{IsStrictlySortedBy}
-use Rattle.desk_rows.specs.Rows.{IsByKey, row_of, with_row, with_rows, without_row}
+use Rattle.desk_rows.specs.Rows.{IsByKey, row_of, without_row}
 
 -- an answer and its reverse
 pub reversed : (a b : Ordering) → a ≡ ordering_reverse b → b ≡ ordering_reverse a

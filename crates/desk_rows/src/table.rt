@@ -118,9 +118,8 @@ impl<R: Row> Table<R> {
     fn place(&self, key: &R::Key) -> Result<usize, usize>
         ensures { MatchResult result (StandsAt R.key R.Key.cmp key.now self.now) (StandsNowhere R.key R.Key.cmp key.now self.now) }
     {
-        self.rows
-            .as_slice()
-            .binary_search_by(|row| row.compare(key))
+        let rows = self.rows.as_slice();
+        rows.binary_search_by(|row| row.compare(key))
     }
 }
 

@@ -11,7 +11,7 @@ returns g c =
     let cmp = g.R.Key.Ord.cmp in
     let k = c.args.key.now in
     let r = c.binary_search_by.result in
-    let same = c.as_slice.ensures.value ∙ c.self.view_is in
+    let same = c.as_slice-rows.ensures.value ∙ c.self.view_is in
     let found = c.binary_search_by.ensures.position (λ row. cmp (key row) k) (always_returns_same _ (λ a r. r ≡ cmp (key a.0.now) k) _ (λ a r h called. search rules)) in
     place_of_key key cmp g.met.R.Key.Ord.total k c.args.self.now r
     (subst (IsByKey key cmp) c.self.view_is c.self.invariant)
