@@ -2,18 +2,18 @@ ghost use Rattle.std.specs.Prelude.{◌≡◌, ◌+◌, ◌<◌, ◌≤◌, ◌^
 ghost use Rattle.desk_rows.specs.Rows.{IsByKey, row_of, with_row, with_rows, without_row};
 ghost use Rattle.desk_rows.specs.Place.{StandsAt, StandsNowhere, Replaces, Enters};
 
-use crate::row::Row;
+use crate::keyed::Keyed;
 use desk_text::OutOfMemory;
 use std::alloc::Global;
 use std::marker::Model;
 
 /// Rows in the order of their keys, each key once. Contracts see the list of the rows.
 #[derive(Drop)]
-pub struct Table<R: Row> {
+pub struct Table<R: Keyed> {
     rows: Vec<R>,
 }
 
-impl<R: Row> Model for Table<R> {
+impl<R: Keyed> Model for Table<R> {
     ghost use Rattle.std.specs.Prelude.{List};
     ghost use Rattle.desk_rows.specs.Rows.{IsByKey};
 
@@ -24,7 +24,7 @@ impl<R: Row> Model for Table<R> {
     ghost invariant = { λ t. IsByKey R.key R.Key.cmp t.rows.items };
 }
 
-impl<R: Row> Table<R> {
+impl<R: Keyed> Table<R> {
     /// No rows. It takes no memory yet.
     pub fn new(alloc: Global) -> Table<R>
         ensures { result ≡ [] }
@@ -124,7 +124,7 @@ impl<R: Row> Table<R> {
 }
 
 // The place of the row with the same key, or else the place where the row would go.
-fn place_in<R: Row>(rows: &[R], row: &R) -> Result<usize, usize>
+fn place_in<R: Keyed>(rows: &[R], row: &R) -> Result<usize, usize>
     requires { IsByKey R.key R.Key.cmp rows.now }
     ensures { MatchResult result (Replaces R.key R.Key.cmp row.now rows.now) (Enters R.key R.Key.cmp row.now rows.now) }
 {
@@ -132,7 +132,7 @@ fn place_in<R: Row>(rows: &[R], row: &R) -> Result<usize, usize>
 }
 
 // Puts the row in its place, where room for one more row was made before.
-fn put_reserved<R: Row>(rows: &mut Vec<R>, row: R)
+fn put_reserved<R: Keyed>(rows: &mut Vec<R>, row: R)
     requires by_key { IsByKey R.key R.Key.cmp rows.old.items }
     requires room { vec_len rows.old < vec_capacity rows.old }
     ensures rows { rows.new.items ≡ with_row R.key R.Key.cmp row rows.old.items }

@@ -1,4 +1,4 @@
-use crate::{Row, Table};
+use crate::{Keyed, Table};
 use desk_text::OutOfMemory;
 use std::alloc::Global;
 use std::cmp::Ordering;
@@ -10,7 +10,7 @@ struct Price {
     cents: u32,
 }
 
-impl Row for Price {
+impl Keyed for Price {
     type Key = u8;
 
     ghost key = { λ row. row.item };

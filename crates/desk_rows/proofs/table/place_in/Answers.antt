@@ -5,7 +5,7 @@ use Rattle.desk_rows.proofs.table.place_in.Goals as goal
 
 pub returns : goal.returns
 returns g c =
-    let key = g.R.Row.key in
+    let key = g.R.Keyed.key in
     let cmp = g.R.Key.Ord.cmp in
     let new = c.args.row.now in
     let found = c.binary_search_by.ensures.position (λ row. cmp (key row) (key new)) (always_returns_same _ (λ a r. r ≡ cmp (key a.0.now) (key new)) _ (λ a r h called. search rules)) in

@@ -7,7 +7,7 @@ use Rattle.desk_rows.proofs.table.Table.place.Goals as goal
 
 pub returns : goal.returns
 returns g c =
-    let key = g.R.Row.key in
+    let key = g.R.Keyed.key in
     let cmp = g.R.Key.Ord.cmp in
     let k = c.args.key.now in
     let r = c.binary_search_by.result in

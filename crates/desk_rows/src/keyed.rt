@@ -5,7 +5,7 @@ use std::alloc::Global;
 use std::cmp::Ordering;
 
 /// A row of a table, told from the table's other rows by its key.
-pub trait Row: Drop {
+pub trait Keyed: Drop {
     /// What tells rows apart; its order is the table's order.
     type Key: Ord;
 
