@@ -2,7 +2,17 @@
 #![tactic(auto)]
 
 mod bytes;
+mod code;
+mod day;
+mod exemption_number;
 mod memory;
+mod number;
+mod picture;
+mod word;
 
 pub use bytes::Bytes;
+pub use code::{CODE_LIMIT, Code, CodeFault};
+pub use day::{Day, DayFault};
+pub use exemption_number::{EXEMPTION_NUMBER_LIMIT, ExemptionNumber};
 pub use memory::OutOfMemory;
+pub use number::{NumberFault, read_u32, read_u64};

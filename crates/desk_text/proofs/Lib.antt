@@ -1,0 +1,6 @@
+pub mod CodeLemmas
+pub mod DayLemmas
+pub mod NumberLemmas
+pub mod PictureLemmas
+pub mod TextLemmas
+pub mod WordLemmas

@@ -1,0 +1,5 @@
+pub mod Code
+pub mod Day
+pub mod Number
+pub mod Picture
+pub mod Word
