@@ -4,5 +4,6 @@ pub mod DayLemmas
 pub mod NameLemmas
 pub mod NumberLemmas
 pub mod PictureLemmas
+pub mod SixMonthsLemmas
 pub mod TextLemmas
 pub mod WordLemmas

@@ -1,4 +1,5 @@
 pub mod Cas
+pub mod Civil
 pub mod Code
 pub mod Day
 pub mod Name
