@@ -12,7 +12,8 @@ pub struct Declaration {
 }
 
 impl Model for Declaration {
-    ghost use Rattle.desk_model.specs.Declaration.{Declared, IsDeclared};
+    ghost use Rattle.std.specs.Prelude.{◌≡◌, true};
+    ghost use Rattle.desk_model.specs.Declaration.{Declared, is_declaration};
 
     ghost Value = { Declared };
 
@@ -23,10 +24,10 @@ impl Model for Declaration {
         materials = d.materials.items;
     } };
 
-    ghost invariant = { λ d. IsDeclared (record {
+    ghost invariant = { λ d. is_declaration (record {
         supplier = d.supplier;
         number = d.number;
         day = d.day;
         materials = d.materials.items;
-    }) };
+    }) ≡ true };
 }
