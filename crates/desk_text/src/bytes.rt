@@ -1,12 +1,8 @@
-<<<<<<< HEAD
-ghost use Rattle.std.specs.Prelude.{◌≡◌, ◌↔◌, [], ◌++◌, length, IsTrue, OnOk, OnErr};
-=======
-ghost use Rattle.std.specs.Prelude.{◌≡◌, List, [], ◌++◌, Some, IfOk, OnOk, OnErr};
+ghost use Rattle.std.specs.Prelude.{◌≡◌, ◌↔◌, [], ◌++◌, length, IsTrue, IfOk, OnOk, OnErr};
 ghost use Rattle.std.proofs.Common.{rules};
 ghost use Rattle.std.specs.Cmp.Lexicographic.{slice_cmp};
 ghost use Rattle.std.specs.Cmp.Rules.{comparing};
 ghost use Rattle.std.specs.Ordering.{nat_cmp, as_partial_cmp, eq_by_cmp};
->>>>>>> bf4abf0faabf92c795825b11f43d17e82f6185dd
 
 use crate::memory::OutOfMemory;
 use std::alloc::Global;
@@ -73,9 +69,7 @@ impl Bytes {
     {
         self.list
     }
-}
 
-impl Bytes {
     /// The same bytes once more.
     pub fn copied(&self, alloc: Global) -> Result<Bytes, OutOfMemory>
         ensures { IfOk result (λ copy. copy ≡ self.now) }
