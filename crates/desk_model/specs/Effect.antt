@@ -20,14 +20,14 @@ abbrev pub declared_rows : Declared → List MaterialRow
 declared_rows d =
     map
     (λ m. record {
-        code = m.code;
-        supplier = d.supplier;
-        number = d.number;
-        day = d.day;
-        name = m.name;
-        mass = m.mass;
-        substances = m.substances;
-        claims = m.claims;
+      code = m.code;
+      supplier = d.supplier;
+      number = d.number;
+      day = d.day;
+      name = m.name;
+      mass = m.mass;
+      substances = m.substances;
+      claims = m.claims;
     })
     d.materials
 

@@ -5,6 +5,7 @@ pub mod Carried
 pub mod Chain
 pub mod Content
 pub mod Declaration
+pub mod Declaring
 pub mod Duties
 pub mod EditText
 pub mod Effect

@@ -18,16 +18,16 @@ impl Model for Declaration {
     ghost Value = { Declared };
 
     ghost view = { λ d. record {
-        supplier = d.supplier;
-        number = d.number;
-        day = d.day;
-        materials = d.materials.items;
+      supplier = d.supplier;
+      number = d.number;
+      day = d.day;
+      materials = d.materials.items;
     } };
 
     ghost invariant = { λ d. is_declaration (record {
-        supplier = d.supplier;
-        number = d.number;
-        day = d.day;
-        materials = d.materials.items;
+      supplier = d.supplier;
+      number = d.number;
+      day = d.day;
+      materials = d.materials.items;
     }) ≡ true };
 }

@@ -1,6 +1,7 @@
 //! The desk's model: the rows of its tables, edits and refusals, and in `specs/` what each question and edit means.
 #![tactic(auto)]
 
+mod decl_error;
 mod declaration;
 mod edit;
 mod exemption;
@@ -14,6 +15,7 @@ mod rule_fault;
 mod substance_mass;
 mod within;
 
+pub use decl_error::DeclError;
 pub use declaration::Declaration;
 pub use edit::Edit;
 pub use exemption::Exemption;
