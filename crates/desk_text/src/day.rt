@@ -102,10 +102,11 @@ impl Day {
         self.day
     }
 
-    /// The day as `YYYY-MM-DD`.
+    /// The day as `YYYY-MM-DD`, which reads as the day again.
     #[tactic(auto, unfolding(crate::specs::Day::date_text))]
     pub fn to_text(self) -> [u8; 10]
-        ensures { result ≡ date_text self }
+        ensures value { result ≡ date_text self }
+        ensures reads_back { day_of (date_text self) ≡ Ok self }
     {
         let Day { year, month, day } = self;
         [
