@@ -1,16 +1,19 @@
 -- CAS registry numbers: bounds of the weighted sum, and what their form says.
-use Rattle.std.proofs.Common.{◌≡◌, ℕ, ◌-◌, ◌*◌, ◌≤◌, Bool, true, false, ◌||◌, inl, inr, cond, Ok, List, [], ◌∷◌, length, take, map, filter, get_or, arith, refl}
-use Rattle.std.specs.Prelude.{codes, IsAscii}
+use Rattle.std.proofs.Common.{◌≡◌, ℕ, ◌-◌, ◌*◌, ◌<◌, ◌≤◌, Bool, true, false, not, ◌||◌, inl, inr, cond, Ok, Err, List, [], ◌∷◌, length, take, map, filter, get_or, arith, refl}
+use Rattle.std.specs.Prelude.{◌==◌, codes, nat_le, if◌then◌else◌, IsAscii}
 use Rattle.std.proofs.Math.Nat.{mul-le-mul}
 use Rattle.std.proofs.lemmas.Bool.{or_cases}
 use Rattle.std.proofs.lemmas.Bool.Decides.{nat_tests}
 use Rattle.std.proofs.lemmas.List.{length-map}
-use Rattle.std.proofs.lemmas.List.Sums.{length-filter, count_by-le-length}
+use Rattle.std.proofs.lemmas.List.Elements.{All-weaker}
+use Rattle.std.proofs.lemmas.List.Sums.{length-filter, count_by-le-length, AllPass-from_list_all}
+use Rattle.std.proofs.lemmas.Str.Ascii.{IsAscii-from_all}
 use Rattle.std.specs.Char.{is_ascii, is_ascii_alphabetic, is_ascii_digit, digit_value}
 use Rattle.std.specs.List.{list_all}
 use Rattle.desk_text.specs.Cas.{has_cas_shape, digits_of, weighted_sum, check_digit, cas_of}
 use Rattle.desk_text.specs.Picture.{fits, fits_place}
-use Rattle.desk_text.proofs.PictureLemmas.{length-fits, fits-at, IsAscii-fits}
+use Rattle.desk_text.specs.declared.cas.CasFault.TheVariants.{Shape, CheckDigit}
+use Rattle.desk_text.proofs.PictureLemmas.{length-fits, fits-at, list_all-fits}
 
 -- a text has no more digits than bytes
 pub length-digits_of : (bytes : List ℕ) → length (digits_of bytes) ≤ length bytes
@@ -38,17 +41,20 @@ pub record IsCasText (bytes : List ℕ) : Type 0 where
   pub short : length bytes ≤ 12
   pub last_digit : is_ascii_digit (get_or bytes (length bytes - 1) 0) ≡ true
   pub ascii : IsAscii bytes
+  pub past_space : list_all (λ b. nat_le 32 b) bytes ≡ true
 
-from_picture : (picture bytes : List ℕ) → 7 ≤ length picture → length picture ≤ 12 → is_ascii_alphabetic (get_or picture (length picture - 1) 0) ≡ true → list_all is_ascii picture ≡ true → fits picture bytes ≡ true → IsCasText bytes
-from_picture picture bytes long short letter ascii fit =
+from_picture : (picture bytes : List ℕ) → 7 ≤ length picture → length picture ≤ 12 → is_ascii_alphabetic (get_or picture (length picture - 1) 0) ≡ true → list_all is_ascii picture ≡ true → list_all (λ b. nat_le 32 b) picture ≡ true → fits picture bytes ≡ true → IsCasText bytes
+from_picture picture bytes long short letter ascii past fit =
     let same : length picture ≡ length bytes = length-fits picture bytes fit in
     let place : fits_place (get_or picture (length picture - 1) 0) (get_or bytes (length picture - 1) 0) ≡ true =
     fits-at picture bytes (length picture - 1) (omega arith) fit in
+    let low : list_all is_ascii bytes ≡ true = list_all-fits is_ascii (λ b digit. grind (arith, nat_tests)) picture bytes ascii fit in
     record {
       long = omega arith;
       short = omega arith;
       last_digit = rw (← same) (rw letter at place);
-      ascii = IsAscii-fits picture bytes ascii fit;
+      ascii = IsAscii-from_all bytes (All-weaker (λ b. is_ascii b ≡ true) (λ b. b < 128) (λ b test. grind (arith, nat_tests)) bytes (AllPass-from_list_all is_ascii bytes low));
+      past_space = list_all-fits (λ b. nat_le 32 b) (λ b digit. grind (arith, nat_tests)) picture bytes past fit;
     }
 
 pub IsCasText-shape : (bytes : List ℕ) → has_cas_shape bytes ≡ true → IsCasText bytes
@@ -58,12 +64,12 @@ IsCasText-shape bytes shape =
     (either _ _
     (either _ _
     (either _ _
-    (from_picture (codes "NN-NN-N") bytes (omega arith) (omega arith) refl refl)
-    (from_picture (codes "NNN-NN-N") bytes (omega arith) (omega arith) refl refl))
-    (from_picture (codes "NNNN-NN-N") bytes (omega arith) (omega arith) refl refl))
-    (from_picture (codes "NNNNN-NN-N") bytes (omega arith) (omega arith) refl refl))
-    (from_picture (codes "NNNNNN-NN-N") bytes (omega arith) (omega arith) refl refl))
-    (from_picture (codes "NNNNNNN-NN-N") bytes (omega arith) (omega arith) refl refl)
+    (from_picture (codes "NN-NN-N") bytes (omega arith) (omega arith) refl refl refl)
+    (from_picture (codes "NNN-NN-N") bytes (omega arith) (omega arith) refl refl refl))
+    (from_picture (codes "NNNN-NN-N") bytes (omega arith) (omega arith) refl refl refl))
+    (from_picture (codes "NNNNN-NN-N") bytes (omega arith) (omega arith) refl refl refl))
+    (from_picture (codes "NNNNNN-NN-N") bytes (omega arith) (omega arith) refl refl refl))
+    (from_picture (codes "NNNNNNN-NN-N") bytes (omega arith) (omega arith) refl refl refl)
     shape
   where
     either : (a b : Bool) → (a ≡ true → IsCasText bytes) → (b ≡ true → IsCasText bytes) → (a || b) ≡ true → IsCasText bytes
@@ -75,3 +81,14 @@ unfolding cas_of
 cas_of-valid bytes shape valid =
     let text : IsCasText bytes = IsCasText-shape bytes shape in
     grind (arith, nat_tests, text.last_digit)
+
+-- a number is read only where no fault is found
+no_fault : (bytes cas : List ℕ) (shape valid : Bool) → (if not shape then Err Shape else (if valid then Ok bytes else Err CheckDigit)) ≡ Ok cas → (cas ≡ bytes) × (shape ≡ true)
+no_fault bytes cas false valid e = cc
+no_fault bytes cas true false e = cc
+no_fault bytes cas true true e = (cc, refl)
+
+pub cas_of-Ok : (bytes cas : List ℕ) → cas_of bytes ≡ Ok cas → (cas ≡ bytes) × (has_cas_shape bytes ≡ true)
+unfolding cas_of
+cas_of-Ok bytes cas e =
+    no_fault bytes cas (has_cas_shape bytes) (digit_value (get_or bytes (length bytes - 1) 0) == check_digit (take (length bytes - 1) bytes)) e

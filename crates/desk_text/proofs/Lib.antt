@@ -1,8 +1,12 @@
 pub mod CasLemmas
 pub mod CodeLemmas
 pub mod DayLemmas
+pub mod DayTextLemmas
+pub mod DigitLemmas
+pub mod FieldLemmas
 pub mod NameLemmas
 pub mod NumberLemmas
+pub mod NumberTextLemmas
 pub mod PictureLemmas
 pub mod SixMonthsLemmas
 pub mod TextLemmas

@@ -1,9 +1,8 @@
 -- Texts that fit a picture.
-use Rattle.std.proofs.Common.{◌≡◌, ℕ, zero, suc, ◌<◌, true, List, [], ◌∷◌, length, take, drop, get_or, arith, refl, sym, ◌∙◌, ap}
-use Rattle.std.specs.Prelude.{◌==◌, if◌then◌else◌, IsAscii}
+use Rattle.std.proofs.Common.{◌≡◌, ℕ, zero, suc, ◌<◌, Bool, true, false, List, [], ◌∷◌, ◌++◌, length, take, drop, get_or, arith, refl, sym, ◌∙◌, ap}
+use Rattle.std.specs.Prelude.{◌==◌, if◌then◌else◌}
 use Rattle.std.proofs.lemmas.Bool.Decides.{nat_tests}
-use Rattle.std.proofs.lemmas.Str.Ascii.{IsAscii-nil, IsAscii-cons}
-use Rattle.std.specs.Char.{is_ascii, is_ascii_alphabetic, is_ascii_digit}
+use Rattle.std.specs.Char.{is_ascii_alphabetic, is_ascii_digit}
 use Rattle.std.specs.Cmp.{first_so, second_so}
 use Rattle.std.specs.Cmp.Derive.{both_true}
 use Rattle.std.specs.Cmp.Lexicographic.{as_long}
@@ -51,15 +50,38 @@ fits-at (p ∷ picture) [] k within fit = cc
 fits-at (p ∷ picture) (b ∷ bytes) zero within fit = first_so (fits_place p b) (fits picture bytes) fit
 fits-at (p ∷ picture) (b ∷ bytes) (suc k) within fit = fits-at picture bytes k (omega arith) (second_so (fits_place p b) (fits picture bytes) fit)
 
--- where the picture is ASCII, so is the text
-fits_place-ascii : (p b : ℕ) → p < 128 → fits_place p b ≡ true → b < 128
-fits_place-ascii p b low place = grind (arith, nat_tests)
+-- a test that digits pass, and each place of the picture, is passed by each byte
+good_place : (good : ℕ → Bool) → ((b : ℕ) → is_ascii_digit b ≡ true → good b ≡ true) → (p b : ℕ) → good p ≡ true → fits_place p b ≡ true → good b ≡ true
+good_place good digits p b first place = by (is_ascii_alphabetic p) place
+  where
+    by : (letter : Bool) → (if letter then is_ascii_digit b else (b == p)) ≡ true → good b ≡ true
+    by true digit = digits b digit
+    by false same = let equal : b ≡ p = grind (arith, nat_tests) in ap good equal ∙ first
 
-pub IsAscii-fits : (picture bytes : List ℕ) → list_all is_ascii picture ≡ true → fits picture bytes ≡ true → IsAscii bytes
-IsAscii-fits [] [] ascii fit = IsAscii-nil
-IsAscii-fits [] (b ∷ bytes) ascii fit = cc
-IsAscii-fits (p ∷ picture) [] ascii fit = cc
-IsAscii-fits (p ∷ picture) (b ∷ bytes) ascii fit =
-    let low : p < 128 = grind (arith, nat_tests, first_so (is_ascii p) (list_all is_ascii picture) ascii) in
-    IsAscii-cons b bytes (fits_place-ascii p b low (first_so (fits_place p b) (fits picture bytes) fit))
-    (IsAscii-fits picture bytes (second_so (is_ascii p) (list_all is_ascii picture) ascii) (second_so (fits_place p b) (fits picture bytes) fit))
+pub list_all-fits : (good : ℕ → Bool) → ((b : ℕ) → is_ascii_digit b ≡ true → good b ≡ true) → (picture bytes : List ℕ) → list_all good picture ≡ true → fits picture bytes ≡ true → list_all good bytes ≡ true
+list_all-fits good digits [] [] places fit = refl
+list_all-fits good digits [] (b ∷ bytes) places fit = cc
+list_all-fits good digits (p ∷ picture) [] places fit = cc
+list_all-fits good digits (p ∷ picture) (b ∷ bytes) places fit =
+    both_true
+    (good_place good digits p b (first_so (good p) (list_all good picture) places) (first_so (fits_place p b) (fits picture bytes) fit))
+    (list_all-fits good digits picture bytes (second_so (good p) (list_all good picture) places) (second_so (fits_place p b) (fits picture bytes) fit))
+
+-- digits fit letters
+pub fits-letters : (picture bytes : List ℕ) → list_all is_ascii_alphabetic picture ≡ true → length picture ≡ length bytes → all_ascii_digits bytes ≡ true → fits picture bytes ≡ true
+fits-letters [] [] letters same digits = refl
+fits-letters [] (b ∷ bytes) letters same digits = absurd (omega arith)
+fits-letters (p ∷ picture) [] letters same digits = absurd (omega arith)
+fits-letters (p ∷ picture) (b ∷ bytes) letters same digits =
+    let letter : is_ascii_alphabetic p ≡ true = first_so (is_ascii_alphabetic p) (list_all is_ascii_alphabetic picture) letters in
+    let place : fits_place p b ≡ true = ap (λ a. if a then is_ascii_digit b else (b == p)) letter ∙ first_so (is_ascii_digit b) (all_ascii_digits bytes) digits in
+    both_true place
+    (fits-letters picture bytes (second_so (is_ascii_alphabetic p) (list_all is_ascii_alphabetic picture) letters) (omega arith) (second_so (is_ascii_digit b) (all_ascii_digits bytes) digits))
+
+-- one picture after another
+pub fits-append : (p b q c : List ℕ) → fits p b ≡ true → fits q c ≡ true → fits (p ++ q) (b ++ c) ≡ true
+fits-append [] [] q c first second = second
+fits-append [] (y ∷ b) q c first second = cc
+fits-append (x ∷ p) [] q c first second = cc
+fits-append (x ∷ p) (y ∷ b) q c first second =
+    both_true (first_so (fits_place x y) (fits p b) first) (fits-append p b q c (second_so (fits_place x y) (fits p b) first) second)

@@ -7,6 +7,7 @@ use Rattle.jiff_core.specs.Calendar.{days_in_month}
 use Rattle.desk_text.specs.Picture.{fits}
 use Rattle.desk_text.specs.declared.day.DayFault.{DayFault}
 use Rattle.desk_text.specs.declared.day.DayFault.TheVariants.{Shape, NoSuchDay, OutOfProfile}
+use Rattle.desk_text.specs.declared.day.TheConstants.{FIRST_YEAR, LAST_YEAR}
 
 -- the year, the month from 1 and the day of the month from 1
 pub record Date : Type 0 where
@@ -21,7 +22,7 @@ is_calendar_date d =
 
 -- the date is one that the desk takes
 abbrev pub is_in_profile : Date → Bool
-is_in_profile d = nat_le 2000 d.year && nat_le d.year 2099
+is_in_profile d = nat_le FIRST_YEAR d.year && nat_le d.year LAST_YEAR
 
 -- the date is a day
 abbrev pub is_day : Date → Bool
@@ -50,14 +51,14 @@ date_cmp = then_cmp (on (λ d. d.year) nat_cmp) (then_cmp (on (λ d. d.month) na
 abbrev pub is_not_after : Date → Date → Bool
 is_not_after a b = is_le (date_cmp a b)
 
--- 22 July 2014, the first day on which a question may be asked
+-- the first day on which a question may be asked: 22 July 2014, the first of the days of Article 4(3) of Directive 2011/65/EU
 abbrev pub first_askable : Date
 first_askable = record { year = 2014; month = 7; day = 22 }
 
 abbrev pub is_askable : Date → Bool
 is_askable d = is_not_after first_askable d
 
--- the last digits of a number, one for each place
+-- the last digits of a number, one for each place, as bytes (48 is `0`)
 abbrev pub zero_padded : ℕ → ℕ → List ℕ
 zero_padded zero n = []
 zero_padded (suc places) n = zero_padded places (n / 10) ++ (48 + n % 10) ∷ []

@@ -1,4 +1,4 @@
-ghost use Rattle.std.specs.Prelude.{◌≡◌, ◌+◌, ◌%◌, ◌≤◌, true, pos, Some, None, if◌then◌else◌};
+ghost use Rattle.std.specs.Prelude.{◌≡◌, ◌+◌, ◌%◌, ◌≤◌, pos, IsTrue, Some, None, if◌then◌else◌};
 ghost use Rattle.jiff.specs.Words.{IsBetween};
 ghost use Rattle.desk_text.specs.Civil.{date_from_civil};
 ghost use Rattle.desk_text.specs.Day.{is_calendar_date, is_in_profile, date_text, months_after};
@@ -10,6 +10,12 @@ use std::error::Error;
 use std::marker::Model;
 use std::{fmt, str};
 
+/// The first year of which the desk takes days.
+pub const FIRST_YEAR: u16 = 2000;
+
+/// The last year of which the desk takes days.
+pub const LAST_YEAR: u16 = 2099;
+
 /// A day from 2000-01-01 to 2099-12-31. The earlier day is the less.
 #[derive(Clone, Copy, Debug, PartialEq, Eq, PartialOrd, Ord)]
 pub struct Day {
@@ -19,14 +25,14 @@ pub struct Day {
 }
 
 impl Model for Day {
-    ghost use Rattle.std.specs.Prelude.{◌≡◌, true};
+    ghost use Rattle.std.specs.Prelude.{IsTrue};
     ghost use Rattle.desk_text.specs.Day.{Date, is_day};
 
     ghost Value = { Date };
 
     ghost view = { λ d. record { year = d.year; month = d.month; day = d.day } };
 
-    ghost invariant = { λ d. is_day (record { year = d.year; month = d.month; day = d.day }) ≡ true };
+    ghost invariant = { λ d. IsTrue (is_day (record { year = d.year; month = d.month; day = d.day })) };
 
     ghost inverse = { λ d. record { year = d.year; month = d.month; day = d.day } };
 }
@@ -67,7 +73,7 @@ impl Day {
         if !is_calendar_date(year, month, day) {
             return Err(DayFault::NoSuchDay);
         }
-        if year < 2000 || year > 2099 {
+        if year < FIRST_YEAR || year > LAST_YEAR {
             return Err(DayFault::OutOfProfile);
         }
         Ok(Day { year, month, day })
@@ -75,7 +81,7 @@ impl Day {
 
     /// The day of a year, month and day of the month that make one.
     pub fn new(year: u16, month: u8, day: u8) -> Day
-        requires { is_day (record { year = year; month = month; day = day }) ≡ true }
+        requires { IsTrue (is_day (record { year = year; month = month; day = day })) }
         ensures { result ≡ record { year = year; month = month; day = day } }
     {
         Day { year, month, day }
@@ -102,10 +108,11 @@ impl Day {
         self.day
     }
 
-    /// The day as `YYYY-MM-DD`.
+    /// The day as `YYYY-MM-DD`, which reads as the day again.
     #[tactic(auto, unfolding(crate::specs::Day::date_text))]
     pub fn to_text(self) -> [u8; 10]
-        ensures { result ≡ date_text self }
+        ensures value { result ≡ date_text self }
+        ensures reads_back { day_of (date_text self) ≡ Ok self }
     {
         let Day { year, month, day } = self;
         [
@@ -133,18 +140,18 @@ impl Day {
 
     fn to_civil(self) -> civil::Date
         ensures value { date_from_civil result ≡ self }
-        ensures year { IsBetween (pos 2000) (pos 2099) result.year }
+        ensures year { IsBetween (pos FIRST_YEAR) (pos LAST_YEAR) result.year }
     {
         civil::date(self.year as i16, self.month as i8, self.day as i8)
     }
 
     /// The day of that date, unless it is past 2099-12-31.
     fn from_civil(date: civil::Date) -> Option<Day>
-        requires { IsBetween (pos 2000) (pos 2100) date.year }
+        requires { IsBetween (pos FIRST_YEAR) (pos (LAST_YEAR + 1)) date.year }
         ensures { result
             ≡ (if is_in_profile (date_from_civil date) then Some (date_from_civil date) else None) }
     {
-        if date.year() > 2099 {
+        if date.year() > LAST_YEAR as i16 {
             return None;
         }
         Some(Day {
@@ -164,9 +171,9 @@ impl Day {
 
 /// The same day of the month six months later, or the last day of that month.
 fn six_months_later(date: civil::Date) -> civil::Date
-    requires { IsBetween (pos 2000) (pos 2099) date.year }
+    requires { IsBetween (pos FIRST_YEAR) (pos LAST_YEAR) date.year }
     ensures value { date_from_civil result ≡ months_after 6 (date_from_civil date) }
-    ensures year { IsBetween (pos 2000) (pos 2100) result.year }
+    ensures year { IsBetween (pos FIRST_YEAR) (pos (LAST_YEAR + 1)) result.year }
 {
     date.checked_add(6i64.months()).unwrap()
 }

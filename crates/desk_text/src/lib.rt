@@ -15,7 +15,7 @@ mod word;
 pub use bytes::Bytes;
 pub use cas::{CAS_LIMIT, Cas, CasFault};
 pub use code::{CODE_LIMIT, Code, CodeFault};
-pub use day::{Day, DayFault};
+pub use day::{Day, DayFault, FIRST_YEAR, LAST_YEAR};
 pub use exemption_number::{EXEMPTION_NUMBER_LIMIT, ExemptionNumber};
 pub use memory::OutOfMemory;
 pub use name::{NAME_LIMIT, Name, NameFault};

@@ -1,4 +1,4 @@
-ghost use Rattle.std.specs.Prelude.{◌≡◌, ◌^◌, ◌<◌, ◌≤◌, true, ◌++◌, length, decimal, OnOk, OnErr};
+ghost use Rattle.std.specs.Prelude.{◌≡◌, ◌^◌, ◌<◌, ◌≤◌, ◌++◌, IsTrue, length, decimal, OnOk, OnErr};
 ghost use Rattle.std.specs.Char.{is_ascii_digit};
 ghost use Rattle.std.specs.List.{list_all};
 ghost use Rattle.std.specs.Str.{all_ascii_digits};
@@ -72,7 +72,7 @@ fn all_digits(bytes: &[u8]) -> bool
 
 /// These digits as a text.
 pub(crate) fn digits_text(digits: &[u8]) -> &str
-    requires { all_ascii_digits digits.now ≡ true }
+    requires { IsTrue (all_ascii_digits digits.now) }
     ensures { result.now ≡ digits.now }
 {
     str::from_utf8(digits).unwrap()
@@ -80,7 +80,7 @@ pub(crate) fn digits_text(digits: &[u8]) -> &str
 
 /// The number that one to four digits write.
 pub(crate) fn short_value_of(digits: &[u8]) -> u16
-    requires digits { all_ascii_digits digits.now ≡ true }
+    requires digits { IsTrue (all_ascii_digits digits.now) }
     requires nonempty { 0 < length digits.now }
     requires short { length digits.now ≤ 4 }
     ensures { result ≡ digits_value 10 digits.now }
