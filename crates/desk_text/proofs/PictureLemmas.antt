@@ -1,7 +1,9 @@
 -- Texts that fit a picture.
-use Rattle.std.proofs.Common.{◌≡◌, ℕ, zero, suc, true, List, [], ◌∷◌, length, take, drop, refl, sym, ◌∙◌, ap}
-use Rattle.std.specs.Prelude.{◌==◌, if◌then◌else◌}
-use Rattle.std.specs.Char.{is_ascii_alphabetic, is_ascii_digit}
+use Rattle.std.proofs.Common.{◌≡◌, ℕ, zero, suc, ◌<◌, true, List, [], ◌∷◌, length, take, drop, get_or, arith, refl, sym, ◌∙◌, ap}
+use Rattle.std.specs.Prelude.{◌==◌, if◌then◌else◌, IsAscii}
+use Rattle.std.proofs.lemmas.Bool.Decides.{nat_tests}
+use Rattle.std.proofs.lemmas.Str.Ascii.{IsAscii-nil, IsAscii-cons}
+use Rattle.std.specs.Char.{is_ascii, is_ascii_alphabetic, is_ascii_digit}
 use Rattle.std.specs.Cmp.{first_so, second_so}
 use Rattle.std.specs.Cmp.Derive.{both_true}
 use Rattle.std.specs.Cmp.Lexicographic.{as_long}
@@ -41,3 +43,23 @@ digits-fits (p ∷ picture) (b ∷ bytes) letters fit =
     let digit : is_ascii_digit b ≡ true = sym (ap (λ a. if a then is_ascii_digit b else (b == p)) letter) ∙ place in
     both_true digit
     (digits-fits picture bytes (second_so (is_ascii_alphabetic p) (list_all is_ascii_alphabetic picture) letters) (second_so (fits_place p b) (fits picture bytes) fit))
+
+-- the byte at a place fits there
+pub fits-at : (picture bytes : List ℕ) (k : ℕ) → k < length picture → fits picture bytes ≡ true → fits_place (get_or picture k 0) (get_or bytes k 0) ≡ true
+fits-at [] bytes k within fit = absurd (omega arith)
+fits-at (p ∷ picture) [] k within fit = cc
+fits-at (p ∷ picture) (b ∷ bytes) zero within fit = first_so (fits_place p b) (fits picture bytes) fit
+fits-at (p ∷ picture) (b ∷ bytes) (suc k) within fit = fits-at picture bytes k (omega arith) (second_so (fits_place p b) (fits picture bytes) fit)
+
+-- where the picture is ASCII, so is the text
+fits_place-ascii : (p b : ℕ) → p < 128 → fits_place p b ≡ true → b < 128
+fits_place-ascii p b low place = grind (arith, nat_tests)
+
+pub IsAscii-fits : (picture bytes : List ℕ) → list_all is_ascii picture ≡ true → fits picture bytes ≡ true → IsAscii bytes
+IsAscii-fits [] [] ascii fit = IsAscii-nil
+IsAscii-fits [] (b ∷ bytes) ascii fit = cc
+IsAscii-fits (p ∷ picture) [] ascii fit = cc
+IsAscii-fits (p ∷ picture) (b ∷ bytes) ascii fit =
+    let low : p < 128 = grind (arith, nat_tests, first_so (is_ascii p) (list_all is_ascii picture) ascii) in
+    IsAscii-cons b bytes (fits_place-ascii p b low (first_so (fits_place p b) (fits picture bytes) fit))
+    (IsAscii-fits picture bytes (second_so (is_ascii p) (list_all is_ascii picture) ascii) (second_so (fits_place p b) (fits picture bytes) fit))

@@ -1,5 +1,5 @@
 -- Days: dates of the calendar from 2000-01-01 to 2099-12-31.
-use Rattle.std.specs.Prelude.{ℕ, zero, suc, ◌+◌, ◌/◌, ◌%◌, Bool, not, ◌&&◌, List, [], ◌∷◌, ◌++◌, codes, slice_range, pos, Result, Ok, Err, if◌then◌else◌, nat_le}
+use Rattle.std.specs.Prelude.{ℕ, zero, suc, ◌+◌, ◌-◌, ◌*◌, ◌/◌, ◌%◌, min, Bool, not, ◌&&◌, List, [], ◌∷◌, ◌++◌, codes, slice_range, pos, Option, None, Some, Result, Ok, Err, if◌then◌else◌, nat_le}
 use Rattle.std.specs.Ordering.{nat_cmp, is_le, on, then_cmp}
 use Rattle.std.specs.Str.Parse.{digits_value}
 use Rattle.std.specs.declared.cmp.Ordering.{Ordering}
@@ -65,3 +65,15 @@ zero_padded (suc places) n = zero_padded places (n / 10) ++ (48 + n % 10) ∷ []
 -- the day as YYYY-MM-DD
 unfoldable pub date_text : Date → List ℕ
 date_text d = zero_padded 4 d.year ++ codes "-" ++ zero_padded 2 d.month ++ codes "-" ++ zero_padded 2 d.day
+
+-- the same day of the month so many calendar months later, or the last day of that month where it has no such day
+abbrev pub months_after : ℕ → Date → Date
+months_after count d =
+    let months = 12 * d.year + (d.month - 1) + count in
+    let year = months / 12 in
+    let month = months % 12 + 1 in
+    record { year = year; month = month; day = min d.day (days_in_month (pos year) month) }
+
+-- the day six months after a day, unless it is past the last day that the desk takes
+unfoldable pub six_months_after : Date → Option Date
+six_months_after d = if is_in_profile (months_after 6 d) then Some (months_after 6 d) else None

@@ -1,9 +1,11 @@
-ghost use Rattle.std.specs.Prelude.{◌≡◌, ◌+◌, ◌%◌, ◌≤◌, true, Some};
-ghost use Rattle.desk_text.specs.Day.{is_calendar_date, date_text};
+ghost use Rattle.std.specs.Prelude.{◌≡◌, ◌+◌, ◌%◌, ◌≤◌, true, pos, Some, None, if◌then◌else◌};
+ghost use Rattle.jiff.specs.Words.{IsBetween};
+ghost use Rattle.desk_text.specs.Civil.{date_from_civil};
+ghost use Rattle.desk_text.specs.Day.{is_calendar_date, is_in_profile, date_text, months_after};
 
 use crate::number::short_value_of;
 use crate::picture::fits;
-use jiff::civil;
+use jiff::{ToSpan, civil};
 use std::error::Error;
 use std::marker::Model;
 use std::{fmt, str};
@@ -41,7 +43,7 @@ pub enum DayFault {
 }
 
 impl Day {
-    ghost use Rattle.desk_text.specs.Day.{day_of, is_askable, is_day};
+    ghost use Rattle.desk_text.specs.Day.{day_of, is_askable, is_day, six_months_after};
 
     /// The first day on which a question may be asked.
     pub const FIRST_ASKABLE: Day = Day {
@@ -120,12 +122,53 @@ impl Day {
         ]
     }
 
+    /// The same day of the month six calendar months later, or the last day of that month where it has no such day.
+    /// It is `None` exactly where that is past 2099-12-31.
+    #[tactic(auto, unfolding(crate::specs::Day::six_months_after))]
+    pub fn six_months(self) -> Option<Day>
+        ensures { result ≡ six_months_after self }
+    {
+        Day::from_civil(six_months_later(self.to_civil()))
+    }
+
+    fn to_civil(self) -> civil::Date
+        ensures value { date_from_civil result ≡ self }
+        ensures year { IsBetween (pos 2000) (pos 2099) result.year }
+    {
+        civil::date(self.year as i16, self.month as i8, self.day as i8)
+    }
+
+    /// The day of that date, unless it is past 2099-12-31.
+    fn from_civil(date: civil::Date) -> Option<Day>
+        requires { IsBetween (pos 2000) (pos 2100) date.year }
+        ensures { result
+            ≡ (if is_in_profile (date_from_civil date) then Some (date_from_civil date) else None) }
+    {
+        if date.year() > 2099 {
+            return None;
+        }
+        Some(Day {
+            year: date.year() as u16,
+            month: date.month() as u8,
+            day: date.day() as u8,
+        })
+    }
+
     /// Whether a question may be asked for the day: 2014-07-22 or later.
     pub fn is_askable(self) -> bool
         ensures { result ≡ is_askable self }
     {
         self >= Day::FIRST_ASKABLE
     }
+}
+
+/// The same day of the month six months later, or the last day of that month.
+fn six_months_later(date: civil::Date) -> civil::Date
+    requires { IsBetween (pos 2000) (pos 2099) date.year }
+    ensures value { date_from_civil result ≡ months_after 6 (date_from_civil date) }
+    ensures year { IsBetween (pos 2000) (pos 2100) result.year }
+{
+    date.checked_add(6i64.months()).unwrap()
 }
 
 /// The last decimal digit of the number, as a byte.

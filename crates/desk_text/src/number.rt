@@ -1,10 +1,13 @@
-ghost use Rattle.std.specs.Prelude.{◌≡◌, ◌^◌, ◌<◌, ◌≤◌, true, length};
+ghost use Rattle.std.specs.Prelude.{◌≡◌, ◌^◌, ◌<◌, ◌≤◌, true, ◌++◌, length, decimal, OnOk, OnErr};
 ghost use Rattle.std.specs.Char.{is_ascii_digit};
 ghost use Rattle.std.specs.List.{list_all};
 ghost use Rattle.std.specs.Str.{all_ascii_digits};
 ghost use Rattle.std.specs.Str.Parse.{digits_value};
 ghost use Rattle.desk_text.specs.Number.{is_numeral, number_below};
 
+use crate::bytes::Bytes;
+use crate::memory::OutOfMemory;
+use itoa::Buffer;
 use std::error::Error;
 use std::{fmt, str};
 
@@ -39,6 +42,15 @@ pub fn read_u64(bytes: &[u8]) -> Result<u64, NumberFault>
         return Err(NumberFault::Shape);
     }
     digits_text(bytes).parse().map_err(|_| NumberFault::TooBig)
+}
+
+/// Appends the number in decimal digits, with no sign and no zero before another digit, or changes nothing.
+pub fn push_u128(out: &mut Bytes, number: u128) -> Result<(), OutOfMemory>
+    ensures ok { OnOk result (out.new ≡ out.old ++ decimal number) }
+    ensures err { OnErr result (out.new ≡ out.old) }
+{
+    let mut buffer = Buffer::new();
+    out.push_all(buffer.format(number).as_bytes())
 }
 
 /// Whether the bytes are digits, at least one, and begin with no zero but in `0`.
