@@ -7,7 +7,8 @@ use Rattle.std.specs.List.{join_with_byte}
 use Rattle.desk_law.specs.declared.kind.Kind.{Kind}
 use Rattle.desk_law.specs.declared.kind.Kind.TheVariants.{LargeHousehold}
 use Rattle.desk_law.specs.Kind.{all_kinds, kind_code, kind_place}
-use Rattle.desk_law.specs.KindSet.{kinds_text, marked_kinds}
+use Rattle.desk_law.specs.KindMarks.{marked_kinds}
+use Rattle.desk_law.specs.KindSet.{kinds_text}
 
 -- whether a list is empty
 abbrev pub is_nil : List Kind → Bool

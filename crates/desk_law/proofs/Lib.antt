@@ -1,4 +1,5 @@
 pub mod Codes
+pub mod FirstDays
 pub mod KindSets
 pub mod KindTexts
 pub mod Verdicts

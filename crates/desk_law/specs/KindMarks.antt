@@ -1,4 +1,4 @@
--- Marks by the place of a kind, and the kinds that they mark.
+-- How a set of kinds is kept: fourteen marks, one at the place of each kind. No clause speaks of them.
 use Rattle.std.proofs.Common.{◌≡◌, ℕ, ◌<◌, Bool, true, false, List, [], ◌∷◌, length, get_or, set, refl, sym, ◌∙◌, ap, arith, ⊎_elim, lit<}
 use Rattle.std.specs.Prelude.{◌&&◌, ◌||◌, ◌==◌, map, filter, replicate}
 use Rattle.std.specs.Cmp.Lexicographic.{pointwise}
@@ -12,7 +12,11 @@ use Rattle.std.proofs.Math.Bool.{and-true}
 use Rattle.desk_law.specs.declared.kind.Kind.{Kind}
 use Rattle.desk_law.specs.declared.kind.Kind.TheVariants.{LargeHousehold, SmallHousehold, Telecommunications, Consumer, Lighting, Tool, ToyLeisureSports, Toy, MedicalDevice, InVitroDiagnostic, ControlInstrument, IndustrialInstrument, Dispenser, Other}
 use Rattle.desk_law.specs.Kind.{all_kinds, kind_place, same_kind}
-use Rattle.desk_law.specs.KindSet.{has_kind, marked_kinds, set_of}
+use Rattle.desk_law.specs.KindSet.{has_kind, set_of}
+
+-- the kinds that have a mark at their place
+unfoldable pub marked_kinds : List Bool → List Kind
+marked_kinds marks = filter (λ kind. get_or marks (kind_place kind) false) all_kinds
 
 -- the list of all kinds has each kind at its place
 all_kinds-at : (kind : Kind) → get_or all_kinds (kind_place kind) Other ≡ kind

@@ -14,17 +14,21 @@ use Rattle.desk_law.specs.Exemption.{covers}
 use Rattle.desk_law.specs.InForce.{is_in_force}
 use Rattle.desk_law.specs.Limit.{is_over, limit_of}
 
--- over the limit and in force: exempt by the first row that covers, else a breach
+-- the place of the first row that covers: where the rows stand in order of code, the one with the least code
+abbrev pub covering_place : List Terms → List Claim → Rule → Kind → Date → ℕ → ℕ → Option ℕ
+covering_place rows claims rule kind day share mass = position (λ row. covers row claims rule kind day share mass) rows
+
+-- exempt by the row at the place, or a breach where there is none
 abbrev pub exempt_or_breach : Option ℕ → Verdict
 exempt_or_breach None = Breach
 exempt_or_breach (Some place) = Exempt place
 
--- the verdict, where the rows stand in order of code: the first that applies of within, not in force, exempt and breach
+-- the verdict: the first that applies of within, not in force, exempt and breach
 unfoldable pub verdict : ℕ → ℕ → List Claim → Rule → Kind → Date → List Terms → Verdict
 verdict share mass claims rule kind day rows =
     if not (is_over share mass (limit_of rule)) then Within
     else (if not (is_in_force rule kind day) then NotInForce
-    else exempt_or_breach (position (λ row. covers row claims rule kind day share mass) rows))
+    else exempt_or_breach (covering_place rows claims rule kind day share mass))
 
 -- the named row passes, and no row that passes has a lesser code
 abbrev pub IsLeast : (Terms → Bool) → List Terms → Terms → Type 0

@@ -1,3 +1,5 @@
+#![tactic(auto, unfolding(crate::specs::InForce::first_day, crate::specs::Kind::kind_place, crate::specs::Rule::rule_number))]
+
 ghost use Rattle.std.specs.Prelude.{◌≡◌, IsTrue, Some};
 ghost use Rattle.desk_text.specs.Day.{is_askable};
 ghost use Rattle.desk_law.specs.InForce.{first_day, is_in_force};
@@ -22,7 +24,6 @@ pub fn in_force(rule: Rule, kind: Kind, day: Day) -> bool
 }
 
 /// The first askable day on which the rule is in force for the kind, if it ever is.
-#[tactic(auto, unfolding(crate::specs::InForce::first_day, crate::specs::Kind::kind_place, crate::specs::Rule::rule_number))]
 fn first_day(rule: Rule, kind: Kind) -> Option<Day>
     ensures { result ≡ first_day rule kind }
 {
@@ -35,7 +36,6 @@ fn first_day(rule: Rule, kind: Kind) -> Option<Day>
 }
 
 /// The first day of the six substances of Annex II as adopted in 2011.
-#[tactic(auto, unfolding(crate::specs::InForce::first_day, crate::specs::Kind::kind_place, crate::specs::Rule::rule_number))]
 fn first_day_of_six(kind: Kind) -> Day
     ensures { Some result ≡ first_day Rule.Lead kind }
 {
@@ -49,7 +49,6 @@ fn first_day_of_six(kind: Kind) -> Day
 }
 
 /// The first day of the four phthalates of Delegated Directive (EU) 2015/863, besides three of them in toys.
-#[tactic(auto, unfolding(crate::specs::InForce::first_day, crate::specs::Kind::kind_place, crate::specs::Rule::rule_number))]
 fn first_day_of_phthalates(kind: Kind) -> Day
     ensures { Some result ≡ first_day Rule.Dibp kind }
 {

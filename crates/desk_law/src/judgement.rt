@@ -1,9 +1,9 @@
-ghost use Rattle.std.specs.Prelude.{◌≡◌, IsTrue, position};
+ghost use Rattle.std.specs.Prelude.{◌≡◌, IsTrue};
 ghost use Rattle.std.specs.List.Sorted.{IsSortedByKey};
 ghost use Rattle.desk_text.specs.Code.{code_cmp};
 ghost use Rattle.desk_text.specs.Day.{is_askable};
 ghost use Rattle.desk_law.specs.Exemption.{covers};
-ghost use Rattle.desk_law.specs.Verdict.{verdict, NamesLeast};
+ghost use Rattle.desk_law.specs.Verdict.{covering_place, verdict, NamesLeast};
 
 use crate::{Claim, Kind, Rule, Terms, Verdict, covers, in_force, limit_ppm, over};
 use desk_text::Day;
@@ -51,7 +51,7 @@ fn first_covering(
     share: u128,
     mass: u64,
 ) -> Option<usize>
-    ensures { result ≡ position (λ row. covers row claims.now rule kind day share mass) rows.now }
+    ensures { result ≡ covering_place rows.now claims.now rule kind day share mass }
 {
     rows.iter()
         .position(|row| covers(row, claims, rule, kind, day, share, mass))

@@ -15,8 +15,8 @@ impl Model for KindSet {
     ghost use Rattle.std.specs.Prelude.{◌≡◌, List, length, map};
     ghost use Rattle.desk_law.specs.declared.kind.Kind.{Kind};
     ghost use Rattle.desk_law.specs.Kind.{all_kinds};
-    ghost use Rattle.desk_law.specs.KindSet.{has_kind, marked_kinds};
-    ghost use Rattle.desk_law.specs.KindMarks.{marks-marked_kinds};
+    ghost use Rattle.desk_law.specs.KindSet.{has_kind};
+    ghost use Rattle.desk_law.specs.KindMarks.{marked_kinds, marks-marked_kinds};
 
     ghost Value = { List Kind };
 
@@ -70,6 +70,14 @@ impl KindSet {
         ensures { IsTrue result ↔ (self.now ≡ []) }
     {
         self.marks == [false; 14]
+    }
+}
+
+impl Default for KindSet {
+    ghost is_default = { λ set. set ≡ [] };
+
+    fn default() -> KindSet {
+        KindSet::new()
     }
 }
 

@@ -72,7 +72,7 @@ fn a_set_writes_its_kinds_once_in_the_order_of_the_annex(rt: HostRuntime) -> Res
         b"1,7t,11".as_slice()
     );
     assert!(rt; set.contains(Kind::Other) && !set.contains(Kind::ToyLeisureSports));
-    assert!(rt; !set.is_empty() && KindSet::new().is_empty());
+    assert!(rt; !set.is_empty() && KindSet::default().is_empty());
     assert!(rt; KindSet::new().is_subset(&set) && !set.is_subset(&KindSet::new()));
     assert_eq!(rt;
         KindSet::new().to_string(rt.alloc())?.as_bytes(),
