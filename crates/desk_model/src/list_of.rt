@@ -1,6 +1,7 @@
-ghost use Rattle.std.specs.Prelude.{◌≡◌};
+ghost use Rattle.std.specs.Prelude.{◌≡◌, IfOk};
 
-use desk_text::Code;
+use desk_text::{Code, OutOfMemory};
+use std::alloc::Global;
 use std::marker::Model;
 
 /// A list, which contracts see as one. It is made of a vector and gives it back, both without memory.
@@ -40,5 +41,18 @@ impl<T> ListOf<T> {
         ensures { result.items ≡ self }
     {
         self.items
+    }
+}
+
+impl<T: Copy> ListOf<T> {
+    /// The same list once more.
+    pub fn copied(&self, alloc: Global) -> Result<ListOf<T>, OutOfMemory>
+        ensures { IfOk result (λ list. list ≡ self.now) }
+    {
+        let mut items = Vec::with_capacity(alloc, self.items.len())?;
+        for item in self.items.as_slice() {
+            items.push_reserved(*item);
+        }
+        Ok(ListOf { items })
     }
 }
