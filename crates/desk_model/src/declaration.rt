@@ -1,10 +1,14 @@
-ghost use Rattle.std.specs.Prelude.{◌≡◌, ◌≢◌, ◌≤◌, true, IfErr, Ok, Err, OnErr, OnOk};
+ghost use Rattle.std.specs.Prelude.{◌≡◌, ◌≢◌, ◌≤◌, true, IfErr, MatchResult, None, Ok, Err, OnErr, OnOk};
+ghost use Rattle.desk_text.specs.Code.{code_cmp};
+ghost use Rattle.desk_rows.specs.Place.{StandsAt};
+ghost use Rattle.desk_rows.specs.Rows.{IsByKey, row_of};
 ghost use Rattle.desk_model.specs.Declaration.{is_declaration};
-ghost use Rattle.desk_model.specs.Declaring.{declaration_start, empty_material, material_added};
+ghost use Rattle.desk_model.specs.Declaring.{declaration_start, empty_material, material_added, substance_added};
 
 use crate::enter::enter;
-use crate::limits::{DECLARED_LIMIT, MASS_LIMIT};
-use crate::{DeclError, MaterialDecl};
+use crate::limits::{CONTENT_LIMIT, DECLARED_LIMIT, MASS_LIMIT};
+use crate::{DeclError, MaterialDecl, SubstanceMass};
+use desk_rows::place_of_key;
 use desk_text::{Code, Day, Name};
 use std::alloc::Global;
 use std::marker::Model;
@@ -76,6 +80,29 @@ impl Declaration {
         enter(&mut self.materials, material, DECLARED_LIMIT)
     }
 
+    /// Adds a substance to a material that the declaration lists. Its mass is in micrograms, from 0 to
+    /// 1,000,000,000,000,000.
+    ///
+    /// `Orphan`: the declaration doesn't list the material. `Repeated`: the material has the substance already.
+    /// `TooMany`: it has 64 substances. They are tried in this order, and the declaration is then as it was.
+    pub fn add_substance(
+        &mut self,
+        material: &Code,
+        substance: Code,
+        mass: u64,
+    ) -> Result<(), DeclError>
+        requires { mass ≤ MASS_LIMIT }
+        ensures ok { OnOk result (substance_added material.now (record { substance = substance; mass = mass }) self.old ≡ Ok self.new) }
+        ensures error { IfErr result (λ e. e ≢ DeclError.OutOfMemory
+            → substance_added material.now (record { substance = substance; mass = mass }) self.old ≡ Err e) }
+        ensures err { OnErr result (self.new ≡ self.old) }
+    {
+        let held = SubstanceMass { substance, mass };
+        let at = place_of(self.materials.as_slice(), material)?;
+        let material = &mut self.materials[at];
+        material.substances.enter(held, CONTENT_LIMIT)
+    }
+
     /// The supplier's code.
     pub fn supplier(&self) -> &Code
         ensures { result.now ≡ self.now.supplier }
@@ -104,5 +131,18 @@ impl Declaration {
         ensures in_range { is_declaration self.now ≡ true }
     {
         self.materials.as_slice()
+    }
+}
+
+/// The place of the material with this code. The error is `Orphan`.
+fn place_of(materials: &[MaterialDecl], code: &Code) -> Result<usize, DeclError>
+    requires { IsByKey (λ material. material.code) code_cmp materials.now }
+    ensures { MatchResult result
+        (StandsAt (λ material. material.code) code_cmp code.now materials.now)
+        (λ e. (e ≡ DeclError.Orphan) × (row_of (λ material. material.code) code_cmp code.now materials.now ≡ None)) }
+{
+    match place_of_key(materials, code) {
+        Ok(at) => Ok(at),
+        Err(_) => Err(DeclError::Orphan),
     }
 }

@@ -1,5 +1,10 @@
-ghost use Rattle.std.specs.Prelude.{◌≡◌, IfOk};
+ghost use Rattle.std.specs.Prelude.{◌≡◌, ◌≢◌, Err, IfErr, IfOk, Ok, OnErr, OnOk};
+ghost use Rattle.desk_rows.specs.Rows.{IsByKey};
+ghost use Rattle.desk_model.specs.Declaring.{entered};
 
+use crate::DeclError;
+use crate::enter::enter;
+use desk_rows::Keyed;
 use desk_text::{Code, OutOfMemory};
 use std::alloc::Global;
 use std::marker::Model;
@@ -54,5 +59,18 @@ impl<T: Copy> ListOf<T> {
             items.push_reserved(*item);
         }
         Ok(ListOf { items })
+    }
+}
+
+impl<R: Keyed> ListOf<R> {
+    /// Puts the new row into its place, unless its key is there or the list is full.
+    pub(crate) fn enter(&mut self, new: R, limit: usize) -> Result<(), DeclError>
+        requires { IsByKey R.key R.Key.cmp self.old }
+        ensures ok { OnOk result (entered R.key R.Key.cmp limit new self.old ≡ Ok self.new) }
+        ensures error { IfErr result (λ e. e ≢ DeclError.OutOfMemory
+            → entered R.key R.Key.cmp limit new self.old ≡ Err e) }
+        ensures err { OnErr result (self.new ≡ self.old) }
+    {
+        enter(&mut self.items, new, limit)
     }
 }

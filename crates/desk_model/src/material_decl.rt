@@ -1,4 +1,5 @@
-ghost use Rattle.std.specs.Prelude.{◌≡◌, IfOk};
+ghost use Rattle.std.specs.Prelude.{◌≡◌, ◌<◌, ◌^◌, true, sum_by};
+ghost use Rattle.desk_model.specs.Content.{are_substances, holds_too_much};
 ghost use Rattle.desk_model.specs.Declaring.{empty_material};
 
 use crate::{ListOf, SubstanceMass};
@@ -36,6 +37,22 @@ impl MaterialDecl {
             claims: ListOf::new(Vec::new(alloc)),
         }
     }
+
+    /// Whether the substances weigh more than the material that holds them.
+    pub fn holds_too_much(&self) -> bool
+        requires { are_substances self.now.substances ≡ true }
+        ensures { result ≡ holds_too_much self.now.mass self.now.substances }
+    {
+        self.mass < total_mass(self.substances.as_slice())
+    }
+}
+
+/// The mass of the substances together, in micrograms.
+fn total_mass(held: &[SubstanceMass]) -> u64
+    requires { sum_by (λ one. one.mass) held.now < 2 ^ 64 }
+    ensures { result ≡ sum_by (λ one. one.mass) held.now }
+{
+    held.iter().map(|one| one.mass).sum()
 }
 
 impl Keyed for MaterialDecl {
