@@ -2,15 +2,16 @@
 use Rattle.std.proofs.Common.{◌≡◌, ℕ, ◌*◌, ◌^◌, ◌<◌, ◌≤◌, Bool, true, ◌&&◌, List, map, length, get_or, sum_by, arith}
 use Rattle.std.specs.Prelude.{nat_le}
 use Rattle.std.specs.List.{All, list_all}
+use Rattle.std.proofs.lemmas.List.{map-id}
 use Rattle.std.proofs.lemmas.List.Sums.{AllPass-from_list_all, sum_by-le}
 use Rattle.std.proofs.lemmas.Nat.{mul-le}
 use Rattle.std.proofs.lemmas.Bool.{and_from, and_parts, le-leb, leb-true}
 use Rattle.desk_law.specs.declared.claim.Claim.{Claim}
 use Rattle.desk_text.specs.Code.{code_cmp}
 use Rattle.desk_rows.specs.Rows.{IsByKey}
-use Rattle.desk_model.specs.declared.limits.TheConstants.{CONTENT_LIMIT, MASS_LIMIT}
+use Rattle.desk_model.specs.declared.limits.TheConstants.{CLAIM_LIMIT, CONTENT_LIMIT, MASS_LIMIT}
 use Rattle.desk_model.specs.declared.substance_mass.SubstanceMass.{SubstanceMass}
-use Rattle.desk_model.specs.Content.{are_claims, are_substances, is_content, rises}
+use Rattle.desk_model.specs.Content.{are_claims, are_substances, claim_cmp, is_content, rises}
 use Rattle.desk_model.proofs.Order.{rises_from_sorted, sorted_from_rises}
 
 -- a substance's mass is in its range
@@ -54,6 +55,20 @@ from_substance_parts held p =
     and_from (fits && rises code_cmp codes) (list_all is_light held)
     (and_from fits (rises code_cmp codes) (le-leb (length held) CONTENT_LIMIT p.fits) (rises_from_sorted code_cmp codes p.by_key))
     p.light
+
+pub record ClaimParts (claims : List Claim) : Type 0 where
+  pub fits : length claims ≤ CLAIM_LIMIT
+  pub by_key : IsByKey (λ claim. claim) claim_cmp claims
+
+pub claim_parts : (claims : List Claim) → are_claims claims ≡ true → ClaimParts claims
+claim_parts claims h =
+    let both = and_parts (nat_le (length claims) CLAIM_LIMIT) (rises claim_cmp claims) h in
+    record { fits = leb-true (length claims) CLAIM_LIMIT both.0; by_key = rw map-id (sorted_from_rises claim_cmp claims both.1) }
+
+pub from_claim_parts : (claims : List Claim) → ClaimParts claims → are_claims claims ≡ true
+from_claim_parts claims p =
+    and_from (nat_le (length claims) CLAIM_LIMIT) (rises claim_cmp claims) (le-leb (length claims) CLAIM_LIMIT p.fits)
+    (rises_from_sorted claim_cmp claims (rw map-id at p.by_key))
 
 -- the substances' masses sum to less than 2^64
 pub sum_fits : (held : List SubstanceMass) → are_substances held ≡ true → sum_by (λ one. one.mass) held < 2 ^ 64

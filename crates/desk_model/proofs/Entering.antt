@@ -1,9 +1,10 @@
 -- What a row entered into a list by key makes of the list.
-use Rattle.std.proofs.Common.{◌≡◌, ℕ, ◌+◌, ◌<◌, ◌≤◌, Bool, true, false, List, [], ◌∷◌, length, Some, is_some, Result, Ok, Err, refl, sym, subst, Ordering, Less, Equal, Greater, arith}
+use Rattle.std.proofs.Common.{◌≡◌, ℕ, ◌+◌, ◌<◌, ◌≤◌, Bool, true, false, List, [], ◌∷◌, length, is_some, Result, Ok, Err, refl, sym, subst, Ordering, Less, Equal, Greater, arith}
 use Rattle.std.specs.Prelude.{if◌then◌else◌, nat_lt}
 use Rattle.std.specs.Cmp.{IsTotalOrder}
 use Rattle.std.specs.List.{list_all}
 use Rattle.std.proofs.lemmas.Bool.{and_from, and_parts, ltb-true}
+use Rattle.desk_rows.specs.Place.{Replaces}
 use Rattle.desk_rows.specs.Rows.{IsByKey, row_of, with_row}
 use Rattle.desk_rows.proofs.Edits.{IsByKey-with_row}
 use Rattle.desk_model.specs.declared.decl_error.DeclError.{DeclError}
@@ -66,5 +67,5 @@ module _ {R K : Type 0} (key : R → K) (cmp : K → K → Ordering) where
       }
 
   -- a list that has the key
-  pub entered_repeated : (limit : ℕ) (new row : R) (rows : List R) → row_of key cmp (key new) rows ≡ Some row → entered key cmp limit new rows ≡ Err Repeated
-  entered_repeated limit new row rows e = rw e refl
+  pub entered_repeated : (limit : ℕ) (new : R) (rows seen : List R) (at : ℕ) → rows ≡ seen → Replaces key cmp new rows at → entered key cmp limit new seen ≡ Err Repeated
+  entered_repeated limit new rows seen at is place = rw (sym is, place.found new) refl

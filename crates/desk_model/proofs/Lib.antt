@@ -1,4 +1,5 @@
 pub mod Changing
+pub mod Claims
 pub mod Content
 pub mod Declaring
 pub mod Entering

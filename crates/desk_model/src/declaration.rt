@@ -3,11 +3,12 @@ ghost use Rattle.desk_text.specs.Code.{code_cmp};
 ghost use Rattle.desk_rows.specs.Place.{StandsAt};
 ghost use Rattle.desk_rows.specs.Rows.{IsByKey, row_of};
 ghost use Rattle.desk_model.specs.Declaration.{is_declaration};
-ghost use Rattle.desk_model.specs.Declaring.{declaration_start, empty_material, material_added, substance_added};
+ghost use Rattle.desk_model.specs.Declaring.{claim_added, declaration_start, empty_material, material_added, substance_added};
 
 use crate::enter::enter;
 use crate::limits::{CONTENT_LIMIT, DECLARED_LIMIT, MASS_LIMIT};
 use crate::{DeclError, MaterialDecl, SubstanceMass};
+use desk_law::Claim;
 use desk_rows::place_of_key;
 use desk_text::{Code, Day, Name};
 use std::alloc::Global;
@@ -101,6 +102,21 @@ impl Declaration {
         let at = place_of(self.materials.as_slice(), material)?;
         let material = &mut self.materials[at];
         material.substances.enter(held, CONTENT_LIMIT)
+    }
+
+    /// Adds a claim of exemption for a material that the declaration lists.
+    ///
+    /// `Orphan`: the declaration doesn't list the material. `Repeated`: the material has the claim already. `TooMany`: it
+    /// has 16 claims. They are tried in this order, and the declaration is then as it was.
+    pub fn add_claim(&mut self, material: &Code, claim: Claim) -> Result<(), DeclError>
+        ensures ok { OnOk result (claim_added material.now claim self.old ≡ Ok self.new) }
+        ensures error { IfErr result (λ e. e ≢ DeclError.OutOfMemory
+            → claim_added material.now claim self.old ≡ Err e) }
+        ensures err { OnErr result (self.new ≡ self.old) }
+    {
+        let at = place_of(self.materials.as_slice(), material)?;
+        let material = &mut self.materials[at];
+        material.claims.enter_claim(claim)
     }
 
     /// The supplier's code.

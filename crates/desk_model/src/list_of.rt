@@ -1,9 +1,12 @@
 ghost use Rattle.std.specs.Prelude.{◌≡◌, ◌≢◌, Err, IfErr, IfOk, Ok, OnErr, OnOk};
 ghost use Rattle.desk_rows.specs.Rows.{IsByKey};
+ghost use Rattle.desk_model.specs.Content.{claim_cmp};
 ghost use Rattle.desk_model.specs.Declaring.{entered};
 
 use crate::DeclError;
-use crate::enter::enter;
+use crate::enter::{enter, enter_claim};
+use crate::limits::CLAIM_LIMIT;
+use desk_law::Claim;
 use desk_rows::Keyed;
 use desk_text::{Code, OutOfMemory};
 use std::alloc::Global;
@@ -72,5 +75,18 @@ impl<R: Keyed> ListOf<R> {
         ensures err { OnErr result (self.new ≡ self.old) }
     {
         enter(&mut self.items, new, limit)
+    }
+}
+
+impl ListOf<Claim> {
+    /// Puts the new claim into its place, unless it is there or there are as many as a material may have.
+    pub(crate) fn enter_claim(&mut self, new: Claim) -> Result<(), DeclError>
+        requires { IsByKey (λ claim. claim) claim_cmp self.old }
+        ensures ok { OnOk result (entered (λ claim. claim) claim_cmp CLAIM_LIMIT new self.old ≡ Ok self.new) }
+        ensures error { IfErr result (λ e. e ≢ DeclError.OutOfMemory
+            → entered (λ claim. claim) claim_cmp CLAIM_LIMIT new self.old ≡ Err e) }
+        ensures err { OnErr result (self.new ≡ self.old) }
+    {
+        enter_claim(&mut self.items, new)
     }
 }
