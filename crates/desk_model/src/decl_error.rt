@@ -1,4 +1,5 @@
 use desk_text::OutOfMemory;
+use std::alloc::{AllocError, AllocFailed};
 use std::error::Error;
 use std::fmt;
 
@@ -35,6 +36,28 @@ impl From<OutOfMemory> for DeclError {
     ghost from_gives = { λ _ e. e ≡ error.OutOfMemory };
 
     fn from(_error: OutOfMemory) -> DeclError {
+        DeclError::OutOfMemory
+    }
+}
+
+impl From<AllocError> for DeclError {
+    ghost use Rattle.std.specs.Prelude.{◌≡◌};
+    ghost use Rattle.desk_model.specs.declared.decl_error.DeclError.TheVariants as error;
+
+    ghost from_gives = { λ _ e. e ≡ error.OutOfMemory };
+
+    fn from(_error: AllocError) -> DeclError {
+        DeclError::OutOfMemory
+    }
+}
+
+impl<T: Drop> From<AllocFailed<T>> for DeclError {
+    ghost use Rattle.std.specs.Prelude.{◌≡◌};
+    ghost use Rattle.desk_model.specs.declared.decl_error.DeclError.TheVariants as error;
+
+    ghost from_gives = { λ _ e. e ≡ error.OutOfMemory };
+
+    fn from(_error: AllocFailed<T>) -> DeclError {
         DeclError::OutOfMemory
     }
 }

@@ -4,6 +4,7 @@
 mod decl_error;
 mod declaration;
 mod edit;
+mod enter;
 mod exemption;
 pub mod limits;
 mod list_of;

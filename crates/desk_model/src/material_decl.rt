@@ -1,6 +1,13 @@
+ghost use Rattle.std.specs.Prelude.{◌≡◌, ◌<◌, ◌^◌, true, sum_by};
+ghost use Rattle.desk_model.specs.Content.{are_substances, holds_too_much};
+ghost use Rattle.desk_model.specs.Declaring.{empty_material};
+
 use crate::{ListOf, SubstanceMass};
 use desk_law::Claim;
-use desk_text::{Code, Name};
+use desk_rows::Keyed;
+use desk_text::{Code, Name, OutOfMemory};
+use std::alloc::Global;
+use std::cmp::Ordering;
 
 /// One material of a declaration.
 #[derive(Debug, Drop)]
@@ -15,4 +22,59 @@ pub struct MaterialDecl {
     pub substances: ListOf<SubstanceMass>,
     /// The exemptions that its supplier claims, in order of rule and then number, each once: at most 16.
     pub claims: ListOf<Claim>,
+}
+
+impl MaterialDecl {
+    /// A material of this mass in micrograms that holds nothing yet. It takes no memory beyond its name.
+    pub fn empty(alloc: Global, code: Code, name: Name, mass: u64) -> MaterialDecl
+        ensures { result ≡ empty_material code name mass }
+    {
+        MaterialDecl {
+            code,
+            name,
+            mass,
+            substances: ListOf::new(Vec::new(alloc)),
+            claims: ListOf::new(Vec::new(alloc)),
+        }
+    }
+
+    /// Whether the substances weigh more than the material that holds them.
+    pub fn holds_too_much(&self) -> bool
+        requires { are_substances self.now.substances ≡ true }
+        ensures { result ≡ holds_too_much self.now.mass self.now.substances }
+    {
+        self.mass < total_mass(self.substances.as_slice())
+    }
+}
+
+/// The mass of the substances together, in micrograms.
+fn total_mass(held: &[SubstanceMass]) -> u64
+    requires { sum_by (λ one. one.mass) held.now < 2 ^ 64 }
+    ensures { result ≡ sum_by (λ one. one.mass) held.now }
+{
+    held.iter().map(|one| one.mass).sum()
+}
+
+impl Keyed for MaterialDecl {
+    type Key = Code;
+
+    ghost key = { λ material. material.code };
+
+    fn compare(&self, sought: &Code) -> Ordering {
+        self.code.cmp(sought)
+    }
+
+    fn compare_row(&self, other: &MaterialDecl) -> Ordering {
+        self.code.cmp(&other.code)
+    }
+
+    fn copied(&self, alloc: Global) -> Result<MaterialDecl, OutOfMemory> {
+        Ok(MaterialDecl {
+            code: self.code,
+            name: self.name.clone()?,
+            mass: self.mass,
+            substances: self.substances.copied(alloc)?,
+            claims: self.claims.copied(alloc)?,
+        })
+    }
 }

@@ -122,15 +122,25 @@ module _ {R K : Type 0} (key : R → K) (cmp : K → K → Ordering) where
     without_row-with_row new [] absent = rw (tied_itself o (key new)) refl
     without_row-with_row new (row ∷ rows) absent = undone-step new row rows (cmp (key row) (key new)) refl absent (without_row-with_row new rows)
 
-    stands : (k : K) (rows : List R) (p : Result ℕ ℕ) → IsByKey key cmp rows → MatchResult p (Here k rows) (Gone k rows) → MatchResult p (StandsAt key cmp k rows) (StandsNowhere key cmp k rows)
-    stands k rows (Ok i) h m = record { within = m.within; found = m.found; taken = m.taken; by_key = subst (IsByKey key cmp) m.taken (IsByKey-without_row k rows h) }
-    stands k rows (Err i) h m = record { absent = m.absent; same = m.same }
+    set_at : (new : R) (rows : List R) (k : K) (i : ℕ) → place_of key cmp k rows ≡ Ok i → key new ≡ k → with_row key cmp new rows ≡ set rows i new
+    set_at new rows k i at e = (subst (λ p. MatchResult p (Set new rows) (Inserted new rows)) (ap (λ j. place_of key cmp j rows) e ∙ at) (put_in new rows)).put
+
+    stands : (k : K) (rows : List R) (p : Result ℕ ℕ) → p ≡ place_of key cmp k rows → IsByKey key cmp rows → MatchResult p (Here k rows) (Gone k rows) → MatchResult p (StandsAt key cmp k rows) (StandsNowhere key cmp k rows)
+    stands k rows (Ok i) at h m =
+        record {
+          within = m.within;
+          found = m.found;
+          taken = m.taken;
+          by_key = subst (IsByKey key cmp) m.taken (IsByKey-without_row k rows h);
+          put = λ new e. set_at new rows k i (sym at) e;
+        }
+    stands k rows (Err i) at h m = record { absent = m.absent; same = m.same }
 
     -- what a search by a key tells
     pub place_of_key : (k : K) (rows : List R) (r : Result ℕ ℕ) → IsByKey key cmp rows → IsSearchInRange r (length rows) → IsBinarySearchResult (λ row. cmp (key row) k) rows r → MatchResult r (StandsAt key cmp k rows) (StandsNowhere key cmp k rows)
     place_of_key k rows r h b s =
         let at = place_from_search key cmp o k rows r h b s in
-        stands k rows r h (subst (λ p. MatchResult p (Here k rows) (Gone k rows)) (sym at) (here_or_not k rows h))
+        stands k rows r at h (subst (λ p. MatchResult p (Here k rows) (Gone k rows)) (sym at) (here_or_not k rows h))
 
     goes : (new : R) (rows : List R) (p : Result ℕ ℕ) → IsByKey key cmp rows → MatchResult p (Here (key new) rows) (Gone (key new) rows) → MatchResult p (Set new rows) (Inserted new rows) → MatchResult p (Replaces key cmp new rows) (Enters key cmp new rows)
     goes new rows (Ok i) h m n =

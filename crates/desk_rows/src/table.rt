@@ -1,8 +1,8 @@
-ghost use Rattle.std.specs.Prelude.{◌≡◌, ◌+◌, ◌<◌, ◌≤◌, ◌^◌, [], length, vec_len, vec_capacity, option_copied, IfOk, IsNone, IsSome, IsOk, OnOk, OnErr, MatchResult};
+ghost use Rattle.std.specs.Prelude.{◌≡◌, ◌+◌, ◌<◌, ◌≤◌, ◌^◌, [], length, vec_len, vec_capacity, option_copied, IfOk, IsNone, IsSome, IsOk, OnOk, OnErr};
 ghost use Rattle.desk_rows.specs.Rows.{IsByKey, row_of, with_row, with_rows, without_row};
-ghost use Rattle.desk_rows.specs.Place.{StandsAt, StandsNowhere, Replaces, Enters};
 
 use crate::keyed::Keyed;
+use crate::place::{place_of_key, place_of_row};
 use desk_text::OutOfMemory;
 use std::alloc::Global;
 use std::marker::Model;
@@ -46,7 +46,7 @@ impl<R: Keyed> Table<R> {
     pub fn get(&self, key: &R::Key) -> Option<&R>
         ensures { option_copied result ≡ row_of R.key R.Key.cmp key.now self.now }
     {
-        match self.place(key) {
+        match place_of_key(self.rows.as_slice(), key) {
             Ok(at) => Some(&self.rows[at]),
             Err(_) => None,
         }
@@ -57,7 +57,7 @@ impl<R: Keyed> Table<R> {
         requires { length self.now < 2 ^ 63 }
         ensures { result ≡ length (with_row R.key R.Key.cmp row.now self.now) }
     {
-        match place_in(self.rows.as_slice(), row) {
+        match place_of_row(self.rows.as_slice(), row) {
             Ok(_) => self.rows.len(),
             Err(_) => self.rows.len() + 1,
         }
@@ -73,7 +73,7 @@ impl<R: Keyed> Table<R> {
         ensures undone { OnOk result (IsNone (row_of R.key R.Key.cmp (R.key row) self.old)
             → without_row R.key R.Key.cmp (R.key row) self.new ≡ self.old) }
     {
-        match place_in(self.rows.as_slice(), &row) {
+        match place_of_row(self.rows.as_slice(), &row) {
             Ok(at) => self.rows[at] = row,
             Err(at) => self.rows.insert(at, row)?,
         }
@@ -97,7 +97,7 @@ impl<R: Keyed> Table<R> {
         ensures taken { result ≡ row_of R.key R.Key.cmp key.now self.old }
         ensures rest { self.new ≡ without_row R.key R.Key.cmp key.now self.old }
     {
-        match self.place(key) {
+        match place_of_key(self.rows.as_slice(), key) {
             Ok(at) => Some(self.rows.remove(at)),
             Err(_) => None,
         }
@@ -113,22 +113,6 @@ impl<R: Keyed> Table<R> {
         }
         Ok(Table { rows })
     }
-
-    // The place of the row with this key, or else the place where it would go.
-    fn place(&self, key: &R::Key) -> Result<usize, usize>
-        ensures { MatchResult result (StandsAt R.key R.Key.cmp key.now self.now) (StandsNowhere R.key R.Key.cmp key.now self.now) }
-    {
-        let rows = self.rows.as_slice();
-        rows.binary_search_by(|row| row.compare(key))
-    }
-}
-
-// The place of the row with the same key, or else the place where the row would go.
-fn place_in<R: Keyed>(rows: &[R], row: &R) -> Result<usize, usize>
-    requires { IsByKey R.key R.Key.cmp rows.now }
-    ensures { MatchResult result (Replaces R.key R.Key.cmp row.now rows.now) (Enters R.key R.Key.cmp row.now rows.now) }
-{
-    rows.binary_search_by(|kept| kept.compare_row(row))
 }
 
 // Puts the row in its place, where room for one more row was made before.
@@ -140,7 +124,7 @@ fn put_reserved<R: Keyed>(rows: &mut Vec<R>, row: R)
     ensures len { vec_len rows.new ≤ vec_len rows.old + 1 }
     ensures capacity { vec_capacity rows.new ≡ vec_capacity rows.old }
 {
-    match place_in(rows.as_slice(), &row) {
+    match place_of_row(rows.as_slice(), &row) {
         Ok(at) => rows[at] = row,
         Err(at) => {
             let entered = rows.insert(at, row);

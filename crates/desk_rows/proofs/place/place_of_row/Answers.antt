@@ -1,7 +1,7 @@
 use Rattle.std.proofs.Common.{◌≡◌, rules}
 use Rattle.std.proofs.lemmas.Fn.{always_returns_same}
 use Rattle.desk_rows.proofs.Edits.{place_of_row}
-use Rattle.desk_rows.proofs.table.place_in.Goals as goal
+use Rattle.desk_rows.proofs.place.place_of_row.Goals as goal
 
 pub returns : goal.returns
 returns g c =

@@ -1,0 +1,5 @@
+use Rattle.std.proofs.Common.{◌≡◌, ◌≤◌, length, take, vec_len, vec_capacity}
+use Rattle.desk_model.proofs.list_of.ListOf.copied.Given as goal
+
+abbrev pub invariant-loop-item : goal.invariant-loop-item
+invariant-loop-item g l = (l.items.items ≡ take l.item-index l.item-items) × (vec_len l.items ≡ l.item-index) × (length l.item-items ≤ vec_capacity l.items)
