@@ -1,0 +1,5 @@
+pub mod Head
+pub mod Lines
+pub mod Rest
+pub mod Stream
+pub mod Taken

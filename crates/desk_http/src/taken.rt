@@ -1,0 +1,19 @@
+use crate::request::Request;
+
+/// What the front of a buffer is.
+#[derive(Clone, Copy, Debug, PartialEq, Eq)]
+pub enum Taken {
+    /// A whole request, head and body.
+    Whole(Request),
+    /// Less than a request. More bytes may make it one.
+    NotYet,
+    /// No bytes can follow that make it a request's head.
+    BadHead,
+    /// The head isn't finished within 8,192 bytes, or has more than 64 header lines.
+    HeadTooLong,
+    /// The head gives no length of its body: it has a `Transfer-Encoding` line, more than one
+    /// `Content-Length` line or one whose value isn't digits alone, or is a POST with none.
+    NoLength,
+    /// The head gives its body a length over 65,536 bytes.
+    BodyTooLong,
+}
