@@ -1,3 +1,5 @@
 pub mod HeadLemmas
 pub mod LinesLemmas
+pub mod OnLiterals
+pub mod ReplyLemmas
 pub mod RestLemmas
