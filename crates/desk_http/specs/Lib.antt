@@ -1,5 +1,6 @@
 pub mod Head
 pub mod Lines
+pub mod Reader
 pub mod Reply
 pub mod Rest
 pub mod Stream

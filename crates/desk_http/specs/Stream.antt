@@ -1,5 +1,5 @@
 -- The requests of a byte stream, and how it ends.
-use Rattle.std.specs.Prelude.{◌≡◌, ℕ, ◌<◌, List, [], ◌∷◌, ◌++◌, length, MatchBool}
+use Rattle.std.specs.Prelude.{◌≡◌, ℕ, ◌<◌, ◌⊎◌, Bool, true, false, List, [], ◌∷◌, ◌++◌, length, IsTrue, MatchBool}
 use Rattle.desk_http.specs.Rest.{IsHopeless, IsTooLong, HasNoLength, HasLongBody, IsNotYet, Message, BeginsWith}
 
 -- what comes after the last request that is answered: nothing, less than a request, or what is refused
@@ -20,3 +20,13 @@ abbrev pub IsStream : List ℕ → List Message → End → Type 0
 IsStream bytes [] end = EndsAs bytes end
 IsStream bytes (m ∷ ms) end =
     (rest : List ℕ) × BeginsWith bytes m rest × MatchBool m.close ((ms ≡ []) × (end ≡ clean)) (IsStream rest ms end)
+
+-- a rest that is hopeless may count as unfinished too, while it ends inside its target
+abbrev pub may_count_as : End → End → Bool
+may_count_as bad_head cut = true
+may_count_as bad_head head_too_long = true
+may_count_as end other = false
+
+-- the two ends are one, but for that
+abbrev pub IsSameEnd : End → End → Type 0
+IsSameEnd end other = (end ≡ other) ⊎ (IsTrue (may_count_as end other) ⊎ IsTrue (may_count_as other end))

@@ -38,3 +38,17 @@ Takes buffer BadHead = IsHopeless buffer
 Takes buffer HeadTooLong = IsTooLong buffer
 Takes buffer NoLength = HasNoLength buffer
 Takes buffer BodyTooLong = HasLongBody buffer
+
+-- an answer with the request itself in place of where it lies
+pub data Answer : Type 0 where
+  whole : Message → ℕ → Answer
+  not_yet bad_head head_too_long no_length body_too_long : Answer
+
+-- what the answer says of the buffer
+abbrev pub answer_of : List ℕ → Taken → Answer
+answer_of buffer (Whole r) = whole (message_of buffer r) r.used
+answer_of buffer NotYet = not_yet
+answer_of buffer BadHead = bad_head
+answer_of buffer HeadTooLong = head_too_long
+answer_of buffer NoLength = no_length
+answer_of buffer BodyTooLong = body_too_long

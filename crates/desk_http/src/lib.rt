@@ -3,6 +3,7 @@
 
 mod fixed;
 mod head;
+mod laws;
 mod limits;
 mod lines;
 mod method;
@@ -13,6 +14,9 @@ mod take;
 mod taken;
 
 pub use fixed::{Fixed, fixed_reply};
+pub use laws::{
+    answers_last, no_head_begins_another, one_answer, pieces_make_no_difference, request_is_bounded,
+};
 pub use limits::{BODY_BYTES, HEAD_BYTES, HEAD_LINES};
 pub use method::Method;
 pub use reply::write_reply;

@@ -10,6 +10,6 @@ returns c =
     let a = c.args in
     IfOk-weaker c.format.result _ (λ head. string_bytes head ≡ reply_head a.status a.body_len a.allow a.close)
     (λ head text.
-      simp (c.as_str.ensures, c.phrase_of.ensures, c.allow_line.ensures, c.close_line.ensures) at text
-      ∙ sym (reply_head_written a.status a.body_len a.allow a.close))
+    simp (c.as_str.ensures, c.phrase_of.ensures, c.allow_line.ensures, c.close_line.ensures) at text
+    ∙ sym (reply_head_written a.status a.body_len a.allow a.close))
     c.format.ensures.ok
