@@ -14,7 +14,7 @@ use Rattle.desk_http.specs.declared.request.Request.{Request}
 use Rattle.desk_http.specs.declared.taken.Taken.{Taken}
 use Rattle.desk_http.specs.declared.taken.Taken.TheVariants.{Whole, NotYet, BadHead, HeadTooLong, NoLength, BodyTooLong}
 use Rattle.desk_http.specs.Lines.{Line, lines_of, is_named, values_of, stated_length, bounded_length, method_of, body_length, is_closing}
-use Rattle.desk_http.specs.Rest.{front, HasHead, HasHeadWith, IsHopeless, IsUnfinished, IsTooLong, LacksBody, Message, BeginsWith}
+use Rattle.desk_http.specs.Rest.{front, HasHead, HasHeadWith, IsHopeless, IsUnfinished, Message, BeginsWith}
 use Rattle.desk_http.specs.Taken.{message_of, IsTakenFrom, Takes, Answer, whole, not_yet, bad_head, head_too_long, no_length, body_too_long, answer_of}
 use Rattle.desk_http.proofs.HeadLemmas.{print_request_len}
 use Rattle.desk_http.proofs.RestLemmas.{head_begins}

@@ -1,16 +1,16 @@
 -- What a rest begins with stays so when more bytes follow it.
-use Rattle.std.proofs.Common.{◌≡◌, ◌≢◌, ℕ, ◌+◌, ◌-◌, ◌≤◌, ◌⊎◌, List, [], ◌++◌, length, take, drop, refl, sym, ap, ◌∙◌, inl, inr, arith, append_assoc, length-append}
+use Rattle.std.proofs.Common.{◌≡◌, ◌≢◌, ℕ, ◌+◌, ◌-◌, ◌≤◌, List, [], ◌++◌, length, take, drop, refl, sym, ap, ◌∙◌, inl, inr, arith, append_assoc, length-append}
 use Rattle.std.proofs.lemmas.Bool.{cases_lt}
 use Rattle.std.proofs.lemmas.List.{append-nil, take_all, take-append-le, drop-append-le}
 use Rattle.std.proofs.Math.Seq.{take-append-add}
-use Rattle.httparse.specs.Grammar.{RequestHead, print_request, ReadsRequest, HasNoRequest, MayBecomeRequest}
+use Rattle.httparse.specs.Grammar.{RequestHead, print_request}
 use Rattle.httparse.proofs.GrammarLemmas.{ReadsRequest-append}
 use Rattle.desk_http.specs.declared.limits.TheConstants.{HEAD_BYTES}
 use Rattle.desk_http.specs.declared.lines.BodyLength.{BodyLength}
 use Rattle.desk_http.specs.declared.request.Request.{Request}
 use Rattle.desk_http.specs.declared.taken.Taken.{Taken}
 use Rattle.desk_http.specs.declared.taken.Taken.TheVariants.{Whole, NotYet, BadHead, HeadTooLong, NoLength, BodyTooLong}
-use Rattle.desk_http.specs.Rest.{front, HasHead, HasHeadWith, IsHopeless, IsUnfinished, IsTooLong, Message, BeginsWith}
+use Rattle.desk_http.specs.Rest.{front, HasHead, HasHeadWith, IsHopeless, IsTooLong, Message, BeginsWith}
 use Rattle.desk_http.specs.Taken.{message_of, IsTakenFrom, Takes, whole, answer_of}
 use Rattle.desk_http.proofs.RestLemmas.{slice_range-append}
 

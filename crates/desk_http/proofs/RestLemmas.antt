@@ -1,7 +1,7 @@
 -- A rest, its front and the head in it.
-use Rattle.std.proofs.Common.{◌≡◌, ℕ, ◌+◌, ◌-◌, ◌<◌, ◌≤◌, List, ◌++◌, length, take, drop, refl, sym, ap, ◌∙◌, arith, append_assoc, length-append}
+use Rattle.std.proofs.Common.{◌≡◌, ℕ, ◌+◌, ◌-◌, ◌≤◌, List, ◌++◌, length, take, drop, refl, sym, ap, ◌∙◌, arith, append_assoc, length-append}
 use Rattle.std.specs.Prelude.{slice_range}
-use Rattle.std.proofs.lemmas.List.{length-take, length-take-le, take-take, take_at, take-append-drop, take-append-le}
+use Rattle.std.proofs.lemmas.List.{length-take, take-take, take_at, take-append-drop, take-append-le}
 use Rattle.std.proofs.lemmas.List.Folds.{drop_split}
 use Rattle.std.proofs.lemmas.Slice.{between_is}
 use Rattle.std.proofs.Math.Seq.{take-append-add}
@@ -10,9 +10,9 @@ use Rattle.httparse.proofs.RunLemmas.{length-slice_range}
 use Rattle.desk_http.specs.declared.limits.TheConstants.{HEAD_BYTES, HEAD_LINES}
 use Rattle.desk_http.specs.declared.lines.BodyLength.TheVariants.{Known}
 use Rattle.desk_http.specs.declared.head.Head.{Head}
-use Rattle.desk_http.specs.Rest.{front, HasHead, Message, BeginsWith}
+use Rattle.desk_http.specs.Rest.{front, HasHead}
 use Rattle.desk_http.specs.Head.{IsHeadAt}
-use Rattle.desk_http.specs.Taken.{span_bytes, message_of, IsTakenFrom}
+use Rattle.desk_http.specs.Taken.{IsTakenFrom}
 
 pub slice_range-take : (xs : List ℕ) (i j n : ℕ) → j ≤ n → slice_range (take n xs) i j ≡ slice_range xs i j
 slice_range-take xs i j n within =

@@ -1,6 +1,6 @@
 -- A stream has one list of requests, and a reader takes these from it.
 use Rattle.std.proofs.Common.{◌≡◌, ℕ, ◌<◌, ◌⊎◌, Bool, true, false, cond, ltb, List, [], ◌∷◌, ◌++◌, length, refl, sym, ap, ◌∙◌, subst, inl, inr, arith, rules, append_assoc}
-use Rattle.std.specs.Prelude.{MatchBool, IsTrue, All, codes}
+use Rattle.std.specs.Prelude.{MatchBool, IsTrue, codes}
 use Rattle.std.proofs.lemmas.Bool.{cond-true, cond-false, lt-ltb, le-ltb}
 use Rattle.std.proofs.lemmas.List.{append-nil}
 use Rattle.std.proofs.lemmas.List.Elements.{All-nil, All-from_recursion}
@@ -10,7 +10,7 @@ use Rattle.httparse.proofs.OnLiterals.{httparse_on_literals}
 use Rattle.desk_http.specs.declared.limits.TheConstants.{HEAD_BYTES}
 use Rattle.desk_http.specs.declared.taken.Taken.{Taken}
 use Rattle.desk_http.specs.declared.taken.Taken.TheVariants.{NotYet, BadHead, HeadTooLong, NoLength, BodyTooLong}
-use Rattle.desk_http.specs.Rest.{front, HasHead, IsHopeless, IsUnfinished, Message, BeginsWith}
+use Rattle.desk_http.specs.Rest.{HasHead, IsHopeless, IsUnfinished, Message, BeginsWith}
 use Rattle.desk_http.specs.Stream as stream
 use Rattle.desk_http.specs.Stream.{End, EndsAs, IsStream, may_count_as, IsSameEnd}
 use Rattle.desk_http.specs.Taken as answers

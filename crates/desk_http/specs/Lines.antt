@@ -1,5 +1,5 @@
 -- What the lines of a request's head say of its body and of the connection.
-use Rattle.std.specs.Prelude.{ℕ, ◌≤◌, Bool, ◌||◌, List, [], ◌∷◌, map, filter, Option, Some, None, if◌then◌else◌, ◌==◌, nat_le, codes}
+use Rattle.std.specs.Prelude.{ℕ, Bool, ◌||◌, List, [], ◌∷◌, map, filter, Option, Some, None, if◌then◌else◌, ◌==◌, nat_le, codes}
 use Rattle.std.specs.Char.{is_ascii_digit}
 use Rattle.std.specs.List.{list_any, list_all, slice_split}
 use Rattle.std.specs.Str.{str_eq_ignore_ascii_case, bytes_eq}

@@ -1,5 +1,5 @@
 -- The requests of a byte stream, and how it ends.
-use Rattle.std.specs.Prelude.{◌≡◌, ℕ, ◌<◌, ◌⊎◌, Bool, true, false, List, [], ◌∷◌, ◌++◌, length, IsTrue, MatchBool}
+use Rattle.std.specs.Prelude.{◌≡◌, ℕ, ◌<◌, ◌⊎◌, Bool, true, false, List, [], ◌∷◌, length, IsTrue, MatchBool}
 use Rattle.desk_http.specs.Rest.{IsHopeless, IsTooLong, HasNoLength, HasLongBody, IsNotYet, Message, BeginsWith}
 
 -- what comes after the last request that is answered: nothing, less than a request, or what is refused

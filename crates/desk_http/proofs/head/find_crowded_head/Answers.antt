@@ -1,4 +1,4 @@
-use Rattle.std.proofs.Common.{◌≡◌, Err, ap, ◌∙◌, arith}
+use Rattle.std.proofs.Common.{Err, ap, ◌∙◌, arith}
 use Rattle.desk_http.proofs.HeadLemmas.{never_exceeds, found_over}
 use Rattle.desk_http.proofs.head.find_crowded_head.Goals as goal
 

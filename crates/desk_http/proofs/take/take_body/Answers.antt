@@ -1,5 +1,4 @@
 use Rattle.std.proofs.Common.{arith}
-use Rattle.std.proofs.lemmas.List.{length-take}
 use Rattle.desk_http.proofs.RestLemmas.{head_begins, taken_from}
 use Rattle.desk_http.proofs.take.take_body.Goals as goal
 

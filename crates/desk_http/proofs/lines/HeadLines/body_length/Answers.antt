@@ -1,8 +1,6 @@
-use Rattle.std.proofs.Common.{◌≡◌, true, false, sym, ap, ◌∙◌, arith, rules, get_or}
+use Rattle.std.proofs.Common.{sym, ap, ◌∙◌}
 use Rattle.std.specs.Prelude.{codes}
-use Rattle.std.specs.Option.{is_some}
 use Rattle.std.specs.Str.{str_eq_ignore_ascii_case}
-use Rattle.std.proofs.lemmas.Grind.{common_steps}
 use Rattle.desk_http.proofs.LinesLemmas.{stated_more, stated_kept}
 use Rattle.desk_http.proofs.lines.HeadLines.body_length.Goals as goal
 use Rattle.desk_http.proofs.lines.HeadLines.body_length.Goals.{then-is_word+else-is_some, else-is_word}
