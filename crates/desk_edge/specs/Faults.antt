@@ -1,0 +1,14 @@
+-- How faults of the outside are counted.
+use Rattle.std.specs.Prelude.{ℕ, ◌+◌, ◌-◌, ◌^◌, ◌≤◌, min}
+
+-- the last value of a count, which is kept in 64 bits and stands still there
+abbrev pub last_count : ℕ
+last_count = 2 ^ 64 - 1
+
+-- a count after one more
+abbrev pub counted : ℕ → ℕ
+counted n = min (n + 1) last_count
+
+-- at least one fault was counted: the count rose, or it stood at its last value before
+abbrev pub Rose : ℕ → ℕ → Type 0
+Rose old new = counted old ≤ new

@@ -1,0 +1,60 @@
+-- A link in memory: what it gives, takes and refuses, call by call.
+use Rattle.std.specs.Prelude.{ℕ, ◌-◌, ◌==◌, ◌&&◌, ◌||◌, not, if◌then◌else◌, min, Bool, List, ◌++◌, length, take, drop, Result, Ok, Err}
+use Rattle.std.specs.List.{list_any}
+use Rattle.desk_edge.specs.Faults.{counted}
+use Rattle.desk_edge.specs.declared.failed.Failed.{Failed}
+
+-- a link in memory, as its calls see it
+pub record Memory : Type 0 where
+  -- the bytes that reads will give
+  pub unread : List ℕ
+  -- the bytes that writes have taken
+  pub written : List ℕ
+  -- the most that one read gives
+  pub piece : ℕ
+  -- how many bytes writes will still take
+  pub room : ℕ
+  -- the numbers of the calls that fail, counted from 1
+  pub failing : List ℕ
+  pub calls : ℕ
+  pub faults : ℕ
+
+-- whether the next call is one of those that fail
+abbrev pub fails_next : Memory → Bool
+fails_next m = list_any (λ n. n == counted m.calls) m.failing
+
+-- whether a write of these bytes fails: by its number, or for want of room
+abbrev pub refuses : Memory → List ℕ → Bool
+refuses m bytes = fails_next m || ((m.room == 0) && not (length bytes == 0))
+
+-- a call that failed was counted twice, as a call and as a fault
+abbrev pub after_fault : Memory → Memory
+after_fault m = record m { calls = counted m.calls; faults = counted m.faults }
+
+-- how many bytes a read into a buffer of this length gives
+abbrev pub read_len : Memory → ℕ → ℕ
+read_len m len = min (min m.piece len) (length m.unread)
+
+abbrev pub read_answer : Memory → ℕ → Result ℕ Failed
+read_answer m len = if fails_next m then Err (record {}) else Ok (read_len m len)
+
+abbrev pub after_read : Memory → ℕ → Memory
+after_read m len =
+    if fails_next m then after_fault m
+    else record m { calls = counted m.calls; unread = drop (read_len m len) m.unread }
+
+-- how many of these bytes a write takes
+abbrev pub write_len : Memory → List ℕ → ℕ
+write_len m bytes = min m.room (length bytes)
+
+abbrev pub write_answer : Memory → List ℕ → Result ℕ Failed
+write_answer m bytes = if refuses m bytes then Err (record {}) else Ok (write_len m bytes)
+
+abbrev pub after_write : Memory → List ℕ → Memory
+after_write m bytes =
+    if refuses m bytes then after_fault m
+    else record m {
+      calls = counted m.calls;
+      written = m.written ++ take (write_len m bytes) bytes;
+      room = m.room - write_len m bytes;
+    }

@@ -1,0 +1,67 @@
+ghost use Rattle.std.specs.Prelude.{◌≡◌, ℕ, ◌<◌, ◌≤◌, length, IfOk, OnErr};
+ghost use Rattle.std.specs.Io.KnownBytes.{ReadConsumes, WriteAppends};
+ghost use Rattle.desk_edge.specs.Faults.{Rose};
+ghost use Rattle.desk_edge.specs.StdLink.{std_reader, std_writer, std_faults};
+
+use crate::failed::Failed;
+use crate::link::Link;
+use std::io::{Read, Write};
+
+/// A link over a reader and a writer of the standard library.
+///
+/// It tells what they tell, and counts a fault for each call that they refuse and for a writer
+/// that takes nothing. The writer should not keep bytes back: nothing is flushed.
+#[derive(Drop)]
+pub struct StdLink<I, O> {
+    input: I,
+    output: O,
+    faults: u64,
+}
+
+impl<I: Read, O: Write> StdLink<I, O> {
+    /// A link that reads from `input` and writes to `output`, with no fault counted yet.
+    pub fn new(input: I, output: O) -> StdLink<I, O>
+        ensures reader { std_reader result ≡ input }
+        ensures writer { std_writer result ≡ output }
+        ensures count { std_faults result ≡ 0 }
+    {
+        StdLink {
+            input,
+            output,
+            faults: 0,
+        }
+    }
+
+    // Counts a fault, up to the last value of the count.
+    fn refused(&mut self) -> Failed
+        ensures input_stays { std_reader self.new ≡ std_reader self.old }
+        ensures output_stays { std_writer self.new ≡ std_writer self.old }
+        ensures never_falls { std_faults self.old ≤ std_faults self.new }
+        ensures counted { Rose (std_faults self.old) (std_faults self.new) }
+    {
+        self.faults = self.faults.saturating_add(1);
+        Failed
+    }
+}
+
+impl<I: Read, O: Write> Link for StdLink<I, O> {
+    ghost faults = { λ link. link.faults };
+
+    ghost unread = { λ link. I.remaining link.input };
+
+    ghost written = { λ link. O.contents link.output };
+
+    fn read(&mut self, into: &mut [u8]) -> Result<usize, Failed> {
+        match self.input.read(into) {
+            Ok(n) => Ok(n),
+            Err(_) => Err(self.refused()),
+        }
+    }
+
+    fn write(&mut self, piece: &[u8]) -> Result<usize, Failed> {
+        match self.output.write(piece) {
+            Ok(n) if n > 0 || piece.is_empty() => Ok(n),
+            _ => Err(self.refused()),
+        }
+    }
+}

@@ -1,0 +1,161 @@
+ghost use Rattle.std.specs.Prelude.{◌≤◌};
+
+use crate::{Failed, Link, MemoryLink, ReadFault, StdLink, read_up_to, write_all};
+use desk_text::Bytes;
+use std::alloc::Global;
+use std::io;
+use std::io::{Read, Write};
+use std::test::Fail;
+
+fn link(
+    alloc: Global,
+    input: &[u8],
+    piece: usize,
+    room: usize,
+    failing: &[u64],
+) -> Result<MemoryLink, Fail>
+    requires { 1 ≤ piece }
+{
+    let input = Bytes::from(input.to_vec(alloc)?);
+    Ok(MemoryLink::new(alloc, input, piece, room, failing.to_vec(alloc)?)?)
+}
+
+#[test]
+fn a_link_in_memory_gives_pieces_and_then_its_end(rt: HostRuntime) -> Result<(), Fail> {
+    let mut link = link(rt.alloc(), b"abcde", 2, 0, &[])?;
+    let mut buffer = [0; 4];
+    let mut pieces = Vec::new(rt.alloc());
+    for _ in 0..5 {
+        let given = link.read(&mut buffer)?;
+        assert!(rt; given <= 4);
+        pieces.push(buffer[..given].to_vec(rt.alloc())?)?;
+    }
+    let found = format!(in rt.alloc(); "{pieces:?}")?;
+    assert_eq!(rt; found.as_str(), "[[97, 98], [99, 100], [101], [], []]");
+    Ok(())
+}
+
+#[test]
+fn a_link_in_memory_fails_on_its_numbered_calls_and_on_no_other(
+    rt: HostRuntime,
+) -> Result<(), Fail> {
+    let mut link = link(rt.alloc(), b"abc", 1, 2, &[2, 4])?;
+    let mut buffer = [0; 1];
+    assert_eq!(rt; link.read(&mut buffer), Ok(1));
+    assert_eq!(rt; link.read(&mut buffer), Err(Failed));
+    assert_eq!(rt; link.write(b"x"), Ok(1));
+    assert_eq!(rt; link.write(b"y"), Err(Failed));
+    assert_eq!(rt; link.write(b"yz"), Ok(1));
+    assert_eq!(rt; link.write(b""), Ok(0));
+    assert_eq!(rt; link.write(b"z"), Err(Failed));
+    assert_eq!(rt; link.read(&mut buffer), Ok(1));
+    assert_eq!(rt; buffer.as_slice(), b"b".as_slice());
+    assert_eq!(rt; link.written(), b"xy".as_slice());
+    Ok(())
+}
+
+#[test]
+fn reading_stops_with_the_byte_after_the_limit(rt: HostRuntime) -> Result<(), Fail> {
+    for (text, limit, read) in [
+        ("", 0, ""),
+        ("a", 0, "a"),
+        ("ab", 0, "a"),
+        ("abc", 3, "abc"),
+        ("abcd", 3, "abcd"),
+        ("abcde", 3, "abcd"),
+    ] {
+        for piece in [1, 3, 100] {
+            let mut link = link(rt.alloc(), text.as_bytes(), piece, 0, &[])?;
+            let bytes = read_up_to(rt.alloc(), &mut link, limit)
+                .ok()
+                .ok_or("a fault")?;
+            assert_eq!(rt;
+                bytes.as_slice(),
+                read.as_bytes(),
+                "of {text} to {limit} by {piece}"
+            );
+        }
+    }
+    Ok(())
+}
+
+#[test]
+fn a_fault_ends_reading_and_writing(rt: HostRuntime) -> Result<(), Fail> {
+    let mut reading = link(rt.alloc(), b"abc", 1, 0, &[3])?;
+    let fault = read_up_to(rt.alloc(), &mut reading, 8).err();
+    assert_eq!(rt; fault, Some(ReadFault::Failed));
+    let mut writing = link(rt.alloc(), b"", 1, 2, &[])?;
+    assert_eq!(rt; write_all(&mut writing, b"abc"), Err(Failed));
+    assert_eq!(rt; writing.written(), b"ab".as_slice());
+    let mut enough = link(rt.alloc(), b"", 1, 3, &[])?;
+    assert_eq!(rt; write_all(&mut enough, b"abc"), Ok(()));
+    assert_eq!(rt; enough.written(), b"abc".as_slice());
+    Ok(())
+}
+
+// Refuses its first call, and takes or gives a byte at each further one.
+#[derive(Drop)]
+struct Flaky {
+    refused: bool,
+    byte: u8,
+}
+
+impl Read for Flaky {
+    fn read(&mut self, buf: &mut [u8]) -> io::Result<usize> {
+        if !self.refused {
+            self.refused = true;
+            return Err(io::Error::from(io::ErrorKind::Other));
+        }
+        match buf.first_mut() {
+            Some(first) => {
+                *first = self.byte;
+                Ok(1)
+            }
+            None => Ok(0),
+        }
+    }
+}
+
+impl Write for Flaky {
+    fn write(&mut self, buf: &[u8]) -> io::Result<usize> {
+        match buf.first() {
+            Some(first) if self.refused => {
+                self.byte = *first;
+                Ok(1)
+            }
+            _ => {
+                self.refused = true;
+                Ok(0)
+            }
+        }
+    }
+
+    fn flush(&mut self) -> io::Result<()> {
+        Ok(())
+    }
+}
+
+fn new_flaky() -> Flaky {
+    Flaky {
+        refused: false,
+        byte: b'q',
+    }
+}
+
+#[test]
+fn a_link_over_std_hands_on_what_its_reader_and_writer_do(rt: HostRuntime) -> Result<(), Fail> {
+    let mut link = StdLink::new(new_flaky(), new_flaky());
+    let mut buffer = [0; 2];
+    assert_eq!(rt; link.read(&mut buffer), Err(Failed));
+    assert_eq!(rt; link.read(&mut buffer), Ok(1));
+    assert_eq!(rt; buffer.as_slice(), b"q\0".as_slice());
+    assert_eq!(rt; link.write(b"ab"), Err(Failed));
+    assert_eq!(rt; link.write(b"ab"), Ok(1));
+    let mut over_text = StdLink::new(b"text".as_slice(), Vec::new(rt.alloc()));
+    let bytes = read_up_to(rt.alloc(), &mut over_text, 9)
+        .ok()
+        .ok_or("a fault")?;
+    assert_eq!(rt; bytes.as_slice(), b"text".as_slice());
+    assert_eq!(rt; write_all(&mut over_text, b"answer"), Ok(()));
+    Ok(())
+}

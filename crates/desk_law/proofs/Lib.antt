@@ -1,0 +1,4 @@
+pub mod Codes
+pub mod KindSets
+pub mod KindTexts
+pub mod Verdicts

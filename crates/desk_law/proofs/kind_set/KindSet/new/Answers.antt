@@ -1,0 +1,5 @@
+use Rattle.desk_law.specs.KindMarks.{marked_kinds-none}
+use Rattle.desk_law.proofs.kind_set.KindSet.new.Goals as goal
+
+pub returns : goal.returns
+returns c = marked_kinds-none

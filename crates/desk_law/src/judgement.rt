@@ -1,0 +1,58 @@
+ghost use Rattle.std.specs.Prelude.{◌≡◌, IsTrue, position};
+ghost use Rattle.std.specs.List.Sorted.{IsSortedByKey};
+ghost use Rattle.desk_text.specs.Code.{code_cmp};
+ghost use Rattle.desk_text.specs.Day.{is_askable};
+ghost use Rattle.desk_law.specs.Exemption.{covers};
+ghost use Rattle.desk_law.specs.Verdict.{verdict, NamesLeast};
+
+use crate::{Claim, Kind, Rule, Terms, Verdict, covers, in_force, limit_ppm, over};
+use desk_text::Day;
+
+/// The verdict on a material for a rule, a kind of equipment and a day: the first that applies of
+/// within, not in force, exempt and breach.
+///
+/// The mass is in micrograms and the share in millionths of a microgram. The day is askable. The
+/// rows are the exemptions in order of code; of those that cover the material the one with the
+/// least code is named.
+#[tactic(auto, unfolding(crate::specs::Verdict::verdict))]
+pub fn judge(
+    share: u128,
+    mass: u64,
+    claims: &[Claim],
+    rule: Rule,
+    kind: Kind,
+    day: Day,
+    rows: &[Terms],
+) -> Verdict
+    requires askable { IsTrue (is_askable day) }
+    requires in_order { IsSortedByKey (λ row. row.row) code_cmp rows.now }
+    ensures verdict { result ≡ verdict share mass claims.now rule kind day rows.now }
+    ensures least { NamesLeast (λ row. covers row claims.now rule kind day share mass) rows.now result }
+{
+    if !over(share, mass, limit_ppm(rule)) {
+        return Verdict::Within;
+    }
+    if !in_force(rule, kind, day) {
+        return Verdict::NotInForce;
+    }
+    match first_covering(rows, claims, rule, kind, day, share, mass) {
+        Some(place) => Verdict::Exempt { place },
+        None => Verdict::Breach,
+    }
+}
+
+/// The place of the first row that covers the material.
+fn first_covering(
+    rows: &[Terms],
+    claims: &[Claim],
+    rule: Rule,
+    kind: Kind,
+    day: Day,
+    share: u128,
+    mass: u64,
+) -> Option<usize>
+    ensures { result ≡ position (λ row. covers row claims.now rule kind day share mass) rows.now }
+{
+    rows.iter()
+        .position(|row| covers(row, claims, rule, kind, day, share, mass))
+}

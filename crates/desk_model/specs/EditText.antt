@@ -1,0 +1,115 @@
+-- The text of an edit, by which two edits are the same, and the code of its ticket.
+use Rattle.std.specs.Prelude.{ℕ, Bool, List, [], ◌∷◌, ◌++◌, Option, Some, None, codes, decimal, length, map}
+use Rattle.std.specs.Cmp.Lexicographic.{slice_cmp}
+use Rattle.std.specs.List.{flat_map, join_with_byte}
+use Rattle.std.specs.Option.{unwrap_or}
+use Rattle.std.specs.Ordering.{eq_by_cmp, nat_cmp}
+use Rattle.desk_text.specs.Day.{Date, date_text}
+use Rattle.desk_law.specs.declared.annex.Annex.{Annex}
+use Rattle.desk_law.specs.declared.annex.Annex.TheVariants.{Three, Four}
+use Rattle.desk_law.specs.declared.claim.Claim.{Claim}
+use Rattle.desk_law.specs.declared.terms.Terms.{Terms}
+use Rattle.desk_law.specs.Kind.{kind_code}
+use Rattle.desk_law.specs.KindSet.{kinds_text}
+use Rattle.desk_law.specs.Rule.{rule_code}
+use Rattle.desk_model.specs.declared.edit.Edit.{Edit}
+use Rattle.desk_model.specs.declared.edit.Edit.TheVariants.{Substance, Member, Declare, Part, Line, Unline, Product, Exemption, Unexempt, Candidate, Ship, Unship}
+use Rattle.desk_model.specs.declared.material_decl.MaterialDecl.{MaterialDecl}
+use Rattle.desk_model.specs.declared.part_sort.PartSort.{PartSort}
+use Rattle.desk_model.specs.declared.part_sort.PartSort.TheVariants.{Article, Assembly}
+use Rattle.desk_model.specs.declared.rows.exemption.ExemptionRow.{ExemptionRow}
+use Rattle.desk_model.specs.declared.substance_mass.SubstanceMass.{SubstanceMass}
+use Rattle.desk_model.specs.Declaration.{Declared}
+
+-- fields joined by TAB
+abbrev pub joined : List (List ℕ) → List ℕ
+joined fields = join_with_byte 9 fields
+
+-- an absent value is an empty field
+abbrev pub optional_field : Option (List ℕ) → List ℕ
+optional_field text = unwrap_or text []
+
+abbrev pub optional_number : Option ℕ → List ℕ
+optional_number None = []
+optional_number (Some n) = decimal n
+
+abbrev pub sort_word : PartSort → List ℕ
+sort_word Article = codes "article"
+sort_word Assembly = codes "assembly"
+
+abbrev pub annex_number : Annex → List ℕ
+annex_number Three = codes "3"
+annex_number Four = codes "4"
+
+-- how many there are, and then code and mass of each
+abbrev pub substance_fields : List SubstanceMass → List (List ℕ)
+substance_fields held = decimal (length held) ∷ flat_map (λ one. one.substance ∷ decimal one.mass ∷ []) held
+
+-- how many there are, and then rule and number of each
+abbrev pub claim_fields : List Claim → List (List ℕ)
+claim_fields claims = decimal (length claims) ∷ flat_map (λ claim. rule_code claim.rule ∷ claim.number ∷ []) claims
+
+abbrev pub material_fields : MaterialDecl → List (List ℕ)
+material_fields m = m.code ∷ m.name ∷ decimal m.mass ∷ (substance_fields m.substances ++ claim_fields m.claims)
+
+abbrev pub declaration_fields : Declared → List (List ℕ)
+declaration_fields d =
+    d.supplier ∷ decimal d.number ∷ date_text d.day ∷ decimal (length d.materials) ∷ flat_map material_fields d.materials
+
+abbrev pub exemption_fields : ExemptionRow → List (List ℕ)
+exemption_fields row =
+    row.terms.row
+    ∷ annex_number row.terms.annex
+    ∷ row.terms.number
+    ∷ rule_code row.terms.rule
+    ∷ kinds_text row.terms.kinds
+    ∷ date_text row.terms.first
+    ∷ date_text row.terms.last
+    ∷ optional_number row.terms.floor
+    ∷ optional_number row.terms.cap
+    ∷ row.application
+    ∷ []
+
+-- the edit's word, and its fields. The ticket of an edit that is no declaration is no part of its text
+abbrev pub edit_fields : Edit → List (List ℕ)
+edit_fields (Substance ticket code name cas) = codes "substance" ∷ code ∷ name ∷ optional_field cas ∷ []
+edit_fields (Member ticket substance rule factor) = codes "member" ∷ substance ∷ rule_code rule ∷ decimal factor ∷ []
+edit_fields (Declare declaration) = codes "declare" ∷ declaration_fields declaration
+edit_fields (Part ticket code sort name) = codes "part" ∷ code ∷ sort_word sort ∷ name ∷ []
+edit_fields (Line ticket parent child count) = codes "line" ∷ parent ∷ child ∷ decimal count ∷ []
+edit_fields (Unline ticket parent child) = codes "unline" ∷ parent ∷ child ∷ []
+edit_fields (Product ticket part kind) = codes "product" ∷ part ∷ kind_code kind ∷ []
+edit_fields (Exemption ticket exemption) = codes "exemption" ∷ exemption_fields exemption
+edit_fields (Unexempt ticket row) = codes "unexempt" ∷ row ∷ []
+edit_fields (Candidate ticket substance day) = codes "candidate" ∷ substance ∷ date_text day ∷ []
+edit_fields (Ship ticket product year units) = codes "ship" ∷ product ∷ decimal year ∷ decimal units ∷ []
+edit_fields (Unship ticket product year units) = codes "unship" ∷ product ∷ decimal year ∷ decimal units ∷ []
+
+unfoldable pub edit_text : Edit → List ℕ
+edit_text edit = joined (edit_fields edit)
+
+-- two texts are one
+abbrev pub same_text : List ℕ → List ℕ → Bool
+same_text = eq_by_cmp (slice_cmp nat_cmp)
+
+-- a ticket of a sender's own choice
+abbrev pub sent_code : List ℕ → List ℕ
+sent_code ticket = codes "E:" ++ ticket
+
+-- the ticket of a declaration is its supplier and number
+abbrev pub declared_code : List ℕ → ℕ → List ℕ
+declared_code supplier number = codes "D:" ++ supplier ++ codes ":" ++ decimal number
+
+unfoldable pub ticket_code : Edit → List ℕ
+ticket_code (Substance ticket code name cas) = sent_code ticket
+ticket_code (Member ticket substance rule factor) = sent_code ticket
+ticket_code (Declare declaration) = declared_code declaration.supplier declaration.number
+ticket_code (Part ticket code sort name) = sent_code ticket
+ticket_code (Line ticket parent child count) = sent_code ticket
+ticket_code (Unline ticket parent child) = sent_code ticket
+ticket_code (Product ticket part kind) = sent_code ticket
+ticket_code (Exemption ticket exemption) = sent_code ticket
+ticket_code (Unexempt ticket row) = sent_code ticket
+ticket_code (Candidate ticket substance day) = sent_code ticket
+ticket_code (Ship ticket product year units) = sent_code ticket
+ticket_code (Unship ticket product year units) = sent_code ticket

@@ -1,0 +1,39 @@
+-- The findings of a part: what the law may ask about in it, on whatever day.
+use Rattle.std.specs.Prelude.{ℕ, List, ◌++◌, filter, length, map, sum_by}
+use Rattle.std.specs.List.{flat_map}
+use Rattle.desk_law.specs.declared.rule.Rule.{Rule}
+use Rattle.desk_law.specs.Rule.{all_rules}
+use Rattle.desk_model.specs.declared.rows.material.MaterialRow.{MaterialRow}
+use Rattle.desk_model.specs.declared.rows.part.PartRow.{PartRow}
+use Rattle.desk_model.specs.Above.{is_above}
+use Rattle.desk_model.specs.Articles.{articles_in, materials_in}
+use Rattle.desk_model.specs.Lists.{Lists}
+use Rattle.desk_model.specs.Share.{is_over_limit}
+
+pub data Finding : Type 0 where
+  -- the material is over the rule's limit
+  over : List ℕ → Rule → Finding
+  -- the substance is above in the article
+  above : List ℕ → List ℕ → Finding
+
+-- the rules whose limit the material is over
+abbrev pub rules_over : Lists → MaterialRow → List Rule
+rules_over t material = filter (λ rule. is_over_limit t rule material) all_rules
+
+-- the findings in a material, in order of the rule's number
+abbrev pub findings_on : Lists → MaterialRow → List Finding
+findings_on t material = map (over material.code) (rules_over t material)
+
+-- the findings on an article, in order of the substance
+abbrev pub findings_of_article : Lists → PartRow → List Finding
+findings_of_article t article =
+    map (λ candidate. above article.code candidate.substance)
+    (filter (λ candidate. is_above t article.code candidate.substance) t.candidates)
+
+-- the findings of a part: those in the materials that it reaches, and those on the articles that it reaches or is
+unfoldable pub findings : Lists → List ℕ → List Finding
+findings t part = flat_map (findings_on t) (materials_in t part) ++ flat_map (findings_of_article t) (articles_in t part)
+
+-- how many findings all parts have together
+unfoldable pub finding_count : Lists → ℕ
+finding_count t = sum_by (λ part. length (findings t part.code)) t.parts

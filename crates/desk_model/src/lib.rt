@@ -1,0 +1,32 @@
+//! The desk's model: the rows of its tables, edits and refusals, and in `specs/` what each question and edit means.
+#![tactic(auto)]
+
+mod decl_error;
+mod declaration;
+mod edit;
+mod exemption;
+pub mod limits;
+mod list_of;
+mod material_decl;
+mod part_sort;
+mod row;
+mod rows;
+mod rule_fault;
+mod substance_mass;
+mod within;
+
+pub use decl_error::DeclError;
+pub use declaration::Declaration;
+pub use edit::Edit;
+pub use exemption::Exemption;
+pub use list_of::{Codes, ListOf};
+pub use material_decl::MaterialDecl;
+pub use part_sort::PartSort;
+pub use row::Row;
+pub use rows::{
+    CandidateRow, ExemptionRow, LineRow, MaterialRow, MemberRow, PartRow, ProductRow, ShipmentRow,
+    SubstanceRow, TicketRow,
+};
+pub use rule_fault::RuleFault;
+pub use substance_mass::SubstanceMass;
+pub use within::{Count, Factor, Units, Within, Year};

@@ -1,0 +1,36 @@
+ghost use Rattle.desk_law.specs.Rule.{rule_number};
+
+use desk_law::Rule;
+use desk_rows::Keyed;
+use desk_text::{Code, OutOfMemory};
+use std::alloc::Global;
+use std::cmp::Ordering;
+
+/// What a rule counts of a substance: table 2. What has no row counts nothing.
+#[derive(Clone, Copy, Debug, PartialEq, Eq)]
+pub struct MemberRow {
+    /// The substance, the key's first part.
+    pub substance: Code,
+    /// The rule, the key's second part.
+    pub rule: Rule,
+    /// How much of the substance's mass the rule counts, in millionths: 1 to 1,000,000.
+    pub factor: u32,
+}
+
+impl Keyed for MemberRow {
+    type Key = (Code, u8);
+
+    ghost key = { λ row. (row.substance, rule_number row.rule) };
+
+    fn compare(&self, sought: &(Code, u8)) -> Ordering {
+        (self.substance, self.rule.number()).cmp(sought)
+    }
+
+    fn compare_row(&self, other: &MemberRow) -> Ordering {
+        (self.substance, self.rule.number()).cmp(&(other.substance, other.rule.number()))
+    }
+
+    fn copied(&self, _alloc: Global) -> Result<MemberRow, OutOfMemory> {
+        Ok(*self)
+    }
+}

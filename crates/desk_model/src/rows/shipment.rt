@@ -1,0 +1,33 @@
+use desk_rows::Keyed;
+use desk_text::{Code, OutOfMemory};
+use std::alloc::Global;
+use std::cmp::Ordering;
+
+/// How much of a product was placed on the market in a year: table 9.
+#[derive(Clone, Copy, Debug, PartialEq, Eq)]
+pub struct ShipmentRow {
+    /// The calendar year from 2008 to 2099, the key's first part.
+    pub year: u16,
+    /// The product, the key's second part.
+    pub product: Code,
+    /// How many units: 1 to 1,000,000,000,000.
+    pub units: u64,
+}
+
+impl Keyed for ShipmentRow {
+    type Key = (u16, Code);
+
+    ghost key = { λ row. (row.year, row.product) };
+
+    fn compare(&self, sought: &(u16, Code)) -> Ordering {
+        (self.year, self.product).cmp(sought)
+    }
+
+    fn compare_row(&self, other: &ShipmentRow) -> Ordering {
+        (self.year, self.product).cmp(&(other.year, other.product))
+    }
+
+    fn copied(&self, _alloc: Global) -> Result<ShipmentRow, OutOfMemory> {
+        Ok(*self)
+    }
+}

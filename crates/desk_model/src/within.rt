@@ -1,0 +1,56 @@
+ghost use Rattle.std.specs.Prelude.{◌≡◌, ◌≤◌, ◌&&◌, Some, None, nat_le, if◌then◌else◌};
+
+use crate::limits::{COUNT_LIMIT, FIRST_YEAR, LAST_YEAR, UNITS_LIMIT, WHOLE_FACTOR};
+use std::marker::Model;
+
+/// A whole number from `LEAST` to `GREATEST`. Contracts see the number.
+#[derive(Clone, Copy, Debug, PartialEq, Eq, PartialOrd, Ord)]
+pub struct Within<const LEAST: u64, const GREATEST: u64> {
+    number: u64,
+}
+
+/// How many of the child one of the parent holds: 1 to 1,000,000.
+pub type Count = Within<1, COUNT_LIMIT>;
+
+/// How much of a substance a rule counts, in millionths of its mass: 0 to 1,000,000.
+pub type Factor = Within<0, WHOLE_FACTOR>;
+
+/// The calendar year of a shipment: 2008 to 2099.
+pub type Year = Within<FIRST_YEAR, LAST_YEAR>;
+
+/// How many units an edit ships or takes off: 1 to 1,000,000,000,000.
+pub type Units = Within<1, UNITS_LIMIT>;
+
+impl<const LEAST: u64, const GREATEST: u64> Model for Within<LEAST, GREATEST> {
+    ghost use Rattle.std.specs.Prelude.{ℕ, ◌≤◌};
+
+    ghost Value = { ℕ };
+
+    ghost view = { λ w. w.number };
+
+    ghost invariant = { λ w. (LEAST ≤ w.number) × (w.number ≤ GREATEST) };
+
+    ghost inverse = { λ n. record { number = n } };
+}
+
+impl<const LEAST: u64, const GREATEST: u64> Within<LEAST, GREATEST> {
+    /// The number, unless it is out of the range.
+    pub fn new(number: u64) -> Option<Within<LEAST, GREATEST>>
+        ensures { result ≡ (if nat_le LEAST number && nat_le number GREATEST then Some number else None) }
+    {
+        if LEAST <= number && number <= GREATEST {
+            Some(Within { number })
+        } else {
+            None
+        }
+    }
+
+    /// The number.
+    pub fn get(self) -> u64
+        ensures value { result ≡ self.entry }
+        ensures least { LEAST ≤ self.entry }
+        ensures greatest { self.entry ≤ GREATEST }
+    {
+        self.number
+    }
+}

@@ -1,0 +1,28 @@
+ghost use Rattle.std.specs.Prelude.{◌≡◌, IfOk};
+
+use desk_text::OutOfMemory;
+use std::alloc::Global;
+use std::cmp::Ordering;
+
+/// A row of a table, told from the table's other rows by its key.
+pub trait Keyed: Drop {
+    /// What tells rows apart; its order is the table's order.
+    type Key: Ord;
+
+    // The row's key.
+    ghost key: { Self → Self.Key };
+
+    /// How the row's key stands to `sought`.
+    fn compare(&self, sought: &Self::Key) -> Ordering
+        ensures { result ≡ Self.Key.cmp (key self.now) sought.now };
+
+    /// How the row's key stands to the key of `other`.
+    fn compare_row(&self, other: &Self) -> Ordering
+        ensures { result ≡ Self.Key.cmp (key self.now) (key other.now) };
+
+    /// The same row once more.
+    fn copied(&self, alloc: Global) -> Result<Self, OutOfMemory>
+    where
+        Self: Sized,
+        ensures { IfOk result (λ row. row ≡ self.now) };
+}

@@ -1,0 +1,150 @@
+ghost use Rattle.std.specs.Prelude.{◌≡◌, ◌+◌, ◌<◌, ◌≤◌, ◌^◌, [], length, vec_len, vec_capacity, option_copied, IfOk, IsNone, IsSome, IsOk, OnOk, OnErr, MatchResult};
+ghost use Rattle.desk_rows.specs.Rows.{IsByKey, row_of, with_row, with_rows, without_row};
+ghost use Rattle.desk_rows.specs.Place.{StandsAt, StandsNowhere, Replaces, Enters};
+
+use crate::keyed::Keyed;
+use desk_text::OutOfMemory;
+use std::alloc::Global;
+use std::marker::Model;
+
+/// Rows in the order of their keys, each key once. Contracts see the list of the rows.
+#[derive(Drop)]
+pub struct Table<R: Keyed> {
+    rows: Vec<R>,
+}
+
+impl<R: Keyed> Model for Table<R> {
+    ghost use Rattle.std.specs.Prelude.{List};
+    ghost use Rattle.desk_rows.specs.Rows.{IsByKey};
+
+    ghost Value = { List R };
+
+    ghost view = { λ t. t.rows.items };
+
+    ghost invariant = { λ t. IsByKey R.key R.Key.cmp t.rows.items };
+}
+
+impl<R: Keyed> Table<R> {
+    /// No rows. It takes no memory yet.
+    pub fn new(alloc: Global) -> Table<R>
+        ensures { result ≡ [] }
+    {
+        Table {
+            rows: Vec::new(alloc),
+        }
+    }
+
+    /// The rows, in the order of their keys.
+    pub fn as_slice(&self) -> &[R]
+        ensures rows { result.now ≡ self.now }
+        ensures by_key { IsByKey R.key R.Key.cmp self.now }
+    {
+        self.rows.as_slice()
+    }
+
+    /// The row with this key.
+    pub fn get(&self, key: &R::Key) -> Option<&R>
+        ensures { option_copied result ≡ row_of R.key R.Key.cmp key.now self.now }
+    {
+        match self.place(key) {
+            Ok(at) => Some(&self.rows[at]),
+            Err(_) => None,
+        }
+    }
+
+    /// How many rows the table would have with this row put in.
+    pub fn len_with(&self, row: &R) -> usize
+        requires { length self.now < 2 ^ 63 }
+        ensures { result ≡ length (with_row R.key R.Key.cmp row.now self.now) }
+    {
+        match place_in(self.rows.as_slice(), row) {
+            Ok(_) => self.rows.len(),
+            Err(_) => self.rows.len() + 1,
+        }
+    }
+
+    /// Puts the row in its place: a row with the same key is replaced, and that takes no memory.
+    pub fn put(&mut self, row: R) -> Result<(), OutOfMemory>
+        ensures ok { OnOk result (self.new ≡ with_row R.key R.Key.cmp row self.old) }
+        ensures err { OnErr result (self.new ≡ self.old) }
+        ensures replaces { IsSome (row_of R.key R.Key.cmp (R.key row) self.old) → IsOk result }
+
+        // A row that wasn't there, put in and taken out again, leaves the table as it was.
+        ensures undone { OnOk result (IsNone (row_of R.key R.Key.cmp (R.key row) self.old)
+            → without_row R.key R.Key.cmp (R.key row) self.new ≡ self.old) }
+    {
+        match place_in(self.rows.as_slice(), &row) {
+            Ok(at) => self.rows[at] = row,
+            Err(at) => self.rows.insert(at, row)?,
+        }
+        Ok(())
+    }
+
+    /// Puts in each of the rows, one after the other, or none of them.
+    pub fn put_all(&mut self, more: Vec<R>) -> Result<(), OutOfMemory>
+        ensures ok { OnOk result (self.new ≡ with_rows R.key R.Key.cmp more.items self.old) }
+        ensures err { OnErr result (self.new ≡ self.old) }
+    {
+        self.rows.reserve(more.len())?;
+        for row in more {
+            put_reserved(&mut self.rows, row);
+        }
+        Ok(())
+    }
+
+    /// Takes the row with this key out, and gives it.
+    pub fn take(&mut self, key: &R::Key) -> Option<R>
+        ensures taken { result ≡ row_of R.key R.Key.cmp key.now self.old }
+        ensures rest { self.new ≡ without_row R.key R.Key.cmp key.now self.old }
+    {
+        match self.place(key) {
+            Ok(at) => Some(self.rows.remove(at)),
+            Err(_) => None,
+        }
+    }
+
+    /// The same table once more.
+    pub fn copied(&self, alloc: Global) -> Result<Table<R>, OutOfMemory>
+        ensures { IfOk result (λ table. table ≡ self.now) }
+    {
+        let mut rows = Vec::with_capacity(alloc, self.rows.len())?;
+        for row in self.rows.as_slice() {
+            rows.push_reserved(row.copied(alloc)?);
+        }
+        Ok(Table { rows })
+    }
+
+    // The place of the row with this key, or else the place where it would go.
+    fn place(&self, key: &R::Key) -> Result<usize, usize>
+        ensures { MatchResult result (StandsAt R.key R.Key.cmp key.now self.now) (StandsNowhere R.key R.Key.cmp key.now self.now) }
+    {
+        let rows = self.rows.as_slice();
+        rows.binary_search_by(|row| row.compare(key))
+    }
+}
+
+// The place of the row with the same key, or else the place where the row would go.
+fn place_in<R: Keyed>(rows: &[R], row: &R) -> Result<usize, usize>
+    requires { IsByKey R.key R.Key.cmp rows.now }
+    ensures { MatchResult result (Replaces R.key R.Key.cmp row.now rows.now) (Enters R.key R.Key.cmp row.now rows.now) }
+{
+    rows.binary_search_by(|kept| kept.compare_row(row))
+}
+
+// Puts the row in its place, where room for one more row was made before.
+fn put_reserved<R: Keyed>(rows: &mut Vec<R>, row: R)
+    requires by_key { IsByKey R.key R.Key.cmp rows.old.items }
+    requires room { vec_len rows.old < vec_capacity rows.old }
+    ensures rows { rows.new.items ≡ with_row R.key R.Key.cmp row rows.old.items }
+    ensures by_key { IsByKey R.key R.Key.cmp rows.new.items }
+    ensures len { vec_len rows.new ≤ vec_len rows.old + 1 }
+    ensures capacity { vec_capacity rows.new ≡ vec_capacity rows.old }
+{
+    match place_in(rows.as_slice(), &row) {
+        Ok(at) => rows[at] = row,
+        Err(at) => {
+            let entered = rows.insert(at, row);
+            prove!(entered.is_ok());
+        }
+    }
+}

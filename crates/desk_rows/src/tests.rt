@@ -1,0 +1,107 @@
+use crate::{Keyed, Table};
+use desk_text::OutOfMemory;
+use std::alloc::Global;
+use std::cmp::Ordering;
+use std::test::Fail;
+
+#[derive(Clone, Copy, Debug, PartialEq, Eq)]
+struct Price {
+    item: u8,
+    cents: u32,
+}
+
+impl Keyed for Price {
+    type Key = u8;
+
+    ghost key = { λ row. row.item };
+
+    fn compare(&self, sought: &u8) -> Ordering {
+        self.item.cmp(sought)
+    }
+
+    fn compare_row(&self, other: &Price) -> Ordering {
+        self.item.cmp(&other.item)
+    }
+
+    fn copied(&self, _alloc: Global) -> Result<Price, OutOfMemory> {
+        Ok(*self)
+    }
+}
+
+fn cost(item: u8, cents: u32) -> Price {
+    Price { item, cents }
+}
+
+// Items 2, 4 and 6, put in out of order.
+fn three_prices(alloc: Global) -> Result<Table<Price>, OutOfMemory> {
+    let mut table = Table::new(alloc);
+    for (item, cents) in [(4, 40), (6, 60), (2, 20)] {
+        table.put(cost(item, cents))?;
+    }
+    Ok(table)
+}
+
+#[test]
+fn rows_stand_in_the_order_of_their_keys(rt: HostRuntime) -> Result<(), Fail> {
+    let table = three_prices(rt.alloc())?;
+    let rows = [cost(2, 20), cost(4, 40), cost(6, 60)];
+    assert_eq!(rt; table.as_slice(), rows.as_slice());
+    Ok(())
+}
+
+#[test]
+fn a_kept_key_is_found_and_no_other(rt: HostRuntime) -> Result<(), Fail> {
+    let table = three_prices(rt.alloc())?;
+    for (item, found) in [
+        (1, None),
+        (2, Some(20)),
+        (3, None),
+        (4, Some(40)),
+        (6, Some(60)),
+        (7, None),
+    ] {
+        assert_eq!(rt; table.get(&item).map(|row| row.cents), found);
+    }
+    Ok(())
+}
+
+#[test]
+fn a_put_at_a_kept_key_replaces_the_row(rt: HostRuntime) -> Result<(), Fail> {
+    let mut table = three_prices(rt.alloc())?;
+    assert_eq!(rt; table.len_with(&cost(4, 44)), 3);
+    table.put(cost(4, 44))?;
+    let rows = [cost(2, 20), cost(4, 44), cost(6, 60)];
+    assert_eq!(rt; table.as_slice(), rows.as_slice());
+    Ok(())
+}
+
+#[test]
+fn a_taken_row_is_given_once(rt: HostRuntime) -> Result<(), Fail> {
+    let mut table = three_prices(rt.alloc())?;
+    assert_eq!(rt; table.len_with(&cost(3, 30)), 4);
+    assert_eq!(rt; table.take(&6), Some(cost(6, 60)));
+    assert_eq!(rt; table.take(&6), None);
+    let rows = [cost(2, 20), cost(4, 40)];
+    assert_eq!(rt; table.as_slice(), rows.as_slice());
+    Ok(())
+}
+
+#[test]
+fn many_rows_go_in_at_once(rt: HostRuntime) -> Result<(), Fail> {
+    let alloc = rt.alloc();
+    let mut table = three_prices(alloc)?;
+    let more = [cost(5, 50), cost(2, 22), cost(5, 55)].to_vec(alloc)?;
+    table.put_all(more)?;
+    let rows = [cost(2, 22), cost(4, 40), cost(5, 55), cost(6, 60)];
+    assert_eq!(rt; table.as_slice(), rows.as_slice());
+    Ok(())
+}
+
+#[test]
+fn a_copy_has_the_same_rows(rt: HostRuntime) -> Result<(), Fail> {
+    let alloc = rt.alloc();
+    let table = three_prices(alloc)?;
+    let copy = table.copied(alloc)?;
+    assert_eq!(rt; copy.as_slice(), table.as_slice());
+    Ok(())
+}

@@ -1,0 +1,32 @@
+-- The bytes that were read stand for all that the console has left.
+use Rattle.std.proofs.Common.{◌≡◌, ◌∙◌, ap, ℕ, IfSome, Result, Bool, true, false, nat_lt, refl, length-append, ◌+◌, ◌≤◌, List, [], ◌++◌, length, Option, None, Some, arith}
+use Rattle.std.proofs.lemmas.Bool.{ltb-true, ltb-false, lt-ltb}
+use Rattle.std.proofs.lemmas.List.{append-nil}
+use Rattle.std.specs.Io.KnownBytes.{Consumes, IsAtEnd}
+use Rattle.desk_top.specs.Check.{Agrees, checked}
+use Rattle.desk_top.specs.declared.check.CheckFault.{CheckFault}
+use Rattle.desk_top.specs.declared.check.TheConstants.{INPUT_LIMIT}
+use Rattle.desk_top.specs.declared.command.Check.{Check}
+use Rattle.desk_top.proofs.check.check_input.Goals as goal
+
+-- all that a link tells was read, or enough of it to know that it is too long
+read-enough : (check : Check) (old new : Option (List ℕ)) (bytes : List ℕ) (result : Result (List ℕ) CheckFault)
+    → Consumes old new bytes → (length bytes ≤ INPUT_LIMIT → IsAtEnd new) → Agrees result (checked check bytes)
+    → IfSome old (λ told. Agrees result (checked check told))
+unfolding checked
+read-enough check None new bytes result taken end agrees = tt
+read-enough check (Some told) None bytes result taken end agrees = absurd taken
+read-enough check (Some told) (Some left) bytes result taken end agrees = by (nat_lt INPUT_LIMIT (length bytes)) refl
+  where
+    by : (long : Bool) → nat_lt INPUT_LIMIT (length bytes) ≡ long → Agrees result (checked check told)
+    by false short =
+        let none : left ≡ [] = end (ltb-false INPUT_LIMIT (length bytes) short) in
+        let same : told ≡ bytes = taken ∙ ap (λ (rest : List ℕ). bytes ++ rest) none ∙ append-nil bytes in
+        rw same agrees
+    by true long =
+        let more : length told ≡ length bytes + length left = ap length taken ∙ length-append bytes left in
+        let longer : nat_lt INPUT_LIMIT (length told) ≡ true = lt-ltb INPUT_LIMIT (length told) (omega (arith, ltb-true INPUT_LIMIT (length bytes) long)) in
+        rw longer (rw long at agrees)
+
+pub returns-clause-answer : goal.returns-clause-answer
+returns-clause-answer g c = λ _. read-enough _ _ _ _ _ c.in_ok-bytes.ensures.bytes c.in_ok-bytes.ensures.whole (rw c.as_slice.ensures at c.check_bytes.ensures.answer)

@@ -1,0 +1,45 @@
+-- What the program answers: how it ends, and all that it writes.
+use Rattle.std.specs.Prelude.{◌≡◌, ℕ, ◌⊎◌, if◌then◌else◌, ◌==◌, List, codes, Option, None, Some, Result, Ok, Err}
+use Rattle.std.specs.Io.KnownBytes.{Appends}
+use Rattle.desk_top.specs.Check.{checked}
+use Rattle.desk_top.specs.declared.command.Check.{Check}
+use Rattle.desk_top.specs.declared.refusal.Refusal.{Refusal}
+use Rattle.desk_top.specs.declared.refusal.Refusal.TheVariants.{InputTooLong, NotADeclaration}
+use Rattle.desk_top.specs.declared.status.Status.{Status}
+use Rattle.desk_top.specs.declared.status.Status.TheVariants.{Done, BadWords, ConsoleFault, Refused, OutOfMemory}
+
+-- the exit statuses by number; there are no others
+abbrev pub status_code : Status → ℕ
+status_code Done = 0
+status_code BadWords = 2
+status_code ConsoleFault = 3
+status_code Refused = 6
+status_code OutOfMemory = 8
+
+-- the line of a refusal
+abbrev pub refusal_line : Refusal → List ℕ
+refusal_line InputTooLong = codes "refused input-too-long\n"
+refusal_line NotADeclaration = codes "bad-declaration not-a-declaration\n"
+
+-- how a command ends, and the whole text that it writes
+pub record Answer : Type 0 where
+  pub status : Status
+  pub text : List ℕ
+
+abbrev pub answer_of_check : Result (List ℕ) Refusal → Answer
+answer_of_check (Ok text) = record { status = Done; text = text }
+answer_of_check (Err refusal) = record { status = Refused; text = refusal_line refusal }
+
+-- the answer to a command for the bytes that come
+abbrev pub answer_to : Option Check → List ℕ → Answer
+answer_to None bytes = record { status = BadWords; text = codes "desk: words\n" }
+answer_to (Some check) bytes = answer_of_check (checked check bytes)
+
+-- the program ended with this status, and made the old output the new one, as the answer says: or it
+-- met a fault of the console, or had no memory
+pub record Answers (answer : Answer) (ended : ℕ) (old new : Option (List ℕ)) (rose : Type 0) : Type 0 where
+  pub status : (ended ≡ status_code answer.status) ⊎ (ended ≡ status_code ConsoleFault) ⊎ (ended ≡ status_code OutOfMemory)
+  -- with success the whole text was written, whatever else happened
+  pub whole : ended ≡ status_code Done → Appends old new answer.text
+  -- where no fault was counted, the whole text or line was written in any case
+  pub steady : (rose → ⊥) → Appends old new (if ended == status_code OutOfMemory then codes "desk: memory\n" else answer.text)

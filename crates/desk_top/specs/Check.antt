@@ -1,0 +1,41 @@
+-- What `check` writes for the bytes of a declaration.
+use Rattle.std.specs.Prelude.{◌≡◌, ℕ, if◌then◌else◌, nat_lt, List, ◌++◌, length, codes, Result, Ok, Err}
+use Rattle.std.specs.Fmt.{decimal}
+use Rattle.desk_text.specs.Day.{date_text}
+use Rattle.desk_law.specs.Kind.{kind_code}
+use Rattle.desk_declare.specs.Head.{declaration_of}
+use Rattle.desk_declare.specs.declared.head.Head.{Head}
+use Rattle.desk_declare.specs.declared.read.DeclareFault.{DeclareFault}
+use Rattle.desk_top.specs.declared.check.CheckFault.{CheckFault}
+use Rattle.desk_top.specs.declared.check.CheckFault.TheVariants.{Refused, Failed, OutOfMemory}
+use Rattle.desk_top.specs.declared.check.TheConstants.{INPUT_LIMIT}
+use Rattle.desk_top.specs.declared.command.Check.{Check}
+use Rattle.desk_top.specs.declared.refusal.Refusal.{Refusal}
+use Rattle.desk_top.specs.declared.refusal.Refusal.TheVariants.{InputTooLong, NotADeclaration}
+
+-- the first line: what was asked, and which declaration was judged
+abbrev pub check_line : Check → Head → List ℕ
+check_line check head =
+    codes "check " ++ date_text check.day ++ codes " kind " ++ kind_code check.kind
+    ++ codes " supplier " ++ head.supplier ++ codes " declaration " ++ decimal head.number ++ codes "\n"
+
+-- the whole text for a declaration
+unfoldable pub check_text : Check → Head → List ℕ
+check_text check head = check_line check head ++ codes "compliant\n"
+
+abbrev pub text_or_refusal : Check → Result Head DeclareFault → Result (List ℕ) Refusal
+text_or_refusal check (Ok head) = Ok (check_text check head)
+text_or_refusal check (Err fault) = Err NotADeclaration
+
+-- the text for the bytes of an input, or why there is none
+unfoldable pub checked : Check → List ℕ → Result (List ℕ) Refusal
+checked check bytes =
+    if nat_lt INPUT_LIMIT (length bytes) then Err InputTooLong
+    else text_or_refusal check (declaration_of bytes)
+
+-- a call's answer is the one that is meant, unless memory was wanting
+abbrev pub Agrees : Result (List ℕ) CheckFault → Result (List ℕ) Refusal → Type 0
+Agrees (Ok text) meant = meant ≡ Ok text
+Agrees (Err (Refused refusal)) meant = meant ≡ Err refusal
+Agrees (Err Failed) meant = ⊥
+Agrees (Err OutOfMemory) meant = Unit {0}

@@ -1,0 +1,32 @@
+ghost use Rattle.std.specs.Prelude.{◌≡◌};
+ghost use Rattle.desk_top.specs.Answer.{status_code};
+
+/// How the program ends.
+#[derive(Clone, Copy, Debug, PartialEq, Eq)]
+pub enum Status {
+    /// The whole answer was written. Status 0.
+    Done,
+    /// The words are no command line. Status 2.
+    BadWords,
+    /// The console refused a call. Status 3.
+    ConsoleFault,
+    /// The input was read and refused; the line written says why. Status 6.
+    Refused,
+    /// There was no memory. Status 8.
+    OutOfMemory,
+}
+
+impl Status {
+    /// The number of the exit status.
+    pub fn code(self) -> u8
+        ensures { result ≡ status_code self }
+    {
+        match self {
+            Status::Done => 0,
+            Status::BadWords => 2,
+            Status::ConsoleFault => 3,
+            Status::Refused => 6,
+            Status::OutOfMemory => 8,
+        }
+    }
+}
