@@ -31,6 +31,18 @@ fits_status status (Some Other) = false
 abbrev pub head_line : List ℕ → List ℕ
 head_line text = text ++ crlf_bytes
 
+-- the phrase that goes with a status (RFC 9110, section 15)
+unfoldable pub phrase_of : ℕ → List ℕ
+phrase_of status = unwrap_or (reason_phrase status) []
+
+unfoldable pub status_line : ℕ → List ℕ
+status_line status = head_line (codes "HTTP/1.1 " ++ code_digits status ++ codes " " ++ phrase_of status)
+
+-- what the body is, and how long
+unfoldable pub body_lines : ℕ → List ℕ
+body_lines len =
+    head_line (codes "Content-Type: text/plain; charset=utf-8") ++ head_line (codes "Content-Length: " ++ decimal len)
+
 abbrev pub allow_line : Option Method → List ℕ
 allow_line None = []
 allow_line (Some Get) = head_line (codes "Allow: GET")
@@ -41,23 +53,10 @@ abbrev pub close_line : Bool → List ℕ
 close_line true = head_line (codes "Connection: close")
 close_line false = []
 
--- the phrase that goes with a status (RFC 9110, section 15)
-unfoldable pub phrase_of : ℕ → List ℕ
-phrase_of status = unwrap_or (reason_phrase status) []
-
--- the head of a reply with a body of so many bytes, and the empty line that ends it
-unfoldable pub reply_head : ℕ → ℕ → Option Method → Bool → List ℕ
-reply_head status body_len allow close =
-    head_line (codes "HTTP/1.1 " ++ code_digits status ++ codes " " ++ phrase_of status)
-    ++ head_line (codes "Content-Type: text/plain; charset=utf-8")
-    ++ head_line (codes "Content-Length: " ++ decimal body_len)
-    ++ allow_line allow
-    ++ close_line close
-    ++ crlf_bytes
-
--- a reply with this body
-abbrev pub reply : ℕ → List ℕ → Option Method → Bool → List ℕ
-reply status body allow close = reply_head status (length body) allow close ++ body
+-- a reply: the lines of its head, an empty line, and its body
+unfoldable pub reply : ℕ → List ℕ → Option Method → Bool → List ℕ
+reply status body allow close =
+    status_line status ++ body_lines (length body) ++ allow_line allow ++ close_line close ++ crlf_bytes ++ body
 
 -- the status of a refusal whose body is fixed
 abbrev pub status_of : Fixed → ℕ

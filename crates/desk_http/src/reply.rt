@@ -1,16 +1,19 @@
-ghost use Rattle.std.specs.Prelude.{◌≡◌, ◌++◌, IsTrue, IfOk, OnOk, OnErr};
-ghost use Rattle.std.specs.String.{string_bytes};
-ghost use Rattle.desk_http.specs.Reply.{is_reply_status, fits_status, phrase_of, allow_line, close_line, reply_head, reply};
+ghost use Rattle.std.specs.Prelude.{◌≡◌, ◌++◌, IsTrue, OnOk, OnErr};
+ghost use Rattle.desk_http.specs.Reply.{is_reply_status, fits_status, phrase_of, status_line, body_lines, allow_line, close_line, reply};
 
 use crate::method::Method;
-use desk_text::{Bytes, OutOfMemory};
+use desk_text::{Bytes, OutOfMemory, push_u128};
 use http::StatusCode;
-use std::alloc::{AllocError, Global};
+use std::alloc::Global;
+
+/// Room for the head of any reply.
+const MOST_HEAD_BYTES: usize = 160;
 
 /// Appends a reply to `out`, or leaves it as it was where memory runs out.
 ///
 /// The status is one of the ten that the desk answers. 405 allows one of the two methods that the desk
 /// knows, and no other status allows one. Where `close` is set, the reply says that the connection ends.
+#[tactic(auto, unfolding(crate::specs::Reply::reply))]
 pub fn write_reply(
     alloc: Global,
     status: StatusCode,
@@ -24,29 +27,35 @@ pub fn write_reply(
     ensures ok { OnOk result (out.new ≡ out.old ++ reply status body.now allow close) }
     ensures err { OnErr result (out.new ≡ out.old) }
 {
-    let mut reply = reply_head(alloc, status, body.len(), allow, close)?.into_bytes();
-    reply.extend_from_slice(body)?;
+    let room = body.len().saturating_add(MOST_HEAD_BYTES);
+    let mut reply = Bytes::from(Vec::with_capacity(alloc, room)?);
+    push_status_line(&mut reply, status)?;
+    push_body_lines(&mut reply, body.len())?;
+    reply.push_all(allow_line(allow).as_bytes())?;
+    reply.push_all(close_line(close).as_bytes())?;
+    reply.push_all(b"\r\n")?;
+    reply.push_all(body)?;
     out.push_all(reply.as_slice())
 }
 
-/// The head of a reply with a body of so many bytes.
-fn reply_head(
-    alloc: Global,
-    status: StatusCode,
-    body_len: usize,
-    allow: Option<Method>,
-    close: bool,
-) -> Result<String, AllocError>
-    ensures { IfOk result (λ head. string_bytes head ≡ reply_head status body_len allow close) }
+/// The line that a reply begins with.
+fn push_status_line(reply: &mut Bytes, status: StatusCode) -> Result<(), OutOfMemory>
+    ensures { OnOk result (reply.new ≡ reply.old ++ status_line status) }
 {
-    format!(in alloc;
-        "HTTP/1.1 {} {}\r\nContent-Type: text/plain; charset=utf-8\r\nContent-Length: {}\r\n{}{}\r\n",
-        status.as_str(),
-        phrase_of(status),
-        body_len,
-        allow_line(allow),
-        close_line(close)
-    )
+    reply.push_all(b"HTTP/1.1 ")?;
+    reply.push_all(status.as_str().as_bytes())?;
+    reply.push_all(b" ")?;
+    reply.push_all(phrase_of(status).as_bytes())?;
+    reply.push_all(b"\r\n")
+}
+
+/// The lines that say what the body is and how long.
+fn push_body_lines(reply: &mut Bytes, body_len: usize) -> Result<(), OutOfMemory>
+    ensures { OnOk result (reply.new ≡ reply.old ++ body_lines body_len) }
+{
+    reply.push_all(b"Content-Type: text/plain; charset=utf-8\r\nContent-Length: ")?;
+    push_u128(reply, body_len as u128)?;
+    reply.push_all(b"\r\n")
 }
 
 /// The phrase that goes with a status.
