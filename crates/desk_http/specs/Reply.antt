@@ -14,13 +14,7 @@ abbrev pub is_reply_status : ℕ → Bool
 is_reply_status status =
     list_any (λ s. s == status) (200 ∷ 400 ∷ 404 ∷ 405 ∷ 409 ∷ 411 ∷ 413 ∷ 431 ∷ 503 ∷ 507 ∷ [])
 
--- one of the two methods that the desk knows
-abbrev pub is_known : Method → Bool
-is_known Get = true
-is_known Post = true
-is_known Other = false
-
--- 405 names the method that is allowed, and no other status does
+-- 405 names the method that is allowed, one of the two that the desk knows, and no other status names one
 abbrev pub fits_status : ℕ → Option Method → Bool
 fits_status status None = not (status == 405)
 fits_status status (Some Get) = status == 405

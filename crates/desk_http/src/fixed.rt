@@ -1,5 +1,5 @@
-ghost use Rattle.std.specs.Prelude.{◌≡◌, IsTrue};
-ghost use Rattle.desk_http.specs.Reply.{fits_status, status_of, allow_of, fixed_reply};
+ghost use Rattle.std.specs.Prelude.{◌≡◌, ◌≢◌};
+ghost use Rattle.desk_http.specs.Reply.{allow_of, fixed_reply};
 
 use crate::method::Method;
 
@@ -53,9 +53,9 @@ macro_rules! reply_text {
 }
 
 /// The bytes of a refusal's reply, without memory: those that `write_reply` writes for its status,
-/// its body and the method that it allows.
+/// its body and the method that it allows, which is one of the two that the desk knows.
 pub fn fixed_reply(reply: Fixed, close: bool) -> &'static [u8]
-    requires { IsTrue (fits_status (status_of reply) (allow_of reply)) }
+    requires { allow_of reply ≢ Some Method.Other }
     ensures { result.now ≡ fixed_reply reply close }
 {
     match reply {

@@ -14,8 +14,10 @@ use crate::taken::Taken;
 
 /// Takes the request at the front of a buffer, or says why there is none.
 ///
-/// It takes no memory. A buffer that begins so gives the same answer whatever bytes follow, but for
-/// `NotYet`: a caller that gets it reads more and asks again, and does best to wait for a line end first.
+/// It takes no memory. What it says of a buffer it says of every longer one that begins so, but for
+/// `NotYet`: then the caller reads more and asks again. Each call reads the head anew. A caller whose
+/// bytes come in small pieces needn't ask before another line end has come, 8,192 bytes are there, or the
+/// input has ended, since no head ends elsewhere.
 pub fn take_request(buffer: &[u8]) -> Taken
     ensures { Takes buffer.now result }
 {

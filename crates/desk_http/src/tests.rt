@@ -60,7 +60,7 @@ fn heads() -> [Row; 15] {
 }
 
 #[rattlefmt::skip]
-fn bounds() -> [Row; 14] {
+fn bounds() -> [Row; 15] {
     [
         ("8,192 bytes with an end", &[(b"GET / HTTP/1.1\r\nX: ", 1), (b"a", 8169), (b"\r\n\r\n", 1)], whole(GET, (4, 5), (8192, 8192), false)),
         ("8,193 bytes with an end", &[(b"GET / HTTP/1.1\r\nX: ", 1), (b"a", 8170), (b"\r\n\r\n", 1)], Taken::HeadTooLong),
@@ -68,6 +68,7 @@ fn bounds() -> [Row; 14] {
         ("8,191 bytes without an end", &[(b"GET / HTTP/1.1\r\nX: ", 1), (b"a", 8172)], Taken::NotYet),
         ("8,192 bytes of empty lines", &[(b"\n", 8192)], Taken::HeadTooLong),
         ("too long and hopeless", &[(b"GET / HTTP/1.1\r\nX y: ", 1), (b"a", 8192)], Taken::BadHead),
+        ("too long inside a target that is no text so far", &[(b"GET /\xff", 1), (b"a", 8186)], Taken::HeadTooLong),
         ("64 lines with an end", &[(b"GET / HTTP/1.1\r\n", 1), (b"a:\r\n", 64), (b"\r\n", 1)], whole(GET, (4, 5), (274, 274), false)),
         ("64 lines without an end", &[(b"GET / HTTP/1.1\r\n", 1), (b"a:\r\n", 64)], Taken::NotYet),
         ("65 lines with an end", &[(b"GET / HTTP/1.1\r\n", 1), (b"a:\r\n", 65), (b"\r\n", 1)], Taken::HeadTooLong),
