@@ -1,0 +1,87 @@
+-- A rest, its front and the head in it.
+use Rattle.std.proofs.Common.{◌≡◌, ℕ, ◌+◌, ◌-◌, ◌≤◌, List, ◌++◌, length, take, drop, refl, sym, ap, ◌∙◌, arith, append_assoc, length-append}
+use Rattle.std.specs.Prelude.{slice_range}
+use Rattle.std.proofs.lemmas.List.{length-take, take-take, take_at, take-append-drop, take-append-le}
+use Rattle.std.proofs.lemmas.List.Folds.{drop_split}
+use Rattle.std.proofs.lemmas.Slice.{between_is}
+use Rattle.std.proofs.Math.Seq.{take-append-add}
+use Rattle.httparse.specs.Grammar.{RequestHead, IsRequestHead, print_request, ReadsRequest}
+use Rattle.httparse.proofs.RunLemmas.{length-slice_range}
+use Rattle.desk_http.specs.declared.limits.TheConstants.{HEAD_BYTES, HEAD_LINES}
+use Rattle.desk_http.specs.declared.lines.BodyLength.TheVariants.{Known}
+use Rattle.desk_http.specs.declared.head.Head.{Head}
+use Rattle.desk_http.specs.Rest.{front, HasHead}
+use Rattle.desk_http.specs.Head.{IsHeadAt}
+use Rattle.desk_http.specs.Taken.{IsTakenFrom}
+
+pub slice_range-take : (xs : List ℕ) (i j n : ℕ) → j ≤ n → slice_range (take n xs) i j ≡ slice_range xs i j
+slice_range-take xs i j n within =
+    between_is (take n xs) i j ∙ ap (drop i) (take-take j n xs within) ∙ sym (between_is xs i j)
+
+pub slice_range-append : (xs more : List ℕ) (i j : ℕ) → j ≤ length xs → slice_range (xs ++ more) i j ≡ slice_range xs i j
+slice_range-append xs more i j within =
+    between_is (xs ++ more) i j ∙ ap (drop i) (take-append-le j xs more within) ∙ sym (between_is xs i j)
+
+-- the rest begins with the bytes of its head, which lie within the bound
+pub record BeginsWithHead (rest : List ℕ) (h : RequestHead) : Type 0 where
+  pub bound : length (print_request h) ≤ HEAD_BYTES
+  pub fits : length (print_request h) ≤ length rest
+  pub bytes : rest ≡ print_request h ++ drop (length (print_request h)) rest
+
+pub head_begins : (rest : List ℕ) (h : RequestHead) (after : List ℕ) → ReadsRequest (front rest) h after → BeginsWithHead rest h
+head_begins rest h after reads =
+    let n = length (print_request h) in
+    let lengths = ap length reads.1 ∙ length-append (print_request h) after in
+    let bound : n ≤ HEAD_BYTES = omega (arith, lengths, length-take HEAD_BYTES rest) in
+    let same : take n rest ≡ print_request h =
+    sym (take-take n HEAD_BYTES rest bound) ∙ ap (take n) reads.1 ∙ take_at (print_request h) after n refl in
+    record {
+      bound = bound;
+      fits = omega (arith, lengths, length-take HEAD_BYTES rest);
+      bytes = sym (take-append-drop n rest) ∙ ap (λ l. l ++ drop n rest) same;
+    }
+
+-- and a head that a rest begins with, within the bound, is its head
+pub has_head : (h : RequestHead) (more : List ℕ) → IsRequestHead h → length (print_request h) ≤ HEAD_BYTES
+    → HasHead (print_request h ++ more) h
+has_head h more valid bound =
+    let n = length (print_request h) in
+    let sum : n + (HEAD_BYTES - n) ≡ HEAD_BYTES = omega arith in (
+      take (HEAD_BYTES - n) more,
+      (valid, ap (λ k. take k (print_request h ++ more)) (sym sum) ∙ take-append-add (print_request h) more (HEAD_BYTES - n)),
+    )
+
+-- a head whose body is there, as it is found in a buffer
+pub taken_from : (buffer : List ℕ) (found : Head) (n : ℕ) (h : RequestHead) (after : List ℕ) → ReadsRequest (front buffer) h after
+    → length h.fields ≤ HEAD_LINES → IsHeadAt (front buffer) found h → found.body ≡ Known n → found.len + n ≤ length buffer
+    → IsTakenFrom buffer (record {
+      method = found.method;
+      target = found.target;
+      body = record { from = found.len; to = found.len + n };
+      close = found.close;
+      used = found.len + n;
+    })
+taken_from buffer found n h after reads lines is known whole =
+    let begins = head_begins buffer h after reads in
+    let body = slice_range buffer found.len (found.len + n) in
+    let body_len : length body ≡ n = length-slice_range buffer found.len (found.len + n) (omega arith) whole ∙ omega arith in
+    record {
+      used = whole;
+      target = (is.within.0, omega (arith, is.within.1));
+      body = (omega arith, omega arith);
+      begins = record {
+        h = h;
+        head = record {
+          head = (after, reads);
+          lines = lines;
+          body_length = sym is.body ∙ known ∙ ap Known (sym body_len);
+        };
+        bytes = begins.bytes
+            ∙ ap (λ k. print_request h ++ drop k buffer) (sym is.len)
+            ∙ ap (λ l. print_request h ++ l) (drop_split buffer found.len (found.len + n) (omega arith))
+            ∙ sym (append_assoc (print_request h) body (drop (found.len + n) buffer));
+        method = is.method;
+        target = sym (slice_range-take buffer found.target.from found.target.to HEAD_BYTES (omega (arith, is.within.1, is.len, begins.bound))) ∙ is.target;
+        close = is.close;
+      };
+    }

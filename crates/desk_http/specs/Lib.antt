@@ -1,0 +1,7 @@
+pub mod Head
+pub mod Lines
+pub mod Reader
+pub mod Reply
+pub mod Rest
+pub mod Stream
+pub mod Taken

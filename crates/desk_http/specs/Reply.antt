@@ -1,0 +1,90 @@
+-- The bytes of replies.
+use Rattle.std.specs.Prelude.{ℕ, Bool, true, false, not, List, [], ◌∷◌, ◌++◌, length, Option, Some, None, ◌==◌, codes, unwrap_or}
+use Rattle.std.specs.Fmt.{decimal}
+use Rattle.std.specs.List.{list_any}
+use Rattle.httparse.specs.Ascii.{line_feed, crlf_bytes}
+use Rattle.http.specs.StatusCode.{code_digits, reason_phrase}
+use Rattle.desk_http.specs.declared.method.Method.{Method}
+use Rattle.desk_http.specs.declared.method.Method.TheVariants.{Get, Post, Other}
+use Rattle.desk_http.specs.declared.fixed.Fixed.{Fixed}
+use Rattle.desk_http.specs.declared.fixed.Fixed.TheVariants.{BadHead, LengthRequired, BodyTooLong, HeadTooLong, NoRoute, WrongMethod, StoreFault, Memory}
+
+-- the statuses that the desk answers
+abbrev pub is_reply_status : ℕ → Bool
+is_reply_status status =
+    list_any (λ s. s == status) (200 ∷ 400 ∷ 404 ∷ 405 ∷ 409 ∷ 411 ∷ 413 ∷ 431 ∷ 503 ∷ 507 ∷ [])
+
+-- 405 names the method that is allowed, one of the two that the desk knows, and no other status names one
+abbrev pub fits_status : ℕ → Option Method → Bool
+fits_status status None = not (status == 405)
+fits_status status (Some Get) = status == 405
+fits_status status (Some Post) = status == 405
+fits_status status (Some Other) = false
+
+-- a line of a reply's head
+abbrev pub head_line : List ℕ → List ℕ
+head_line text = text ++ crlf_bytes
+
+-- the phrase that goes with a status (RFC 9110, section 15)
+unfoldable pub phrase_of : ℕ → List ℕ
+phrase_of status = unwrap_or (reason_phrase status) []
+
+unfoldable pub status_line : ℕ → List ℕ
+status_line status = head_line (codes "HTTP/1.1 " ++ code_digits status ++ codes " " ++ phrase_of status)
+
+-- what the body is, and how long
+unfoldable pub body_lines : ℕ → List ℕ
+body_lines len =
+    head_line (codes "Content-Type: text/plain; charset=utf-8") ++ head_line (codes "Content-Length: " ++ decimal len)
+
+abbrev pub allow_line : Option Method → List ℕ
+allow_line None = []
+allow_line (Some Get) = head_line (codes "Allow: GET")
+allow_line (Some Post) = head_line (codes "Allow: POST")
+allow_line (Some Other) = []
+
+abbrev pub close_line : Bool → List ℕ
+close_line true = head_line (codes "Connection: close")
+close_line false = []
+
+-- a reply: the lines of its head, an empty line, and its body
+unfoldable pub reply : ℕ → List ℕ → Option Method → Bool → List ℕ
+reply status body allow close =
+    status_line status ++ body_lines (length body) ++ allow_line allow ++ close_line close ++ crlf_bytes ++ body
+
+-- the status of a refusal whose body is fixed
+abbrev pub status_of : Fixed → ℕ
+status_of BadHead = 400
+status_of LengthRequired = 411
+status_of BodyTooLong = 413
+status_of HeadTooLong = 431
+status_of NoRoute = 404
+status_of (WrongMethod allow) = 405
+status_of StoreFault = 503
+status_of Memory = 507
+
+-- the word that is its body
+abbrev pub word_of : Fixed → List ℕ
+word_of BadHead = codes "bad-head"
+word_of LengthRequired = codes "length-required"
+word_of BodyTooLong = codes "body-too-long"
+word_of HeadTooLong = codes "head-too-long"
+word_of NoRoute = codes "no-route"
+word_of (WrongMethod allow) = codes "wrong-method"
+word_of StoreFault = codes "store-fault"
+word_of Memory = codes "memory"
+
+-- the method that it allows
+abbrev pub allow_of : Fixed → Option Method
+allow_of BadHead = None
+allow_of LengthRequired = None
+allow_of BodyTooLong = None
+allow_of HeadTooLong = None
+allow_of NoRoute = None
+allow_of (WrongMethod allow) = Some allow
+allow_of StoreFault = None
+allow_of Memory = None
+
+-- the reply of a refusal whose body is fixed
+unfoldable pub fixed_reply : Fixed → Bool → List ℕ
+fixed_reply fixed close = reply (status_of fixed) (word_of fixed ++ line_feed ∷ []) (allow_of fixed) close

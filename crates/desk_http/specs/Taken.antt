@@ -1,0 +1,54 @@
+-- What taking a request answers.
+use Rattle.std.specs.Prelude.{ℕ, ◌≤◌, List, length, drop, slice_range}
+use Rattle.desk_http.specs.declared.span.Span.{Span}
+use Rattle.desk_http.specs.declared.request.Request.{Request}
+use Rattle.desk_http.specs.declared.taken.Taken.{Taken}
+use Rattle.desk_http.specs.declared.taken.Taken.TheVariants.{Whole, NotYet, BadHead, HeadTooLong, NoLength, BodyTooLong}
+use Rattle.desk_http.specs.Rest.{IsHopeless, IsTooLong, HasNoLength, HasLongBody, IsNotYet, Message, BeginsWith}
+
+-- the bytes that the span covers
+abbrev pub span_bytes : List ℕ → Span → List ℕ
+span_bytes buffer s = slice_range buffer s.from s.to
+
+-- the span lies in the first n bytes
+abbrev pub IsWithin : ℕ → Span → Type 0
+IsWithin n s = (s.from ≤ s.to) × (s.to ≤ n)
+
+-- the request whose parts the spans cover
+abbrev pub message_of : List ℕ → Request → Message
+message_of buffer r = record {
+  method = r.method;
+  target = span_bytes buffer r.target;
+  body = span_bytes buffer r.body;
+  close = r.close;
+}
+
+-- the first r.used bytes of the buffer are that request
+pub record IsTakenFrom (buffer : List ℕ) (r : Request) : Type 0 where
+  pub used : r.used ≤ length buffer
+  pub target : IsWithin r.used r.target
+  pub body : IsWithin r.used r.body
+  pub begins : BeginsWith buffer (message_of buffer r) (drop r.used buffer)
+
+-- the answer is right for the buffer
+abbrev pub Takes : List ℕ → Taken → Type 0
+Takes buffer (Whole r) = IsTakenFrom buffer r
+Takes buffer NotYet = IsNotYet buffer
+Takes buffer BadHead = IsHopeless buffer
+Takes buffer HeadTooLong = IsTooLong buffer
+Takes buffer NoLength = HasNoLength buffer
+Takes buffer BodyTooLong = HasLongBody buffer
+
+-- an answer with the request itself in place of where it lies
+pub data Answer : Type 0 where
+  whole : Message → ℕ → Answer
+  not_yet bad_head head_too_long no_length body_too_long : Answer
+
+-- what the answer says of the buffer
+abbrev pub answer_of : List ℕ → Taken → Answer
+answer_of buffer (Whole r) = whole (message_of buffer r) r.used
+answer_of buffer NotYet = not_yet
+answer_of buffer BadHead = bad_head
+answer_of buffer HeadTooLong = head_too_long
+answer_of buffer NoLength = no_length
+answer_of buffer BodyTooLong = body_too_long

@@ -1,0 +1,29 @@
+//! The requests of a byte stream and the bytes of replies.
+#![tactic(auto)]
+
+mod fixed;
+mod head;
+mod laws;
+mod limits;
+mod lines;
+mod method;
+mod reply;
+mod request;
+mod span;
+mod take;
+mod taken;
+
+pub use fixed::{Fixed, fixed_reply};
+pub use laws::{
+    answers_last, no_head_begins_another, one_answer, pieces_make_no_difference, request_is_bounded,
+};
+pub use limits::{BODY_BYTES, HEAD_BYTES, HEAD_LINES};
+pub use method::Method;
+pub use reply::write_reply;
+pub use request::Request;
+pub use span::Span;
+pub use take::take_request;
+pub use taken::Taken;
+
+#[cfg(test)]
+mod tests;

@@ -1,0 +1,21 @@
+ghost use Rattle.std.specs.Prelude.{◌≡◌};
+ghost use Rattle.desk_http.specs.Lines.{method_of};
+
+/// What a request asks to be done. The desk knows two methods, and no body answers another.
+#[derive(Clone, Copy, Debug, PartialEq, Eq)]
+pub enum Method {
+    Get,
+    Post,
+    Other,
+}
+
+/// The method that a word names. Methods are told apart by case (RFC 9110, section 9.1).
+pub(crate) fn method_named(word: &[u8]) -> Method
+    ensures { result ≡ method_of word.now }
+{
+    match word {
+        b"GET" => Method::Get,
+        b"POST" => Method::Post,
+        _ => Method::Other,
+    }
+}
