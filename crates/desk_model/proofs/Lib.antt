@@ -1,1 +1,1 @@
-pub mod Probe
+pub mod ExampleProofs

@@ -9,6 +9,7 @@ pub mod Duties
 pub mod EditText
 pub mod Effect
 pub mod Findings
+pub mod Examples
 pub mod Forms
 pub mod History
 pub mod Lists
