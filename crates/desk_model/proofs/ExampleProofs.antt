@@ -23,6 +23,8 @@ use Rattle.desk_model.specs.Tonnage.{due_day, notices, tonnage}
 use Rattle.desk_model.specs.Totals.{has_too_many_findings, has_too_much_text, tables_over, too_heavy_part, too_heavy_year}
 use Rattle.desk_model.specs.Examples.Articles.{DutyExamples, NoticeExamples}
 use Rattle.desk_model.specs.Examples.Chains.{ChainExamples}
+use Rattle.desk_model.specs.Examples.Limits.{LimitExamples}
+use Rattle.desk_model.specs.Examples.Refusals.{RefusalExamples, AcceptanceExamples, OrderExamples}
 use Rattle.desk_model.specs.Examples.Shares.{ShareExamples}
 
 pub duty_examples : DutyExamples
@@ -80,6 +82,81 @@ chain_examples = record {
   affects_parent = refl;
   affects_users = refl;
   five_edits = refl;
+}
+
+pub limit_examples : LimitExamples
+unfolding digits date_text six_months_after kind_code kind_place kinds_text has_kind is_over limit_of rule_code rule_number content is_above is_affected seeds_of_new chain_within duties entered made edit_text ticket_code finding_count findings reaches_within refused ticket_reused unknown_substance unknown_material unknown_part unknown_product unknown_exemption name_taken kind_changed wrong_child no_such_line foreign_material stale_declaration masses_exceed exemption_span annex_kinds ship_below_zero units_too_large table_full text_full closes_cycle total_too_large findings_full year_too_large rolled_within share start kept_number step due_day notices tonnage has_too_many_findings has_too_much_text tables_over too_heavy_part too_heavy_year
+limit_examples = record {
+  rule_21 = refl;
+  below = refl;
+  mass_below = refl;
+  rule_23 = refl;
+  three_units = refl;
+  rule_18 = refl;
+  room_in_others = refl;
+  most_text = λ text e. rw e refl;
+  too_much_text = λ text e. rw e refl;
+  rule_19 = λ t edit e. rw e refl;
+  rule_22 = λ t edit e. rw e refl;
+}
+
+pub refusal_examples : RefusalExamples
+unfolding digits date_text six_months_after kind_code kind_place kinds_text has_kind is_over limit_of rule_code rule_number content is_above is_affected seeds_of_new chain_within duties entered made edit_text ticket_code finding_count findings reaches_within refused ticket_reused unknown_substance unknown_material unknown_part unknown_product unknown_exemption name_taken kind_changed wrong_child no_such_line foreign_material stale_declaration masses_exceed exemption_span annex_kinds ship_below_zero units_too_large table_full text_full closes_cycle total_too_large findings_full year_too_large rolled_within share start kept_number step due_day notices tonnage has_too_many_findings has_too_much_text tables_over too_heavy_part too_heavy_year
+refusal_examples = record {
+  rule_1 = refl;
+  rule_1_declare = refl;
+  rule_2_member = refl;
+  rule_2_candidate = refl;
+  rule_2_declare = refl;
+  rule_3 = refl;
+  rule_4_parent = refl;
+  rule_4_child = refl;
+  rule_4_unline = refl;
+  rule_4_product = refl;
+  rule_5_ship = refl;
+  rule_5_unship = refl;
+  rule_6 = refl;
+  rule_7_declare = refl;
+  rule_7_part = refl;
+  rule_8 = refl;
+  rule_9_article = refl;
+  rule_9_assembly = refl;
+  rule_10 = refl;
+  rule_11 = refl;
+  rule_12 = refl;
+  rule_13 = refl;
+  rule_14_days = refl;
+  rule_14_ppm = refl;
+  rule_15 = refl;
+  rule_16 = refl;
+  rule_16_no_entry = refl;
+  rule_17 = refl;
+  rule_20_itself = refl;
+  rule_20 = refl;
+}
+
+pub acceptance_examples : AcceptanceExamples
+unfolding digits date_text six_months_after kind_code kind_place kinds_text has_kind is_over limit_of rule_code rule_number content is_above is_affected seeds_of_new chain_within duties entered made edit_text ticket_code finding_count findings reaches_within refused ticket_reused unknown_substance unknown_material unknown_part unknown_product unknown_exemption name_taken kind_changed wrong_child no_such_line foreign_material stale_declaration masses_exceed exemption_span annex_kinds ship_below_zero units_too_large table_full text_full closes_cycle total_too_large findings_full year_too_large rolled_within share start kept_number step due_day notices tonnage has_too_many_findings has_too_much_text tables_over too_heavy_part too_heavy_year
+acceptance_examples = record {
+  annex_four = refl;
+  most_units = refl;
+  repeated = refl;
+  repeated_declaration = refl;
+  repeated_shipment = refl;
+  half_declared = refl;
+  none_entered = refl;
+}
+
+pub order_examples : OrderExamples
+unfolding digits date_text six_months_after kind_code kind_place kinds_text has_kind is_over limit_of rule_code rule_number content is_above is_affected seeds_of_new chain_within duties entered made edit_text ticket_code finding_count findings reaches_within refused ticket_reused unknown_substance unknown_material unknown_part unknown_product unknown_exemption name_taken kind_changed wrong_child no_such_line foreign_material stale_declaration masses_exceed exemption_span annex_kinds ship_below_zero units_too_large table_full text_full closes_cycle total_too_large findings_full year_too_large rolled_within share start kept_number step due_day notices tonnage has_too_many_findings has_too_much_text tables_over too_heavy_part too_heavy_year
+order_examples = record {
+  reused_and_unknown = refl;
+  unknown_and_taken = refl;
+  unknown_and_heavy = refl;
+  unknown_and_no_line = refl;
+  wrong_and_cycle = refl;
+  foreign_and_stale = refl;
+  span_and_kinds = refl;
 }
 
 pub share_examples : ShareExamples

@@ -2,4 +2,6 @@
 pub mod Articles
 pub mod Chains
 pub mod Desks
+pub mod Limits
+pub mod Refusals
 pub mod Shares
