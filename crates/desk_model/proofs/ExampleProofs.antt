@@ -4,7 +4,10 @@ use Rattle.std.specs.Fmt.{digits}
 use Rattle.desk_text.specs.Day.{date_text, six_months_after}
 use Rattle.desk_law.specs.Kind.{kind_code, kind_place}
 use Rattle.desk_law.specs.KindSet.{kinds_text, has_kind}
+use Rattle.desk_law.specs.Exemption.{covers, is_valid_on}
+use Rattle.desk_law.specs.InForce.{first_day, is_in_force}
 use Rattle.desk_law.specs.Limit.{is_over, limit_of}
+use Rattle.desk_law.specs.Verdict.{verdict}
 use Rattle.desk_law.specs.Rule.{rule_code, rule_number}
 use Rattle.desk_model.specs.Above.{content, is_above}
 use Rattle.desk_model.specs.Affected.{is_affected, seeds_of_new}
@@ -23,12 +26,14 @@ use Rattle.desk_model.specs.Tonnage.{due_day, notices, tonnage}
 use Rattle.desk_model.specs.Totals.{has_too_many_findings, has_too_much_text, tables_over, too_heavy_part, too_heavy_year}
 use Rattle.desk_model.specs.Examples.Articles.{DutyExamples, NoticeExamples}
 use Rattle.desk_model.specs.Examples.Chains.{ChainExamples}
+use Rattle.desk_model.specs.Examples.Gateway.{GatewayExamples}
 use Rattle.desk_model.specs.Examples.Limits.{LimitExamples}
 use Rattle.desk_model.specs.Examples.Refusals.{RefusalExamples, AcceptanceExamples, OrderExamples}
 use Rattle.desk_model.specs.Examples.Shares.{ShareExamples}
+use Rattle.desk_model.specs.Examples.Texts.{TextExamples}
 
 pub duty_examples : DutyExamples
-unfolding digits date_text six_months_after kind_code kind_place kinds_text has_kind is_over limit_of rule_code rule_number content is_above is_affected seeds_of_new chain_within duties entered made edit_text ticket_code finding_count findings reaches_within refused ticket_reused unknown_substance unknown_material unknown_part unknown_product unknown_exemption name_taken kind_changed wrong_child no_such_line foreign_material stale_declaration masses_exceed exemption_span annex_kinds ship_below_zero units_too_large table_full text_full closes_cycle total_too_large findings_full year_too_large rolled_within share start kept_number step due_day notices tonnage has_too_many_findings has_too_much_text tables_over too_heavy_part too_heavy_year
+unfolding digits covers is_valid_on first_day is_in_force verdict date_text six_months_after kind_code kind_place kinds_text has_kind is_over limit_of rule_code rule_number content is_above is_affected seeds_of_new chain_within duties entered made edit_text ticket_code finding_count findings reaches_within refused ticket_reused unknown_substance unknown_material unknown_part unknown_product unknown_exemption name_taken kind_changed wrong_child no_such_line foreign_material stale_declaration masses_exceed exemption_span annex_kinds ship_below_zero units_too_large table_full text_full closes_cycle total_too_large findings_full year_too_large rolled_within share start kept_number step due_day notices tonnage has_too_many_findings has_too_much_text tables_over too_heavy_part too_heavy_year
 duty_examples = record {
   content_of_article = refl;
   article_mass = refl;
@@ -45,7 +50,7 @@ duty_examples = record {
 }
 
 pub notice_examples : NoticeExamples
-unfolding digits date_text six_months_after kind_code kind_place kinds_text has_kind is_over limit_of rule_code rule_number content is_above is_affected seeds_of_new chain_within duties entered made edit_text ticket_code finding_count findings reaches_within refused ticket_reused unknown_substance unknown_material unknown_part unknown_product unknown_exemption name_taken kind_changed wrong_child no_such_line foreign_material stale_declaration masses_exceed exemption_span annex_kinds ship_below_zero units_too_large table_full text_full closes_cycle total_too_large findings_full year_too_large rolled_within share start kept_number step due_day notices tonnage has_too_many_findings has_too_much_text tables_over too_heavy_part too_heavy_year
+unfolding digits covers is_valid_on first_day is_in_force verdict date_text six_months_after kind_code kind_place kinds_text has_kind is_over limit_of rule_code rule_number content is_above is_affected seeds_of_new chain_within duties entered made edit_text ticket_code finding_count findings reaches_within refused ticket_reused unknown_substance unknown_material unknown_part unknown_product unknown_exemption name_taken kind_changed wrong_child no_such_line foreign_material stale_declaration masses_exceed exemption_span annex_kinds ship_below_zero units_too_large table_full text_full closes_cycle total_too_large findings_full year_too_large rolled_within share start kept_number step due_day notices tonnage has_too_many_findings has_too_much_text tables_over too_heavy_part too_heavy_year
 notice_examples = record {
   one_tonne = refl;
   no_notice = refl;
@@ -63,7 +68,7 @@ notice_examples = record {
 }
 
 pub chain_examples : ChainExamples
-unfolding digits date_text six_months_after kind_code kind_place kinds_text has_kind is_over limit_of rule_code rule_number content is_above is_affected seeds_of_new chain_within duties entered made edit_text ticket_code finding_count findings reaches_within refused ticket_reused unknown_substance unknown_material unknown_part unknown_product unknown_exemption name_taken kind_changed wrong_child no_such_line foreign_material stale_declaration masses_exceed exemption_span annex_kinds ship_below_zero units_too_large table_full text_full closes_cycle total_too_large findings_full year_too_large rolled_within share start kept_number step due_day notices tonnage has_too_many_findings has_too_much_text tables_over too_heavy_part too_heavy_year
+unfolding digits covers is_valid_on first_day is_in_force verdict date_text six_months_after kind_code kind_place kinds_text has_kind is_over limit_of rule_code rule_number content is_above is_affected seeds_of_new chain_within duties entered made edit_text ticket_code finding_count findings reaches_within refused ticket_reused unknown_substance unknown_material unknown_part unknown_product unknown_exemption name_taken kind_changed wrong_child no_such_line foreign_material stale_declaration masses_exceed exemption_span annex_kinds ship_below_zero units_too_large table_full text_full closes_cycle total_too_large findings_full year_too_large rolled_within share start kept_number step due_day notices tonnage has_too_many_findings has_too_much_text tables_over too_heavy_part too_heavy_year
 chain_examples = record {
   eleven_edits = refl;
   both_ways_count = refl;
@@ -84,8 +89,31 @@ chain_examples = record {
   five_edits = refl;
 }
 
+pub gateway_examples : GatewayExamples
+unfolding digits covers is_valid_on first_day is_in_force verdict date_text six_months_after kind_code kind_place kinds_text has_kind is_over limit_of rule_code rule_number content is_above is_affected seeds_of_new chain_within duties entered made edit_text ticket_code finding_count findings reaches_within refused ticket_reused unknown_substance unknown_material unknown_part unknown_product unknown_exemption name_taken kind_changed wrong_child no_such_line foreign_material stale_declaration masses_exceed exemption_span annex_kinds ship_below_zero units_too_large table_full text_full closes_cycle total_too_large findings_full year_too_large rolled_within share start kept_number step due_day notices tonnage has_too_many_findings has_too_much_text tables_over too_heavy_part too_heavy_year
+gateway_examples = record {
+  nineteen_edits = refl;
+  whole_mass = refl;
+  cable_mass = refl;
+  four_findings = refl;
+  brass_exempt = refl;
+  last_day = refl;
+  day_after = refl;
+  pvc_breach = refl;
+  pvc_before = refl;
+  brass_within = refl;
+  breach_chain = refl;
+  two_duties = refl;
+  cable_content = refl;
+  pin_chain = refl;
+  carried_lead = refl;
+  carried_dehp = refl;
+  lead_tonnage = refl;
+  one_notice = refl;
+}
+
 pub limit_examples : LimitExamples
-unfolding digits date_text six_months_after kind_code kind_place kinds_text has_kind is_over limit_of rule_code rule_number content is_above is_affected seeds_of_new chain_within duties entered made edit_text ticket_code finding_count findings reaches_within refused ticket_reused unknown_substance unknown_material unknown_part unknown_product unknown_exemption name_taken kind_changed wrong_child no_such_line foreign_material stale_declaration masses_exceed exemption_span annex_kinds ship_below_zero units_too_large table_full text_full closes_cycle total_too_large findings_full year_too_large rolled_within share start kept_number step due_day notices tonnage has_too_many_findings has_too_much_text tables_over too_heavy_part too_heavy_year
+unfolding digits covers is_valid_on first_day is_in_force verdict date_text six_months_after kind_code kind_place kinds_text has_kind is_over limit_of rule_code rule_number content is_above is_affected seeds_of_new chain_within duties entered made edit_text ticket_code finding_count findings reaches_within refused ticket_reused unknown_substance unknown_material unknown_part unknown_product unknown_exemption name_taken kind_changed wrong_child no_such_line foreign_material stale_declaration masses_exceed exemption_span annex_kinds ship_below_zero units_too_large table_full text_full closes_cycle total_too_large findings_full year_too_large rolled_within share start kept_number step due_day notices tonnage has_too_many_findings has_too_much_text tables_over too_heavy_part too_heavy_year
 limit_examples = record {
   rule_21 = refl;
   below = refl;
@@ -101,7 +129,7 @@ limit_examples = record {
 }
 
 pub refusal_examples : RefusalExamples
-unfolding digits date_text six_months_after kind_code kind_place kinds_text has_kind is_over limit_of rule_code rule_number content is_above is_affected seeds_of_new chain_within duties entered made edit_text ticket_code finding_count findings reaches_within refused ticket_reused unknown_substance unknown_material unknown_part unknown_product unknown_exemption name_taken kind_changed wrong_child no_such_line foreign_material stale_declaration masses_exceed exemption_span annex_kinds ship_below_zero units_too_large table_full text_full closes_cycle total_too_large findings_full year_too_large rolled_within share start kept_number step due_day notices tonnage has_too_many_findings has_too_much_text tables_over too_heavy_part too_heavy_year
+unfolding digits covers is_valid_on first_day is_in_force verdict date_text six_months_after kind_code kind_place kinds_text has_kind is_over limit_of rule_code rule_number content is_above is_affected seeds_of_new chain_within duties entered made edit_text ticket_code finding_count findings reaches_within refused ticket_reused unknown_substance unknown_material unknown_part unknown_product unknown_exemption name_taken kind_changed wrong_child no_such_line foreign_material stale_declaration masses_exceed exemption_span annex_kinds ship_below_zero units_too_large table_full text_full closes_cycle total_too_large findings_full year_too_large rolled_within share start kept_number step due_day notices tonnage has_too_many_findings has_too_much_text tables_over too_heavy_part too_heavy_year
 refusal_examples = record {
   rule_1 = refl;
   rule_1_declare = refl;
@@ -136,7 +164,7 @@ refusal_examples = record {
 }
 
 pub acceptance_examples : AcceptanceExamples
-unfolding digits date_text six_months_after kind_code kind_place kinds_text has_kind is_over limit_of rule_code rule_number content is_above is_affected seeds_of_new chain_within duties entered made edit_text ticket_code finding_count findings reaches_within refused ticket_reused unknown_substance unknown_material unknown_part unknown_product unknown_exemption name_taken kind_changed wrong_child no_such_line foreign_material stale_declaration masses_exceed exemption_span annex_kinds ship_below_zero units_too_large table_full text_full closes_cycle total_too_large findings_full year_too_large rolled_within share start kept_number step due_day notices tonnage has_too_many_findings has_too_much_text tables_over too_heavy_part too_heavy_year
+unfolding digits covers is_valid_on first_day is_in_force verdict date_text six_months_after kind_code kind_place kinds_text has_kind is_over limit_of rule_code rule_number content is_above is_affected seeds_of_new chain_within duties entered made edit_text ticket_code finding_count findings reaches_within refused ticket_reused unknown_substance unknown_material unknown_part unknown_product unknown_exemption name_taken kind_changed wrong_child no_such_line foreign_material stale_declaration masses_exceed exemption_span annex_kinds ship_below_zero units_too_large table_full text_full closes_cycle total_too_large findings_full year_too_large rolled_within share start kept_number step due_day notices tonnage has_too_many_findings has_too_much_text tables_over too_heavy_part too_heavy_year
 acceptance_examples = record {
   annex_four = refl;
   most_units = refl;
@@ -148,7 +176,7 @@ acceptance_examples = record {
 }
 
 pub order_examples : OrderExamples
-unfolding digits date_text six_months_after kind_code kind_place kinds_text has_kind is_over limit_of rule_code rule_number content is_above is_affected seeds_of_new chain_within duties entered made edit_text ticket_code finding_count findings reaches_within refused ticket_reused unknown_substance unknown_material unknown_part unknown_product unknown_exemption name_taken kind_changed wrong_child no_such_line foreign_material stale_declaration masses_exceed exemption_span annex_kinds ship_below_zero units_too_large table_full text_full closes_cycle total_too_large findings_full year_too_large rolled_within share start kept_number step due_day notices tonnage has_too_many_findings has_too_much_text tables_over too_heavy_part too_heavy_year
+unfolding digits covers is_valid_on first_day is_in_force verdict date_text six_months_after kind_code kind_place kinds_text has_kind is_over limit_of rule_code rule_number content is_above is_affected seeds_of_new chain_within duties entered made edit_text ticket_code finding_count findings reaches_within refused ticket_reused unknown_substance unknown_material unknown_part unknown_product unknown_exemption name_taken kind_changed wrong_child no_such_line foreign_material stale_declaration masses_exceed exemption_span annex_kinds ship_below_zero units_too_large table_full text_full closes_cycle total_too_large findings_full year_too_large rolled_within share start kept_number step due_day notices tonnage has_too_many_findings has_too_much_text tables_over too_heavy_part too_heavy_year
 order_examples = record {
   reused_and_unknown = refl;
   unknown_and_taken = refl;
@@ -160,7 +188,7 @@ order_examples = record {
 }
 
 pub share_examples : ShareExamples
-unfolding digits date_text six_months_after kind_code kind_place kinds_text has_kind is_over limit_of rule_code rule_number content is_above is_affected seeds_of_new chain_within duties entered made edit_text ticket_code finding_count findings reaches_within refused ticket_reused unknown_substance unknown_material unknown_part unknown_product unknown_exemption name_taken kind_changed wrong_child no_such_line foreign_material stale_declaration masses_exceed exemption_span annex_kinds ship_below_zero units_too_large table_full text_full closes_cycle total_too_large findings_full year_too_large rolled_within share start kept_number step due_day notices tonnage has_too_many_findings has_too_much_text tables_over too_heavy_part too_heavy_year
+unfolding digits covers is_valid_on first_day is_in_force verdict date_text six_months_after kind_code kind_place kinds_text has_kind is_over limit_of rule_code rule_number content is_above is_affected seeds_of_new chain_within duties entered made edit_text ticket_code finding_count findings reaches_within refused ticket_reused unknown_substance unknown_material unknown_part unknown_product unknown_exemption name_taken kind_changed wrong_child no_such_line foreign_material stale_declaration masses_exceed exemption_span annex_kinds ship_below_zero units_too_large table_full text_full closes_cycle total_too_large findings_full year_too_large rolled_within share start kept_number step due_day notices tonnage has_too_many_findings has_too_much_text tables_over too_heavy_part too_heavy_year
 share_examples = record {
   oxide_over = refl;
   oxide_over_limit = refl;
@@ -175,4 +203,18 @@ share_examples = record {
   cleared_share = refl;
   cleared_affects = refl;
   nothing_to_clear = refl;
+}
+
+pub text_examples : TextExamples
+unfolding digits covers is_valid_on first_day is_in_force verdict date_text six_months_after kind_code kind_place kinds_text has_kind is_over limit_of rule_code rule_number content is_above is_affected seeds_of_new chain_within duties entered made edit_text ticket_code finding_count findings reaches_within refused ticket_reused unknown_substance unknown_material unknown_part unknown_product unknown_exemption name_taken kind_changed wrong_child no_such_line foreign_material stale_declaration masses_exceed exemption_span annex_kinds ship_below_zero units_too_large table_full text_full closes_cycle total_too_large findings_full year_too_large rolled_within share start kept_number step due_day notices tonnage has_too_many_findings has_too_much_text tables_over too_heavy_part too_heavy_year
+text_examples = record {
+  declaration = refl;
+  declaration_code = refl;
+  part = refl;
+  sent_code = refl;
+  no_cas = refl;
+  exemption = refl;
+  ship = refl;
+  ten_substances = refl;
+  ten_members = refl;
 }

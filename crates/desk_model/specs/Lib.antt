@@ -24,3 +24,4 @@ pub mod Step
 pub mod Terms
 pub mod Tonnage
 pub mod Totals
+pub mod Verdicts
