@@ -1,6 +1,6 @@
 -- Sets of kinds. A set is seen as the list of its kinds, each once, in the order of Annex I.
-use Rattle.std.specs.Prelude.{ℕ, Bool, false, List, filter, map, slice_index_or}
-use Rattle.std.specs.List.{list_any, join_with_byte}
+use Rattle.std.specs.Prelude.{ℕ, Bool, false, not, ◌||◌, List, filter, map, slice_index_or}
+use Rattle.std.specs.List.{list_all, list_any, join_with_byte}
 use Rattle.desk_law.specs.declared.kind.Kind.{Kind}
 use Rattle.desk_law.specs.Kind.{all_kinds, kind_code, kind_place, same_kind}
 
@@ -11,6 +11,10 @@ has_kind kinds kind = list_any (same_kind kind) kinds
 -- the set of these kinds
 unfoldable pub set_of : List Kind → List Kind
 set_of kinds = filter (has_kind kinds) all_kinds
+
+-- each kind that the one list has, the other has
+unfoldable pub is_subset : List Kind → List Kind → Bool
+is_subset kinds others = list_all (λ kind. not (has_kind kinds kind) || has_kind others kind) all_kinds
 
 -- the kinds that have a mark at their place
 unfoldable pub marked_kinds : List Bool → List Kind

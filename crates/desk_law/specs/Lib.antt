@@ -1,3 +1,4 @@
+pub mod Annex
 pub mod Exemption
 pub mod InForce
 pub mod Kind

@@ -1,5 +1,5 @@
 ghost use Rattle.std.specs.Prelude.{◌≡◌, ◌↔◌, IsTrue, [], ◌∷◌, not, Some};
-ghost use Rattle.desk_law.specs.KindSet.{has_kind, kinds_text, set_of};
+ghost use Rattle.desk_law.specs.KindSet.{has_kind, is_subset, kinds_text, set_of};
 
 use crate::Kind;
 use std::fmt;
@@ -53,6 +53,16 @@ impl KindSet {
         let is_new = !self.marks[kind.place()];
         self.marks[kind.place()] = true;
         is_new
+    }
+
+    /// Whether each kind of this set is in the other.
+    #[tactic(auto, unfolding(crate::specs::KindSet::is_subset))]
+    pub fn is_subset(&self, other: &KindSet) -> bool
+        ensures { result ≡ is_subset self.now other.now }
+    {
+        Kind::ALL
+            .iter()
+            .all(|kind| !self.contains(*kind) || other.contains(*kind))
     }
 
     /// Whether the set has no kind.

@@ -1,4 +1,11 @@
-use crate::{Kind, Rule};
+ghost use Rattle.std.specs.List.Sorted.{IsSortedByKey};
+ghost use Rattle.desk_text.specs.Code.{code_cmp};
+
+use crate::{
+    Annex, Claim, Kind, KindSet, Rule, Terms, Verdict, covers, in_force, judge, limit_ppm, over,
+};
+use desk_text::{Code, Day, ExemptionNumber};
+use std::process::Abort;
 use std::test::Fail;
 
 #[test]
@@ -32,24 +39,382 @@ fn reads_and_writes_the_fourteen_kinds(rt: HostRuntime) -> Result<(), Fail> {
 #[test]
 fn reads_and_writes_the_ten_rules(rt: HostRuntime) -> Result<(), Fail> {
     let rows = [
-        (Rule::Lead, 1, "lead"),
-        (Rule::Mercury, 2, "mercury"),
-        (Rule::Cadmium, 3, "cadmium"),
-        (Rule::ChromiumVi, 4, "chromium-vi"),
-        (Rule::Pbb, 5, "pbb"),
-        (Rule::Pbde, 6, "pbde"),
-        (Rule::Dehp, 7, "dehp"),
-        (Rule::Bbp, 8, "bbp"),
-        (Rule::Dbp, 9, "dbp"),
-        (Rule::Dibp, 10, "dibp"),
+        (Rule::Lead, 1, "lead", 1000),
+        (Rule::Mercury, 2, "mercury", 1000),
+        (Rule::Cadmium, 3, "cadmium", 100),
+        (Rule::ChromiumVi, 4, "chromium-vi", 1000),
+        (Rule::Pbb, 5, "pbb", 1000),
+        (Rule::Pbde, 6, "pbde", 1000),
+        (Rule::Dehp, 7, "dehp", 1000),
+        (Rule::Bbp, 8, "bbp", 1000),
+        (Rule::Dbp, 9, "dbp", 1000),
+        (Rule::Dibp, 10, "dibp", 1000),
     ];
-    for (rule, number, code) in rows {
+    for (rule, number, code, limit) in rows {
         assert_eq!(rt; Rule::read(code.as_bytes()), Some(rule));
         assert_eq!(rt; rule.number(), number);
         assert_eq!(rt; rule.to_string(rt.alloc())?.as_bytes(), code.as_bytes());
+        assert_eq!(rt; limit_ppm(rule), limit);
     }
     for stranger in ["", "Lead", "r11", "lead "] {
         assert_eq!(rt; Rule::read(stranger.as_bytes()), None);
+    }
+    Ok(())
+}
+
+#[test]
+fn a_set_writes_its_kinds_once_in_the_order_of_the_annex(rt: HostRuntime) -> Result<(), Fail> {
+    let mut set = KindSet::from([Kind::Other, Kind::Toy, Kind::Other].as_slice());
+    assert!(rt; set.insert(Kind::LargeHousehold));
+    assert!(rt; !set.insert(Kind::Toy));
+    assert_eq!(rt;
+        set.to_string(rt.alloc())?.as_bytes(),
+        b"1,7t,11".as_slice()
+    );
+    assert!(rt; set.contains(Kind::Other) && !set.contains(Kind::ToyLeisureSports));
+    assert!(rt; !set.is_empty() && KindSet::new().is_empty());
+    assert!(rt; KindSet::new().is_subset(&set) && !set.is_subset(&KindSet::new()));
+    assert_eq!(rt;
+        KindSet::new().to_string(rt.alloc())?.as_bytes(),
+        b"".as_slice()
+    );
+    Ok(())
+}
+
+#[test]
+fn annex_four_is_for_medical_devices_and_instruments(rt: HostRuntime) -> Result<(), Fail> {
+    let rows = [
+        (Annex::Three, 3, "1,2,3,4,5,6,7,7t,8,8i,9,9i,10,11"),
+        (Annex::Four, 4, "8,8i,9,9i"),
+    ];
+    for (annex, number, kinds) in rows {
+        assert_eq!(rt; annex.number(), number);
+        assert_eq!(rt;
+            annex.kinds().to_string(rt.alloc())?.as_bytes(),
+            kinds.as_bytes()
+        );
+    }
+    assert_eq!(rt;
+        Annex::Four.to_string(rt.alloc())?.as_bytes(),
+        b"4".as_slice()
+    );
+    Ok(())
+}
+
+#[test]
+fn a_share_is_over_only_above_the_limit(rt: HostRuntime) {
+    let rows = [
+        (1_000_000_000, 1_000_000, 1000, false),
+        (1_000_000_001, 1_000_000, 1000, true),
+        (0, 0, 1000, false),
+        (1, 0, 1000, true),
+        (u128::MAX, u64::MAX, u32::MAX, true),
+    ];
+    for (share, mass, ppm, want) in rows {
+        assert_eq!(rt; over(share, mass, ppm), want, "{share} of {mass}");
+    }
+}
+
+/// The year for a rule that never comes into force: it is past the last day.
+const NEVER: u16 = 2100;
+
+/// Asserts that the rule comes into force for each kind on 22 July of the year in this list.
+fn assert_first_years(rt: &impl Abort, rule: Rule, years: &[u16; 14]) {
+    let stages = [
+        Day::new(2014, 7, 22),
+        Day::new(2016, 7, 21),
+        Day::new(2016, 7, 22),
+        Day::new(2017, 7, 21),
+        Day::new(2017, 7, 22),
+        Day::new(2019, 7, 21),
+        Day::new(2019, 7, 22),
+        Day::new(2021, 7, 21),
+        Day::new(2021, 7, 22),
+        Day::new(2099, 12, 31),
+    ];
+    for day in stages {
+        assert!(rt; day.is_askable());
+        for (kind, year) in Kind::ALL.iter().zip(years) {
+            let has_come = (day.year(), day.month(), day.day()) >= (*year, 7, 22);
+            assert_eq!(rt;
+                in_force(rule, *kind, day),
+                has_come,
+                "{rule} for {kind} on {day}"
+            );
+        }
+    }
+}
+
+#[test]
+fn each_rule_comes_into_force_for_each_kind_on_its_day(rt: HostRuntime) {
+    // kinds 1 to 7, 7t, 8, 8i, 9, 9i, 10, 11
+    let first_six = [
+        2014, 2014, 2014, 2014, 2014, 2014, 2014, 2014, 2014, 2016, 2014, 2017, 2014, 2019,
+    ];
+    let in_entry_51 = [
+        2019, 2019, 2019, 2019, 2019, 2019, 2019, NEVER, 2021, 2021, 2021, 2021, 2019, 2019,
+    ];
+    let dibp = [
+        2019, 2019, 2019, 2019, 2019, 2019, 2019, 2019, 2021, 2021, 2021, 2021, 2019, 2019,
+    ];
+    for rule in &Rule::ALL[..6] {
+        assert_first_years(&rt, *rule, &first_six);
+    }
+    for rule in &Rule::ALL[6..9] {
+        assert_first_years(&rt, *rule, &in_entry_51);
+    }
+    assert_first_years(&rt, Rule::Dibp, &dibp);
+}
+
+/// The terms of exemption `6(c)` for lead in equipment of kind 3, from 2014-07-22 to 2026-06-30.
+fn copper_alloys(row: &[u8], floor: Option<u32>, cap: Option<u32>) -> Result<Terms, Fail> {
+    Ok(Terms {
+        row: Code::read(row)?,
+        annex: Annex::Three,
+        number: ExemptionNumber::read(b"6(c)")?,
+        rule: Rule::Lead,
+        kinds: KindSet::from([Kind::Telecommunications].as_slice()),
+        first: Day::new(2014, 7, 22),
+        last: Day::new(2026, 6, 30),
+        floor,
+        cap,
+    })
+}
+
+/// A claim of an exemption from the rule on lead.
+fn claim(number: &[u8]) -> Result<Claim, Fail> {
+    Ok(Claim {
+        rule: Rule::Lead,
+        number: ExemptionNumber::read(number)?,
+    })
+}
+
+#[test]
+fn a_row_covers_on_its_days_for_its_kinds(rt: HostRuntime) -> Result<(), Fail> {
+    let row = copper_alloys(b"R6C", None, Some(40000))?;
+    let claims = [claim(b"6(a)")?, claim(b"6(c)")?];
+    let cases = [
+        (Kind::Telecommunications, Day::new(2014, 7, 21), false),
+        (Kind::Telecommunications, Day::new(2014, 7, 22), true),
+        (Kind::Telecommunications, Day::new(2026, 6, 30), true),
+        (Kind::Telecommunications, Day::new(2026, 7, 1), false),
+        (Kind::Consumer, Day::new(2026, 6, 30), false),
+    ];
+    for (kind, day, want) in cases {
+        let is_covered = covers(
+            &row,
+            &claims,
+            Rule::Lead,
+            kind,
+            day,
+            40_000_000_000,
+            1_000_000,
+        );
+        assert_eq!(rt; is_covered, want, "{kind} on {day}");
+    }
+    Ok(())
+}
+
+#[test]
+fn a_row_covers_from_its_floor_to_its_cap(rt: HostRuntime) -> Result<(), Fail> {
+    let claims = [claim(b"6(c)")?];
+    let day = Day::new(2024, 1, 23);
+    let cases = [
+        (None, Some(40000), 40_000_000_000, true),
+        (None, Some(40000), 40_000_000_001, false),
+        (Some(1500), Some(40000), 1_499_999_999, false),
+        (Some(1500), Some(40000), 1_500_000_000, true),
+        (None, None, u128::MAX, true),
+    ];
+    for (floor, cap, share, want) in cases {
+        let row = copper_alloys(b"R6C", floor, cap)?;
+        let is_covered = covers(
+            &row,
+            &claims,
+            Rule::Lead,
+            Kind::Telecommunications,
+            day,
+            share,
+            1_000_000,
+        );
+        assert_eq!(rt; is_covered, want, "{share}");
+    }
+    Ok(())
+}
+
+#[test]
+fn a_row_covers_only_what_is_claimed_by_its_rule_and_number(rt: HostRuntime) -> Result<(), Fail> {
+    let row = copper_alloys(b"R6C", None, None)?;
+    let day = Day::new(2024, 1, 23);
+    let it = Kind::Telecommunications;
+    let other = [claim(b"6(a)")?];
+    let same = [claim(b"6(c)")?];
+    assert!(rt; !covers(&row, &[], Rule::Lead, it, day, 2_000_000_000, 1_000_000));
+    assert!(rt; !covers(&row, &other, Rule::Lead, it, day, 2_000_000_000, 1_000_000));
+    assert!(rt;
+        !covers(
+            &row,
+            &same,
+            Rule::Cadmium,
+            it,
+            day,
+            2_000_000_000,
+            1_000_000
+        )
+    );
+    assert!(rt; covers(&row, &same, Rule::Lead, it, day, 2_000_000_000, 1_000_000));
+    Ok(())
+}
+
+#[test]
+fn the_verdict_is_the_first_that_applies(rt: HostRuntime) -> Result<(), Fail> {
+    let rows = [copper_alloys(b"R6C", None, Some(40000))?];
+    let claims = [claim(b"6(c)")?];
+    let it = Kind::Telecommunications;
+    let industrial = Kind::IndustrialInstrument;
+    let exempt = Verdict::Exempt { place: 0 };
+    let cases = [
+        (
+            Rule::Lead,
+            it,
+            Day::new(2026, 6, 30),
+            1_000_000_000,
+            Verdict::Within,
+        ),
+        (Rule::Lead, it, Day::new(2026, 6, 30), 1_000_000_001, exempt),
+        (
+            Rule::Lead,
+            it,
+            Day::new(2026, 6, 30),
+            40_000_000_000,
+            exempt,
+        ),
+        (
+            Rule::Lead,
+            it,
+            Day::new(2026, 7, 1),
+            40_000_000_000,
+            Verdict::Breach,
+        ),
+        (
+            Rule::Lead,
+            it,
+            Day::new(2026, 6, 30),
+            40_001_000_000,
+            Verdict::Breach,
+        ),
+        (
+            Rule::Lead,
+            it,
+            Day::new(2026, 7, 1),
+            40_001_000_000,
+            Verdict::Breach,
+        ),
+        (
+            Rule::Cadmium,
+            it,
+            Day::new(2026, 6, 30),
+            101_000_000,
+            Verdict::Breach,
+        ),
+        (
+            Rule::Dehp,
+            industrial,
+            Day::new(2021, 7, 21),
+            2_000_000_000,
+            Verdict::NotInForce,
+        ),
+        (
+            Rule::Dehp,
+            industrial,
+            Day::new(2021, 7, 22),
+            2_000_000_000,
+            Verdict::Breach,
+        ),
+        (
+            Rule::Dehp,
+            Kind::Toy,
+            Day::new(2024, 1, 23),
+            2_000_000_000,
+            Verdict::NotInForce,
+        ),
+        (
+            Rule::Dibp,
+            Kind::Toy,
+            Day::new(2024, 1, 23),
+            2_000_000_000,
+            Verdict::Breach,
+        ),
+    ];
+    for (rule, kind, day, share, want) in cases {
+        assert!(rt; day.is_askable());
+        let verdict = judge(share, 1_000_000, &claims, rule, kind, day, &rows);
+        assert_eq!(rt; verdict, want, "{rule} {share} for {kind} on {day}");
+    }
+    Ok(())
+}
+
+#[test]
+fn a_rule_that_is_not_in_force_needs_no_exemption(rt: HostRuntime) -> Result<(), Fail> {
+    let mut row = copper_alloys(b"R6C", None, None)?;
+    row.kinds.insert(Kind::Other);
+    let rows = [row];
+    let claims = [claim(b"6(c)")?];
+    let before = Day::new(2019, 7, 21);
+    let first = Day::new(2019, 7, 22);
+    assert_eq!(rt;
+        judge(
+            2_000_000_000,
+            1_000_000,
+            &claims,
+            Rule::Lead,
+            Kind::Other,
+            before,
+            &rows
+        ),
+        Verdict::NotInForce
+    );
+    assert_eq!(rt;
+        judge(
+            2_000_000_000,
+            1_000_000,
+            &claims,
+            Rule::Lead,
+            Kind::Other,
+            first,
+            &rows
+        ),
+        Verdict::Exempt { place: 0 }
+    );
+    Ok(())
+}
+
+/// Two rows in order of code.
+fn in_order(rt: &impl Abort, first: Terms, second: Terms) -> [Terms; 2]
+    ensures { IsSortedByKey (λ row. row.row) code_cmp result }
+{
+    assert!(rt; first.row < second.row);
+    [first, second]
+}
+
+#[test]
+fn of_the_rows_that_cover_the_least_code_is_named(rt: HostRuntime) -> Result<(), Fail> {
+    let narrow = copper_alloys(b"R6C-1", None, Some(2000))?;
+    let wide = copper_alloys(b"R6C-2", None, Some(40000))?;
+    let rows = in_order(&rt, narrow, wide);
+    let claims = [claim(b"6(c)")?];
+    let day = Day::new(2024, 1, 23);
+    for (share, place) in [(2_000_000_000, 0), (2_000_000_001, 1)] {
+        let verdict = judge(
+            share,
+            1_000_000,
+            &claims,
+            Rule::Lead,
+            Kind::Telecommunications,
+            day,
+            &rows,
+        );
+        assert_eq!(rt; verdict, Verdict::Exempt { place });
     }
     Ok(())
 }
