@@ -20,3 +20,6 @@ pub use exemption_number::{EXEMPTION_NUMBER_LIMIT, ExemptionNumber};
 pub use memory::OutOfMemory;
 pub use name::{NAME_LIMIT, Name, NameFault};
 pub use number::{NumberFault, push_u128, read_u32, read_u64};
+
+#[cfg(test)]
+mod tests;
