@@ -1,1 +1,4 @@
+pub mod Bill
+pub mod Elements
 pub mod ExampleProofs
+pub mod Kept
