@@ -10,7 +10,7 @@ use Rattle.desk_model.specs.declared.rows.part.PartRow.{PartRow}
 use Rattle.desk_model.specs.Lists.{Lists, is_part}
 use Rattle.desk_model.specs.Reaches.{enough, is_or_reaches, lines_of, reaches, reaches_within}
 use Rattle.desk_model.specs.Rolled.{rolled, rolled_within}
-use Rattle.desk_model.proofs.Elements.{any_from_each, any_gives, any_map, any_same, count_le, count_less, each, each_both, each_filter, each_map, none_kept, same_or_more, sum_same}
+use Rattle.desk_model.proofs.Elements.{any_from_each, any_gives, any_of_filter, any_map, any_same, count_le, count_less, each, each_both, each_filter, each_from_all, each_map, none_kept, same_or_more, sum_same}
 use Rattle.desk_model.proofs.Kept.{kept_any, kept_each, same_code-from, same_code-true}
 
 -- each line is a kept part's
@@ -112,3 +112,145 @@ module _ (t : Lists) (parents : HasParents t) where
           | inl found ↦ subst IsStable (omega (arith, found.1)) (stable_later found.0 (enough t - found.0) found.2)
           | inr more ↦ absurd (omega (arith, too_many (enough t) more))
         ]
+
+    -- what a part reaches, by its lines
+    pub reaches-step : (part : List ℕ) → reaches t part target ≡ list_any (λ line. is_or_reaches t line.child target) (lines_of t.lines part)
+    unfolding within IsStable
+    reaches-step part = sym (stable_enough part) ∙ within-suc (enough t) part
+
+    -- greater depth finds no more
+    pub reaches-deeper : (more : ℕ) (part : List ℕ) → reaches_within t.lines (more + enough t) part target ≡ reaches t part target
+    unfolding within IsStable
+    reaches-deeper zero part = rw Rattle.std.proofs.Common.zero-add refl
+    reaches-deeper (suc more) part =
+        let same : suc more + enough t ≡ suc (more + enough t) = omega arith in
+        rw same (stable_later (enough t) more stable_enough part ∙ reaches-deeper more part)
+
+  -- a line leads its part to what its child is or reaches
+  pub by_line : AllByRecursion (λ line. (target : List ℕ) → is_or_reaches t line.child target ≡ true → reaches t line.parent target ≡ true) t.lines
+  by_line =
+      each_map
+      (λ line. (test p : LineRow → Bool) → test line ≡ true → p line ≡ true → list_any p (filter test t.lines) ≡ true)
+      (λ line. (target : List ℕ) → is_or_reaches t line.child target ≡ true → reaches t line.parent target ≡ true)
+      (λ line f target e. reaches-step target line.parent ∙ f (λ other. same_code other.parent line.parent) (λ other. is_or_reaches t other.child target) (same_code_itself line.parent) e)
+      t.lines (any_of_filter t.lines)
+
+  within_trans : (k : ℕ) (a b c : List ℕ) → within b k a ≡ true → reaches t b c ≡ true → reaches t a c ≡ true
+  within_trans zero a b c e f = absurd (both_ways (within b zero a) (within-zero b a) e)
+  within_trans (suc k) a b c e f =
+      reaches-step c a
+      ∙ any_map (λ line. same_code line.child b || within b k line.child) (λ line. is_or_reaches t line.child c) (lines_of t.lines a)
+      (each (λ line. (same_code line.child b || within b k line.child) ≡ true → is_or_reaches t line.child c ≡ true)
+      (λ line h.
+        or_right (same_code line.child c) (reaches t line.child c)
+        (⊎_elim (λ here. subst (λ d. reaches t d c ≡ true) (sym (same_code-true line.child b here)) f) (λ there. within_trans k line.child b c there f) (or_cases (same_code line.child b) (within b k line.child) h)))
+      (lines_of t.lines a))
+      (sym (within-suc b k a) ∙ e)
+
+  -- a part reaches what its reached parts reach
+  pub reaches_trans : (a b c : List ℕ) → reaches t a b ≡ true → reaches t b c ≡ true → reaches t a c ≡ true
+  unfolding within
+  reaches_trans a b c e f = within_trans (enough t) a b c e f
+
+  pub is_or_reaches_trans : (a b c : List ℕ) → reaches t a b ≡ true → is_or_reaches t b c ≡ true → reaches t a c ≡ true
+  is_or_reaches_trans a b c e f =
+      ⊎_elim (λ here. subst (λ d. reaches t a d ≡ true) (same_code-true b c here) e) (λ there. reaches_trans a b c e there) (or_cases (same_code b c) (reaches t b c) f)
+
+  -- how many parts a part reaches
+  rank : List ℕ → ℕ
+  rank code = count_by (λ part. reaches t code part.code) t.parts
+
+  rank-le : (code : List ℕ) → rank code ≤ length t.parts
+  unfolding rank
+  rank-le code = count_by-le-length (λ part. reaches t code part.code) t.parts
+
+  module _ (acyclic : list_all (λ part. not (reaches t part.code part.code)) t.parts ≡ true) where
+    -- no part reaches itself
+    pub not_itself : (code : List ℕ) → is_part t code ≡ true → reaches t code code ≡ false
+    not_itself code kept =
+        not-true (reaches t code code)
+        (kept_each (λ row. row.code) (λ c. not (reaches t c c) ≡ true) code t.parts (each_from_all (λ part. not (reaches t part.code part.code)) t.parts acyclic) kept)
+
+    falls : (line : LineRow) → ((target : List ℕ) → is_or_reaches t line.child target ≡ true → reaches t line.parent target ≡ true) → is_part t line.child ≡ true → rank line.child < rank line.parent
+    unfolding rank
+    falls line by kept =
+        count_less (λ part. reaches t line.child part.code) (λ part. reaches t line.parent part.code) t.parts
+        (each (λ part. reaches t line.child part.code ≡ true → reaches t line.parent part.code ≡ true) (λ part e. by part.code (or_right (same_code line.child part.code) (reaches t line.child part.code) e)) t.parts)
+        (kept_any (λ row. row.code) (λ code. reaches t line.parent code && not (reaches t line.child code)) line.child t.parts kept
+        (and_from (reaches t line.parent line.child) (not (reaches t line.child line.child)) (by line.child (or_left (same_code line.child line.child) (reaches t line.child line.child) (same_code_itself line.child))) (not_from_false (reaches t line.child line.child) (not_itself line.child kept))))
+
+    -- the rank falls along each line
+    each_falls : AllByRecursion (λ line. is_part t line.child ≡ true → rank line.child < rank line.parent) t.lines
+    each_falls =
+        each_map (λ line. (target : List ℕ) → is_or_reaches t line.child target ≡ true → reaches t line.parent target ≡ true) (λ line. is_part t line.child ≡ true → rank line.child < rank line.parent) falls t.lines by_line
+
+    -- the children of a part that are parts have a lesser rank
+    below : (k : ℕ) (code : List ℕ) → rank code < suc k → AllByRecursion (λ line. is_part t line.child ≡ true → rank line.child < k) (lines_of t.lines code)
+    below k code h =
+        each_map (λ line. (is_part t line.child ≡ true → rank line.child < rank line.parent) × (same_code line.parent code ≡ true)) (λ line. is_part t line.child ≡ true → rank line.child < k)
+        (λ line f kept.
+          let falls_here = f.0 kept in
+          let same = ap rank (same_code-true line.parent code f.1) in
+          omega (arith, falls_here, same, h))
+        (lines_of t.lines code)
+        (each_filter (λ line. is_part t line.child ≡ true → rank line.child < rank line.parent) (λ line. same_code line.parent code) t.lines each_falls)
+
+    childless : (P : List ℕ → Type 0) → (code : List ℕ) → is_part t code ≡ false → AllByRecursion (λ line. P line.child) (lines_of t.lines code)
+    childless P code absent = rw (lines_of-none code absent) tt
+
+    by_rank : (P : List ℕ → Type 0) → ((code : List ℕ) → AllByRecursion (λ line. P line.child) (lines_of t.lines code) → P code) → (k : ℕ) (code : List ℕ) → (is_part t code ≡ true → rank code < k) → P code
+    by_rank P step zero code h =
+        elim (cases_Bool (is_part t code)) [ inl kept ↦ absurd (omega (arith, h kept)) | inr absent ↦ step code (childless P code absent) ]
+    by_rank P step (suc k) code h =
+        elim (cases_Bool (is_part t code)) [
+          | inl kept ↦
+            step code
+            (each_map (λ line. is_part t line.child ≡ true → rank line.child < k) (λ line. P line.child) (λ line g. by_rank P step k line.child g) (lines_of t.lines code) (below k code (h kept)))
+          | inr absent ↦ step code (childless P code absent)
+        ]
+
+    rank_enough : (code : List ℕ) → rank code < enough t
+    rank_enough code = omega (arith, rank-le code)
+
+    -- what holds of a code where it holds of the children of its lines holds of every code
+    pub bill_induction : (P : List ℕ → Type 0) → ((code : List ℕ) → AllByRecursion (λ line. P line.child) (lines_of t.lines code) → P code) → (code : List ℕ) → P code
+    bill_induction P step code = by_rank P step (enough t) code (λ _. rank_enough code)
+
+    module _ (own : List ℕ → ℕ) where
+      rolled_within-suc : (k : ℕ) (code : List ℕ) → rolled_within t.lines own (suc k) code ≡ own code + sum_by (λ line. line.count * rolled_within t.lines own k line.child) (lines_of t.lines code)
+      unfolding rolled_within
+      rolled_within-suc k code = refl
+
+      rolled_within-none : (k : ℕ) (code : List ℕ) → is_part t code ≡ false → rolled_within t.lines own k code ≡ own code
+      unfolding rolled_within
+      rolled_within-none zero code absent = refl
+      rolled_within-none (suc k) code absent = rw (lines_of-none code absent) (omega arith)
+
+      rolled_stable : (k : ℕ) (code : List ℕ) → (is_part t code ≡ true → rank code < k) → rolled_within t.lines own (suc k) code ≡ rolled_within t.lines own k code
+      rolled_stable zero code h =
+          elim (cases_Bool (is_part t code)) [
+            | inl kept ↦ absurd (omega (arith, h kept))
+            | inr absent ↦ rolled_within-none (suc zero) code absent ∙ sym (rolled_within-none zero code absent)
+          ]
+      rolled_stable (suc k) code h =
+          elim (cases_Bool (is_part t code)) [
+            | inl kept ↦
+              rolled_within-suc (suc k) code
+              ∙ ap (λ n. own code + n)
+              (sum_same (λ line. line.count * rolled_within t.lines own (suc k) line.child) (λ line. line.count * rolled_within t.lines own k line.child) (lines_of t.lines code)
+              (each_map (λ line. is_part t line.child ≡ true → rank line.child < k) (λ line. line.count * rolled_within t.lines own (suc k) line.child ≡ line.count * rolled_within t.lines own k line.child)
+              (λ line g. ap (λ n. line.count * n) (rolled_stable k line.child g)) (lines_of t.lines code) (below k code (h kept))))
+              ∙ sym (rolled_within-suc k code)
+            | inr absent ↦ rolled_within-none (suc (suc k)) code absent ∙ sym (rolled_within-none (suc k) code absent)
+          ]
+
+      -- what rolls up to a code, by its lines
+      pub rolled-step : (code : List ℕ) → rolled t own code ≡ own code + sum_by (λ line. line.count * rolled t own line.child) (lines_of t.lines code)
+      rolled-step code = sym (rolled_stable (enough t) code (λ _. rank_enough code)) ∙ rolled_within-suc (enough t) code
+
+      -- greater depth rolls up no more
+      pub rolled-deeper : (more : ℕ) (code : List ℕ) → rolled_within t.lines own (more + enough t) code ≡ rolled t own code
+      rolled-deeper zero code = rw Rattle.std.proofs.Common.zero-add refl
+      rolled-deeper (suc more) code =
+          let same : suc more + enough t ≡ suc (more + enough t) = omega arith in
+          rw same (rolled_stable (more + enough t) code (λ _. omega (arith, rank_enough code)) ∙ rolled-deeper more code)

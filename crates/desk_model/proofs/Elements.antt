@@ -1,5 +1,5 @@
 -- Facts on each element of a list, and what tests, sums and counts make of them.
-use Rattle.std.proofs.Common.{◌≡◌, ℕ, suc, ◌+◌, ◌<◌, ◌≤◌, Bool, true, false, cond, not, ◌&&◌, ◌||◌, List, [], ◌∷◌, map, length, filter, find, sum_by, count_by, Option, Some, None, is_some, refl, sym, ap, ◌∙◌, subst, ◌⊎◌, inl, inr, arith}
+use Rattle.std.proofs.Common.{◌≡◌, ℕ, suc, ◌+◌, ◌<◌, ◌≤◌, Bool, true, false, cond, not, ◌&&◌, ◌||◌, List, [], ◌∷◌, map, length, filter, find, sum_by, count_by, Option, Some, None, MatchOption, is_some, refl, sym, ap, ◌∙◌, subst, ◌⊎◌, inl, inr, arith}
 use Rattle.std.specs.Prelude.{if◌then◌else◌}
 use Rattle.std.specs.Bool.{beq}
 use Rattle.std.specs.List.{AllByRecursion, list_all, list_any}
@@ -126,3 +126,27 @@ same_or_more p q (x ∷ xs) a =
 pub none_kept : {X : Type 0} (test : X → Bool) (xs : List X) → AllByRecursion (λ x. test x ≡ false) xs → filter test xs ≡ []
 none_kept test [] a = refl
 none_kept test (x ∷ xs) a = rw a.0 (none_kept test xs a.1)
+
+filter_keeps : {X : Type 0} (test p : X → Bool) (x : X) (xs : List X) → list_any p (filter test xs) ≡ true → list_any p (filter test (x ∷ xs)) ≡ true
+filter_keeps test p x xs e =
+    elim (test x) as (λ b. list_any p (cond b (x ∷ filter test xs) (filter test xs)) ≡ true) [ true ↦ or_right (p x) (list_any p (filter test xs)) e | false ↦ e ]
+
+-- each element that passes both tests makes the second true of some element that the first keeps
+pub any_of_filter : {X : Type 0} (xs : List X) → AllByRecursion (λ x. (test p : X → Bool) → test x ≡ true → p x ≡ true → list_any p (filter test xs) ≡ true) xs
+any_of_filter [] = tt
+any_of_filter {X} (x ∷ xs) =
+    (λ test p kept good. rw kept (or_left (p x) (list_any p (filter test xs)) good),
+    each_map
+    (λ y. (test p : X → Bool) → test y ≡ true → p y ≡ true → list_any p (filter test xs) ≡ true)
+    (λ y. (test p : X → Bool) → test y ≡ true → p y ≡ true → list_any p (filter test (x ∷ xs)) ≡ true)
+    (λ y f test p kept good. filter_keeps test p x xs (f test p kept good))
+    xs (any_of_filter xs))
+
+-- what holds of each element holds of the first that passes
+pub find_each : {X : Type 0} (P : X → Type 0) (test : X → Bool) (xs : List X) → AllByRecursion P xs → MatchOption (find test xs) (list_any test xs ≡ false) (λ x. P x × (test x ≡ true))
+find_each P test [] a = refl
+find_each P test (x ∷ xs) a =
+    elim (test x) as (λ b. test x ≡ b → MatchOption (cond b (Some x) (find test xs)) ((b || list_any test xs) ≡ false) (λ y. P y × (test y ≡ true))) [
+      | true ↦ λ e. (a.0, e)
+      | false ↦ λ e. find_each P test xs a.1
+    ] refl
