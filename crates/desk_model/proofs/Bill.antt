@@ -1,16 +1,19 @@
 -- The recursions over the bill of materials: how deep they need to go, and what they come to.
-use Rattle.std.proofs.Common.{◌≡◌, ℕ, zero, suc, ◌+◌, ◌-◌, ◌*◌, ◌<◌, ◌≤◌, Bool, true, false, cond, not, ◌&&◌, ◌||◌, List, [], ◌∷◌, length, filter, find, sum_by, count_by, Option, Some, None, is_some, refl, sym, ap, ◌∙◌, subst, ◌⊎◌, inl, inr, ⊎_elim, arith, add-one}
+use Rattle.std.proofs.Common.{◌≡◌, ℕ, zero, suc, ◌+◌, ◌-◌, ◌*◌, ◌<◌, ◌≤◌, Bool, true, false, cond, not, ◌&&◌, ◌||◌, List, [], ◌∷◌, length, filter, find, sum_by, count_by, Option, Some, None, MatchOption, is_some, option_map, refl, sym, ap, ◌∙◌, subst, ◌⊎◌, inl, inr, ⊎_elim, arith, add-one}
+use Rattle.std.specs.Prelude.{if◌then◌else◌}
 use Rattle.std.specs.List.{AllByRecursion, list_all, list_any}
+use Rattle.std.specs.Option.{option_map_or}
 use Rattle.std.proofs.lemmas.Bool.{and_parts, and_from, or_left, or_right, or_cases, cases_Bool, both_ways, false≢true, not-true, not_from_false}
 use Rattle.std.proofs.lemmas.List.Sums.{count_by-le-length}
 use Rattle.desk_text.specs.Code.{same_code}
 use Rattle.desk_text.proofs.CodeLemmas.{same_code_itself}
 use Rattle.desk_model.specs.declared.rows.line.LineRow.{LineRow}
 use Rattle.desk_model.specs.declared.rows.part.PartRow.{PartRow}
-use Rattle.desk_model.specs.Lists.{Lists, is_part}
+use Rattle.desk_model.specs.Chain.{chain, chain_within, next_to}
+use Rattle.desk_model.specs.Lists.{Lists, is_kept, is_material, is_part}
 use Rattle.desk_model.specs.Reaches.{enough, is_or_reaches, lines_of, reaches, reaches_within}
 use Rattle.desk_model.specs.Rolled.{rolled, rolled_within}
-use Rattle.desk_model.proofs.Elements.{any_from_each, any_gives, any_of_filter, any_map, any_same, count_le, count_less, each, each_both, each_filter, each_from_all, each_map, none_kept, same_or_more, sum_same}
+use Rattle.desk_model.proofs.Elements.{any_from_each, any_gives, any_of_filter, any_map, any_same, count_le, count_less, each, each_both, each_filter, each_from_all, each_map, find_each, none_kept, same_or_more, sum_same}
 use Rattle.desk_model.proofs.Kept.{kept_any, kept_each, same_code-from, same_code-true}
 
 -- each line is a kept part's
@@ -254,3 +257,93 @@ module _ (t : Lists) (parents : HasParents t) where
       rolled-deeper (suc more) code =
           let same : suc more + enough t ≡ suc (more + enough t) = omega arith in
           rw same (rolled_stable (more + enough t) code (λ _. omega (arith, rank_enough code)) ∙ rolled-deeper more code)
+
+      -- a stored value that is right by its children is right
+      pub rolled-unique : (stored : List ℕ → ℕ) → AllByRecursion (λ line. is_kept t line.child ≡ true) t.lines → ((code : List ℕ) → is_kept t code ≡ true → stored code ≡ own code + sum_by (λ line. line.count * stored line.child) (lines_of t.lines code)) → (code : List ℕ) → is_kept t code ≡ true → stored code ≡ rolled t own code
+      rolled-unique stored children step =
+          bill_induction (λ code. is_kept t code ≡ true → stored code ≡ rolled t own code)
+          (λ code below kept.
+            step code kept
+            ∙ ap (λ n. own code + n)
+            (sum_same (λ line. line.count * stored line.child) (λ line. line.count * rolled t own line.child) (lines_of t.lines code)
+            (each_map (λ line. (is_kept t line.child ≡ true → stored line.child ≡ rolled t own line.child) × ((is_kept t line.child ≡ true) × (same_code line.parent code ≡ true))) (λ line. line.count * stored line.child ≡ line.count * rolled t own line.child)
+            (λ line h. ap (λ n. line.count * n) (h.0 h.1.0)) (lines_of t.lines code)
+            (each_both (λ line. is_kept t line.child ≡ true → stored line.child ≡ rolled t own line.child) (λ line. (is_kept t line.child ≡ true) × (same_code line.parent code ≡ true)) (lines_of t.lines code) below
+            (each_filter (λ line. is_kept t line.child ≡ true) (λ line. same_code line.parent code) t.lines children))))
+            ∙ sym (rolled-step code))
+
+    -- the same of what is stored on whom a part reaches
+    pub reaches-unique : (target : List ℕ) (stored : List ℕ → Bool) → AllByRecursion (λ line. is_kept t line.child ≡ true) t.lines → ((code : List ℕ) → is_kept t code ≡ true → stored code ≡ list_any (λ line. same_code line.child target || stored line.child) (lines_of t.lines code)) → (code : List ℕ) → is_kept t code ≡ true → stored code ≡ reaches t code target
+    reaches-unique target stored children step =
+        bill_induction (λ code. is_kept t code ≡ true → stored code ≡ reaches t code target)
+        (λ code below kept.
+          step code kept
+          ∙ any_same (λ line. same_code line.child target || stored line.child) (λ line. is_or_reaches t line.child target) (lines_of t.lines code)
+          (each_map (λ line. (is_kept t line.child ≡ true → stored line.child ≡ reaches t line.child target) × ((is_kept t line.child ≡ true) × (same_code line.parent code ≡ true))) (λ line. (same_code line.child target || stored line.child) ≡ is_or_reaches t line.child target)
+          (λ line h. ap (λ b. same_code line.child target || b) (h.0 h.1.0)) (lines_of t.lines code)
+          (each_both (λ line. is_kept t line.child ≡ true → stored line.child ≡ reaches t line.child target) (λ line. (is_kept t line.child ≡ true) × (same_code line.parent code ≡ true)) (lines_of t.lines code) below
+          (each_filter (λ line. is_kept t line.child ≡ true) (λ line. same_code line.parent code) t.lines children)))
+          ∙ sym (reaches-step target code))
+
+    -- chains
+    module _ (target : List ℕ) where
+      -- what the next child is, from what each child is
+      next_each : (P : List ℕ → Type 0) (part : List ℕ) → AllByRecursion (λ line. P line.child) (lines_of t.lines part) → MatchOption (next_to t part target) (list_any (λ line. is_or_reaches t line.child target) (lines_of t.lines part) ≡ false) (λ child. P child × (is_or_reaches t child target ≡ true))
+      next_each P part a =
+          mapped (find (λ line. is_or_reaches t line.child target) (lines_of t.lines part)) (find_each (λ line. P line.child) (λ line. is_or_reaches t line.child target) (lines_of t.lines part) a)
+        where
+          mapped : (o : Option LineRow) → MatchOption o (list_any (λ line. is_or_reaches t line.child target) (lines_of t.lines part) ≡ false) (λ line. P line.child × (is_or_reaches t line.child target ≡ true)) → MatchOption (option_map (λ line. line.child) o) (list_any (λ line. is_or_reaches t line.child target) (lines_of t.lines part) ≡ false) (λ child. P child × (is_or_reaches t child target ≡ true))
+          mapped None h = h
+          mapped (Some line) h = h
+
+      chain_within-suc : (k : ℕ) (part : List ℕ) → chain_within t (suc k) part target ≡ (if same_code part target then part ∷ [] else part ∷ option_map_or (λ child. chain_within t k child target) (next_to t part target) [])
+      unfolding chain_within
+      chain_within-suc k part = refl
+
+      chain_within-zero : (part : List ℕ) → chain_within t zero part target ≡ part ∷ []
+      unfolding chain_within
+      chain_within-zero part = refl
+
+      next_to-none : (part : List ℕ) → is_part t part ≡ false → next_to t part target ≡ None
+      next_to-none part absent = rw (lines_of-none part absent) refl
+
+      alone : (b : Bool) (part : List ℕ) → (if b then part ∷ [] else part ∷ []) ≡ part ∷ []
+      alone true part = refl
+      alone false part = refl
+
+      chain_within-none : (k : ℕ) (part : List ℕ) → is_part t part ≡ false → chain_within t k part target ≡ part ∷ []
+      chain_within-none zero part absent = chain_within-zero part
+      chain_within-none (suc k) part absent = chain_within-suc k part ∙ rw (next_to-none part absent) (alone (same_code part target) part)
+
+      chains_same : (k : ℕ) (o : Option (List ℕ)) (Q : Type 0) (R : List ℕ → Type 0) → MatchOption o Q (λ child. (chain_within t (suc k) child target ≡ chain_within t k child target) × R child) → option_map_or (λ child. chain_within t (suc k) child target) o [] ≡ option_map_or (λ child. chain_within t k child target) o []
+      chains_same k None Q R h = refl
+      chains_same k (Some child) Q R h = h.0
+
+      chain_stable : (k : ℕ) (part : List ℕ) → (is_part t part ≡ true → rank part < k) → chain_within t (suc k) part target ≡ chain_within t k part target
+      chain_stable zero part h =
+          elim (cases_Bool (is_part t part)) [
+            | inl kept ↦ absurd (omega (arith, h kept))
+            | inr absent ↦ chain_within-none (suc zero) part absent ∙ sym (chain_within-none zero part absent)
+          ]
+      chain_stable (suc k) part h =
+          elim (cases_Bool (is_part t part)) [
+            | inl kept ↦
+              chain_within-suc (suc k) part
+              ∙ ap (λ rest. if same_code part target then part ∷ [] else part ∷ rest)
+              (chains_same k (next_to t part target) _ _
+              (next_each (λ child. chain_within t (suc k) child target ≡ chain_within t k child target) part
+              (each_map (λ line. is_part t line.child ≡ true → rank line.child < k) (λ line. chain_within t (suc k) line.child target ≡ chain_within t k line.child target)
+              (λ line g. chain_stable k line.child g) (lines_of t.lines part) (below k part (h kept)))))
+              ∙ sym (chain_within-suc k part)
+            | inr absent ↦ chain_within-none (suc (suc k)) part absent ∙ sym (chain_within-none (suc k) part absent)
+          ]
+
+      -- a chain, by its next child
+      pub chain-step : (part : List ℕ) → chain t part target ≡ (if same_code part target then part ∷ [] else part ∷ option_map_or (λ child. chain t child target) (next_to t part target) [])
+      chain-step part = sym (chain_stable (enough t) part (λ _. rank_enough part)) ∙ chain_within-suc (enough t) part
+
+      pub chain-deeper : (more : ℕ) (part : List ℕ) → chain_within t (more + enough t) part target ≡ chain t part target
+      chain-deeper zero part = rw Rattle.std.proofs.Common.zero-add refl
+      chain-deeper (suc more) part =
+          let same : suc more + enough t ≡ suc (more + enough t) = omega arith in
+          rw same (chain_stable (more + enough t) part (λ _. omega (arith, rank_enough part)) ∙ chain-deeper more part)
