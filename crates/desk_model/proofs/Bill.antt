@@ -288,11 +288,11 @@ module _ (t : Lists) (parents : HasParents t) where
     -- chains
     module _ (target : List ℕ) where
       -- what the next child is, from what each child is
-      next_each : (P : List ℕ → Type 0) (part : List ℕ) → AllByRecursion (λ line. P line.child) (lines_of t.lines part) → MatchOption (next_to t part target) (list_any (λ line. is_or_reaches t line.child target) (lines_of t.lines part) ≡ false) (λ child. P child × (is_or_reaches t child target ≡ true))
+      pub next_each : (P : List ℕ → Type 0) (part : List ℕ) → AllByRecursion (λ line. P line.child) (lines_of t.lines part) → MatchOption (next_to t part target) (list_any (λ line. is_or_reaches t line.child target) (lines_of t.lines part) ≡ false) (λ child. P child × (is_or_reaches t child target ≡ true) × (list_any (λ line. is_or_reaches t line.child target) (lines_of t.lines part) ≡ true))
       next_each P part a =
           mapped (find (λ line. is_or_reaches t line.child target) (lines_of t.lines part)) (find_each (λ line. P line.child) (λ line. is_or_reaches t line.child target) (lines_of t.lines part) a)
         where
-          mapped : (o : Option LineRow) → MatchOption o (list_any (λ line. is_or_reaches t line.child target) (lines_of t.lines part) ≡ false) (λ line. P line.child × (is_or_reaches t line.child target ≡ true)) → MatchOption (option_map (λ line. line.child) o) (list_any (λ line. is_or_reaches t line.child target) (lines_of t.lines part) ≡ false) (λ child. P child × (is_or_reaches t child target ≡ true))
+          mapped : (o : Option LineRow) → MatchOption o (list_any (λ line. is_or_reaches t line.child target) (lines_of t.lines part) ≡ false) (λ line. P line.child × (is_or_reaches t line.child target ≡ true) × (list_any (λ other. is_or_reaches t other.child target) (lines_of t.lines part) ≡ true)) → MatchOption (option_map (λ line. line.child) o) (list_any (λ line. is_or_reaches t line.child target) (lines_of t.lines part) ≡ false) (λ child. P child × (is_or_reaches t child target ≡ true) × (list_any (λ line. is_or_reaches t line.child target) (lines_of t.lines part) ≡ true))
           mapped None h = h
           mapped (Some line) h = h
 
@@ -315,9 +315,9 @@ module _ (t : Lists) (parents : HasParents t) where
       chain_within-none zero part absent = chain_within-zero part
       chain_within-none (suc k) part absent = chain_within-suc k part ∙ rw (next_to-none part absent) (alone (same_code part target) part)
 
-      chains_same : (k : ℕ) (o : Option (List ℕ)) (Q : Type 0) (R : List ℕ → Type 0) → MatchOption o Q (λ child. (chain_within t (suc k) child target ≡ chain_within t k child target) × R child) → option_map_or (λ child. chain_within t (suc k) child target) o [] ≡ option_map_or (λ child. chain_within t k child target) o []
-      chains_same k None Q R h = refl
-      chains_same k (Some child) Q R h = h.0
+      chains_same : (k : ℕ) (o : Option (List ℕ)) (Q : Type 0) (R S : List ℕ → Type 0) → MatchOption o Q (λ child. (chain_within t (suc k) child target ≡ chain_within t k child target) × R child × S child) → option_map_or (λ child. chain_within t (suc k) child target) o [] ≡ option_map_or (λ child. chain_within t k child target) o []
+      chains_same k None Q R S h = refl
+      chains_same k (Some child) Q R S h = h.0
 
       chain_stable : (k : ℕ) (part : List ℕ) → (is_part t part ≡ true → rank part < k) → chain_within t (suc k) part target ≡ chain_within t k part target
       chain_stable zero part h =
@@ -330,7 +330,7 @@ module _ (t : Lists) (parents : HasParents t) where
             | inl kept ↦
               chain_within-suc (suc k) part
               ∙ ap (λ rest. if same_code part target then part ∷ [] else part ∷ rest)
-              (chains_same k (next_to t part target) _ _
+              (chains_same k (next_to t part target) _ _ _
               (next_each (λ child. chain_within t (suc k) child target ≡ chain_within t k child target) part
               (each_map (λ line. is_part t line.child ≡ true → rank line.child < k) (λ line. chain_within t (suc k) line.child target ≡ chain_within t k line.child target)
               (λ line g. chain_stable k line.child g) (lines_of t.lines part) (below k part (h kept)))))

@@ -143,10 +143,10 @@ any_of_filter {X} (x ∷ xs) =
     xs (any_of_filter xs))
 
 -- what holds of each element holds of the first that passes
-pub find_each : {X : Type 0} (P : X → Type 0) (test : X → Bool) (xs : List X) → AllByRecursion P xs → MatchOption (find test xs) (list_any test xs ≡ false) (λ x. P x × (test x ≡ true))
+pub find_each : {X : Type 0} (P : X → Type 0) (test : X → Bool) (xs : List X) → AllByRecursion P xs → MatchOption (find test xs) (list_any test xs ≡ false) (λ x. P x × (test x ≡ true) × (list_any test xs ≡ true))
 find_each P test [] a = refl
 find_each P test (x ∷ xs) a =
-    elim (test x) as (λ b. test x ≡ b → MatchOption (cond b (Some x) (find test xs)) ((b || list_any test xs) ≡ false) (λ y. P y × (test y ≡ true))) [
-      | true ↦ λ e. (a.0, e)
+    elim (test x) as (λ b. test x ≡ b → MatchOption (cond b (Some x) (find test xs)) ((b || list_any test xs) ≡ false) (λ y. P y × (test y ≡ true) × ((b || list_any test xs) ≡ true))) [
+      | true ↦ λ e. (a.0, e, refl)
       | false ↦ λ e. find_each P test xs a.1
     ] refl

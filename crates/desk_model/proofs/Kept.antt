@@ -2,10 +2,14 @@
 use Rattle.std.proofs.Common.{◌≡◌, ℕ, ◌<◌, Bool, true, false, cond, not, List, [], ◌∷◌, Option, Some, None, is_some, is_eq, refl, sym, ap, ◌∙◌, subst, Ordering, Less, Equal, Greater}
 use Rattle.std.specs.Prelude.{if◌then◌else◌}
 use Rattle.std.specs.List.{AllByRecursion, list_any}
+use Rattle.std.specs.Cmp.{IsTotalOrder}
+use Rattle.std.proofs.lemmas.Cmp.{nat_cmp_total, nat_list_cmp_total, on_total, then_total, tied_itself}
 use Rattle.std.proofs.lemmas.Bool.{cases_Bool, both_ways, false≢true, or_left, or_right}
 use Rattle.desk_text.specs.Code.{code_cmp, same_code}
 use Rattle.desk_text.proofs.CodeLemmas.{same_code-Decides, same_code_itself}
 use Rattle.desk_rows.specs.Rows.{row_of}
+use Rattle.desk_model.specs.Lists.{line_key_cmp, member_key_cmp, shipment_key_cmp}
+use Rattle.desk_model.proofs.Elements.{each_map}
 
 -- codes are the same exactly where they are equal
 pub same_code-true : (a b : List ℕ) → same_code a b ≡ true → a ≡ b
@@ -49,3 +53,27 @@ module _ {R : Type 0} (key : R → List ℕ) where
         | true ↦ λ same here. or_left (test (key first)) (list_any (λ row. test (key row)) rows) (subst (λ c. test c ≡ true) (sym (same_code-true (key first) code same)) h)
         | false ↦ λ other later. or_right (test (key first)) (list_any (λ row. test (key row)) rows) (kept_any test code rows later h)
       ] refl e
+
+module _ {R K : Type 0} (key : R → K) (cmp : K → K → Ordering) (o : IsTotalOrder cmp) where
+  found_later : (k : K) (first : R) (rows : List R) → is_some (row_of key cmp k rows) ≡ true → is_some (row_of key cmp k (first ∷ rows)) ≡ true
+  found_later k first rows e = elim (is_eq (cmp (key first) k)) as (λ b. is_some (cond b (Some first) (row_of key cmp k rows)) ≡ true) [ true ↦ refl | false ↦ e ]
+
+  -- each row's key is kept
+  pub each_kept : (rows : List R) → AllByRecursion (λ row. is_some (row_of key cmp (key row) rows) ≡ true) rows
+  each_kept [] = tt
+  each_kept (first ∷ rows) =
+      (rw (tied_itself o (key first)) refl,
+      each_map (λ row. is_some (row_of key cmp (key row) rows) ≡ true) (λ row. is_some (row_of key cmp (key row) (first ∷ rows)) ≡ true) (λ row e. found_later (key row) first rows e) rows (each_kept rows))
+
+-- the orders of the tables' keys
+pub code_cmp_total : IsTotalOrder code_cmp
+code_cmp_total = nat_list_cmp_total
+
+pub line_key_cmp_total : IsTotalOrder line_key_cmp
+line_key_cmp_total = then_total (on_total (λ key. key.0) nat_list_cmp_total) (on_total (λ key. key.1) nat_list_cmp_total)
+
+pub member_key_cmp_total : IsTotalOrder member_key_cmp
+member_key_cmp_total = then_total (on_total (λ key. key.0) nat_list_cmp_total) (on_total (λ key. key.1) nat_cmp_total)
+
+pub shipment_key_cmp_total : IsTotalOrder shipment_key_cmp
+shipment_key_cmp_total = then_total (on_total (λ key. key.0) nat_cmp_total) (on_total (λ key. key.1) nat_list_cmp_total)

@@ -1,4 +1,5 @@
 pub mod Bill
+pub mod Chains
 pub mod Elements
 pub mod ExampleProofs
 pub mod Kept

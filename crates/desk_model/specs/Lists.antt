@@ -94,6 +94,9 @@ is_part t code = is_some (part_row t code)
 abbrev pub is_kept : Lists → List ℕ → Bool
 is_kept t code = is_material t code || is_part t code
 
+abbrev pub is_line : Lists → List ℕ → List ℕ → Bool
+is_line t parent child = is_some (line_row t parent child)
+
 abbrev pub is_product : Lists → List ℕ → Bool
 is_product t code = is_some (product_row t code)
 
