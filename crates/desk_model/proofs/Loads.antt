@@ -1,0 +1,59 @@
+-- What a part carries never exceeds its mass.
+use Rattle.std.proofs.Common.{◌≡◌, ℕ, ◌+◌, ◌*◌, ◌<◌, ◌≤◌, Bool, true, false, cond, not, ◌&&◌, List, [], ◌∷◌, find, sum_by, Option, Some, None, refl, sym, ap, ◌∙◌, subst, inl, inr, arith, mul-le-mul_left}
+use Rattle.std.specs.Prelude.{if◌then◌else◌, nat_lt}
+use Rattle.std.specs.List.{AllByRecursion, list_all}
+use Rattle.std.specs.Option.{option_map_or}
+use Rattle.std.proofs.lemmas.Bool.{and_parts, cases_Bool, not-true, ltb-false}
+use Rattle.std.proofs.lemmas.List.Sums.{sum_by-cons}
+use Rattle.desk_text.specs.Code.{same_code}
+use Rattle.desk_model.specs.declared.rows.line.LineRow.{LineRow}
+use Rattle.desk_model.specs.declared.rows.material.MaterialRow.{MaterialRow}
+use Rattle.desk_model.specs.declared.substance_mass.SubstanceMass.{SubstanceMass}
+use Rattle.desk_model.specs.Above.{content, held_mass, is_above, mass_in}
+use Rattle.desk_model.specs.Articles.{is_article}
+use Rattle.desk_model.specs.Carried.{carried, own_load}
+use Rattle.desk_model.specs.Content.{holds_too_much}
+use Rattle.desk_model.specs.Lists.{Lists, is_material, is_part, material_row}
+use Rattle.desk_model.specs.Mass.{mass, own_mass}
+use Rattle.desk_model.specs.Reaches.{lines_of}
+use Rattle.desk_model.specs.Sound.{Sound, has_right_child}
+use Rattle.desk_model.proofs.Bill.{bill_induction, lines_of-none, rolled-step}
+use Rattle.desk_model.proofs.Elements.{each, each_both, each_filter, each_from_all, each_map, sum_le, sum_same}
+use Rattle.desk_model.proofs.Kept.{found_each, same_code-true}
+use Rattle.desk_model.proofs.Sounds.{article_child, each_right_child, has_parents, is_part-article, not_part}
+
+held_mass-le : (substance : List ℕ) (held : List SubstanceMass) → held_mass substance held ≤ sum_by (λ one. one.mass) held
+held_mass-le substance [] = omega arith
+held_mass-le substance (one ∷ held) =
+    elim (same_code one.substance substance) as (λ b. option_map_or (λ x. x.mass) (cond b (Some one) (find (λ x. same_code x.substance substance) held)) 0 ≤ sum_by (λ x. x.mass) (one ∷ held)) [
+      | true ↦ omega (arith, sum_by-cons (λ x. x.mass) one held)
+      | false ↦ omega (arith, sum_by-cons (λ x. x.mass) one held, held_mass-le substance held)
+    ]
+
+module _ (t : Lists) (s : Sound t) where
+  mass-step : (code : List ℕ) → mass t code ≡ own_mass t code + sum_by (λ line. line.count * mass t line.child) (lines_of t.lines code)
+  mass-step code = rolled-step t (has_parents t s) s.acyclic (own_mass t) code
+
+  carried-step : (substance code : List ℕ) → carried t substance code ≡ own_load t substance code + sum_by (λ line. line.count * carried t substance line.child) (lines_of t.lines code)
+  carried-step substance code = rolled-step t (has_parents t s) s.acyclic (own_load t substance) code
+
+  fits : AllByRecursion (λ material. not (holds_too_much material.mass material.substances) ≡ true) t.materials
+  fits = each_from_all (λ material. not (holds_too_much material.mass material.substances)) t.materials s.masses_fit
+
+  material_holds : (substance code : List ℕ) (o : Option MaterialRow) → material_row t code ≡ o → option_map_or (λ material. held_mass substance material.substances) o 0 ≤ option_map_or (λ material. material.mass) o 0
+  material_holds substance code None e = omega arith
+  material_holds substance code (Some material) e =
+      let found = found_each (λ row. row.code) (λ row. not (holds_too_much row.mass row.substances) ≡ true) code t.materials material fits e in
+      let whole = ltb-false material.mass (sum_by (λ one. one.mass) material.substances) (not-true _ found.0) in
+      omega (arith, held_mass-le substance material.substances, whole)
+
+  -- a material holds no more of a substance than it weighs
+  mass_in-le : (substance code : List ℕ) → mass_in t substance code ≤ mass t code
+  mass_in-le substance code = omega (arith, material_holds substance code (material_row t code) refl, mass-step code)
+
+  -- an article has no more of a substance than it weighs
+  content-le : (article substance : List ℕ) → content t article substance ≤ sum_by (λ line. line.count * mass t line.child) (lines_of t.lines article)
+  unfolding content
+  content-le article substance =
+      sum_le (λ line. line.count * mass_in t substance line.child) (λ line. line.count * mass t line.child) (lines_of t.lines article)
+      (each (λ line. line.count * mass_in t substance line.child ≤ line.count * mass t line.child) (λ line. mul-le-mul_left line.count (mass_in-le substance line.child)) (lines_of t.lines article))
