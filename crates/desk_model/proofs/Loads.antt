@@ -57,3 +57,54 @@ module _ (t : Lists) (s : Sound t) where
   content-le article substance =
       sum_le (λ line. line.count * mass_in t substance line.child) (λ line. line.count * mass t line.child) (lines_of t.lines article)
       (each (λ line. line.count * mass_in t substance line.child ≤ line.count * mass t line.child) (λ line. mul-le-mul_left line.count (mass_in-le substance line.child)) (lines_of t.lines article))
+
+  -- a material carries nothing
+  carried-material : (substance code : List ℕ) → is_material t code ≡ true → carried t substance code ≡ 0
+  carried-material substance code kept =
+      let absent = not_part t s.codes_apart code kept in
+      carried-step substance code
+      ∙ rw (lines_of-none t (has_parents t s) code absent)
+      (omega (arith, own_load-none substance code absent))
+    where
+      own_load-none : (substance code : List ℕ) → is_part t code ≡ false → own_load t substance code ≡ 0
+      own_load-none substance code absent =
+          elim (cases_Bool (is_article t code)) [
+            | inl article ↦ absurd (Rattle.std.proofs.lemmas.Bool.both_ways (is_part t code) absent (is_part-article t code article))
+            | inr other ↦ rw other refl
+          ]
+
+  -- each line of an article leads to a material
+  article_lines : (code : List ℕ) → is_article t code ≡ true → AllByRecursion (λ line. is_material t line.child ≡ true) (lines_of t.lines code)
+  article_lines code article =
+      each_map (λ line. (has_right_child t line ≡ true) × (same_code line.parent code ≡ true)) (λ line. is_material t line.child ≡ true)
+      (λ line h. article_child t line h.0 (subst (λ c. is_article t c ≡ true) (sym (same_code-true line.parent code h.1)) article))
+      (lines_of t.lines code)
+      (each_filter (λ line. has_right_child t line ≡ true) (λ line. same_code line.parent code) t.lines (each_right_child t s))
+
+  sum_zero : (lines : List LineRow) (f : LineRow → ℕ) → AllByRecursion (λ line. f line ≡ 0) lines → sum_by f lines ≡ 0
+  sum_zero [] f a = refl
+  sum_zero (line ∷ lines) f a = omega (arith, sum_by-cons f line lines, a.0, sum_zero lines f a.1)
+
+  zero_times : (n m : ℕ) → m ≡ 0 → n * m ≡ 0
+  zero_times n m e = rw e (omega arith)
+
+  carried_by : (substance code : List ℕ) (article above : Bool) → is_article t code ≡ article → AllByRecursion (λ line. carried t substance line.child ≤ mass t line.child) (lines_of t.lines code) → (if article && above then content t code substance else 0) + sum_by (λ line. line.count * carried t substance line.child) (lines_of t.lines code) ≤ sum_by (λ line. line.count * mass t line.child) (lines_of t.lines code)
+  carried_by substance code true true e below =
+      let nothing =
+      sum_zero (lines_of t.lines code) (λ line. line.count * carried t substance line.child)
+      (each_map (λ line. is_material t line.child ≡ true) (λ line. line.count * carried t substance line.child ≡ 0)
+      (λ line kept. zero_times line.count (carried t substance line.child) (carried-material substance line.child kept)) (lines_of t.lines code) (article_lines code e)) in
+      omega (arith, nothing, content-le code substance)
+  carried_by substance code true false e below =
+      omega (arith, sum_le (λ line. line.count * carried t substance line.child) (λ line. line.count * mass t line.child) (lines_of t.lines code)
+      (each_map (λ line. carried t substance line.child ≤ mass t line.child) (λ line. line.count * carried t substance line.child ≤ line.count * mass t line.child) (λ line h. mul-le-mul_left line.count h) (lines_of t.lines code) below))
+  carried_by substance code false above e below =
+      omega (arith, sum_le (λ line. line.count * carried t substance line.child) (λ line. line.count * mass t line.child) (lines_of t.lines code)
+      (each_map (λ line. carried t substance line.child ≤ mass t line.child) (λ line. line.count * carried t substance line.child ≤ line.count * mass t line.child) (λ line h. mul-le-mul_left line.count h) (lines_of t.lines code) below))
+
+  -- what a part carries of a substance is at most its mass
+  pub carried-le : (substance code : List ℕ) → carried t substance code ≤ mass t code
+  carried-le substance =
+      bill_induction t (has_parents t s) s.acyclic (λ code. carried t substance code ≤ mass t code)
+      (λ code below.
+        omega (arith, carried-step substance code, mass-step code, carried_by substance code (is_article t code) (is_above t code substance) refl below))
