@@ -4,4 +4,6 @@ pub mod Elements
 pub mod ExampleProofs
 pub mod Kept
 pub mod Loads
+pub mod Rules
 pub mod Sounds
+pub mod Steps
