@@ -7,3 +7,4 @@ pub mod Loads
 pub mod Rules
 pub mod Sounds
 pub mod Steps
+pub mod Numbers
