@@ -8,3 +8,4 @@ pub mod Rules
 pub mod Sounds
 pub mod Steps
 pub mod Numbers
+pub mod Histories

@@ -68,10 +68,10 @@ fresh_by t edit (Some ticket) e f g =
 pub fresh : (t : Lists) (edit : Edit) → kept_number t edit ≡ None → refused t edit ≡ None → ticket_row t (ticket_code edit) ≡ None
 fresh t edit e f = fresh_by t edit (ticket_row t (ticket_code edit)) refl e (unrefused t edit f).ticket_reused
 
-abbrev ticket_of : Lists → Edit → TicketRow
+abbrev pub ticket_of : Lists → Edit → TicketRow
 ticket_of t edit = record { code = ticket_code edit; number = next_number t; text = edit_text edit }
 
-tickets_entered : (t : Lists) (edit : Edit) → (entered t edit).tickets ≡ with_row (λ row. row.code) code_cmp (ticket_of t edit) t.tickets
+pub tickets_entered : (t : Lists) (edit : Edit) → (entered t edit).tickets ≡ with_row (λ row. row.code) code_cmp (ticket_of t edit) t.tickets
 unfolding entered
 tickets_entered t edit = refl
 
