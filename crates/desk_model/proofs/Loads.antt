@@ -31,10 +31,10 @@ held_mass-le substance (one ∷ held) =
     ]
 
 module _ (t : Lists) (s : Sound t) where
-  mass-step : (code : List ℕ) → mass t code ≡ own_mass t code + sum_by (λ line. line.count * mass t line.child) (lines_of t.lines code)
+  pub mass-step : (code : List ℕ) → mass t code ≡ own_mass t code + sum_by (λ line. line.count * mass t line.child) (lines_of t.lines code)
   mass-step code = rolled-step t (has_parents t s) s.acyclic (own_mass t) code
 
-  carried-step : (substance code : List ℕ) → carried t substance code ≡ own_load t substance code + sum_by (λ line. line.count * carried t substance line.child) (lines_of t.lines code)
+  pub carried-step : (substance code : List ℕ) → carried t substance code ≡ own_load t substance code + sum_by (λ line. line.count * carried t substance line.child) (lines_of t.lines code)
   carried-step substance code = rolled-step t (has_parents t s) s.acyclic (own_load t substance) code
 
   fits : AllByRecursion (λ material. not (holds_too_much material.mass material.substances) ≡ true) t.materials

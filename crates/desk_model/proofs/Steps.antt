@@ -19,6 +19,7 @@ use Rattle.desk_model.specs.Sound.{are_numbers}
 use Rattle.desk_model.specs.Step.{kept_number, step, step_from, step_new}
 use Rattle.desk_model.proofs.Elements.{count_by-cons, each_from_all, each_map}
 use Rattle.desk_model.proofs.Kept.{code_cmp_total, same_code-from}
+use Rattle.desk_model.proofs.Numbers.{are_numbers-with_row}
 use Rattle.desk_model.proofs.Rules.{IsUnrefused, unrefused}
 
 ok_err : {n : ℕ} {fault : RuleFault} {G : Type 0} → Ok n ≡ Err fault → G
@@ -93,3 +94,15 @@ pub tickets-length : (t : Lists) (edit : Edit) → ticket_row t (ticket_code edi
 tickets-length t edit absent =
     let counted = sum_by-with_row (λ row. row.code) code_cmp (λ row. 1) (ticket_of t edit) t.tickets absent in
     rw (tickets_entered t edit) (omega (arith, counted, length-by t.tickets, length-by (with_row (λ row. row.code) code_cmp (ticket_of t edit) t.tickets)))
+
+step_numbers : (t : Lists) (edit : Edit) (has : Option ℕ) (rule : Option RuleFault) → kept_number t edit ≡ has → refused t edit ≡ rule → are_numbers t.tickets ≡ true → are_numbers (step t edit).1.tickets ≡ true
+step_numbers t edit (Some number) rule e f n = rw (step-kept t edit number e) n
+step_numbers t edit None (Some fault) e f n = rw (step-refused t edit fault e f) n
+step_numbers t edit None None e f n =
+    let absent = fresh t edit e f in
+    let longer = sym (ap length (tickets_entered t edit)) ∙ tickets-length t edit absent in
+    rw (step-accepted t edit e f, tickets_entered t edit) (are_numbers-with_row t.tickets n (ticket_of t edit) refl absent longer)
+
+-- numbers stay 1 to n
+pub are_numbers-step : (t : Lists) (edit : Edit) → are_numbers t.tickets ≡ true → are_numbers (step t edit).1.tickets ≡ true
+are_numbers-step t edit n = step_numbers t edit (kept_number t edit) (refused t edit) refl refl n

@@ -12,6 +12,7 @@ pub mod Findings
 pub mod Examples
 pub mod Forms
 pub mod History
+pub mod Laws
 pub mod Lists
 pub mod Mass
 pub mod Reaches

@@ -4,6 +4,7 @@
 mod declaration;
 mod edit;
 mod exemption;
+pub mod laws;
 pub mod limits;
 mod list_of;
 mod material_decl;
