@@ -84,3 +84,23 @@ module _ {R K : Type 0} (key : R → K) (cmp : K → K → Ordering) where
     pub row_of-without_row_other : (j k : K) (rows : List R) → is_eq (cmp j k) ≡ false → row_of key cmp k (without_row key cmp j rows) ≡ row_of key cmp k rows
     row_of-without_row_other j k [] other = refl
     row_of-without_row_other j k (row ∷ rows) other = without_step j k row rows (is_eq (cmp (key row) j)) refl other (row_of-without_row_other j k rows other)
+
+module _ {R K : Type 0} (key : R → K) (cmp : K → K → Ordering) where
+  kept_step : (k : K) (new row : R) (rows : List R) (a : Ordering) (o : IsTotalOrder cmp) → cmp (key row) (key new) ≡ a → is_some (row_of key cmp k (row ∷ rows)) ≡ true → (is_some (row_of key cmp k rows) ≡ true → is_some (row_of key cmp k (with_row key cmp new rows)) ≡ true) → is_some (row_of key cmp k (with_row key cmp new (row ∷ rows))) ≡ true
+  kept_step k new row rows Less o e kept ih =
+      rw e
+      (elim (is_eq (cmp (key row) k)) as (λ b. is_some (cond b (Some row) (row_of key cmp k rows)) ≡ true → is_some (cond b (Some row) (row_of key cmp k (with_row key cmp new rows))) ≡ true) [ true ↦ λ h. refl | false ↦ ih ] kept)
+  kept_step k new row rows Equal o e kept ih =
+      rw (e, sym (o.congr (key row) (key new) k e))
+      (elim (is_eq (cmp (key row) k)) as (λ b. is_some (cond b (Some row) (row_of key cmp k rows)) ≡ true → is_some (cond b (Some new) (row_of key cmp k rows)) ≡ true) [ true ↦ λ h. refl | false ↦ λ h. h ] kept)
+  kept_step k new row rows Greater o e kept ih =
+      rw e (elim (is_eq (cmp (key new) k)) as (λ b. is_some (cond b (Some new) (row_of key cmp k (row ∷ rows))) ≡ true) [ true ↦ refl | false ↦ kept ])
+
+  -- a kept key stays kept when a row is put in
+  pub kept-with_row : IsTotalOrder cmp → (k : K) (new : R) (rows : List R) → is_some (row_of key cmp k rows) ≡ true → is_some (row_of key cmp k (with_row key cmp new rows)) ≡ true
+  kept-with_row o k new [] kept = absurd (false≢true kept)
+  kept-with_row o k new (row ∷ rows) kept = kept_step k new row rows (cmp (key row) (key new)) o refl kept (kept-with_row o k new rows)
+
+  pub kept-with_rows : IsTotalOrder cmp → (k : K) (more rows : List R) → is_some (row_of key cmp k rows) ≡ true → is_some (row_of key cmp k (with_rows key cmp more rows)) ≡ true
+  kept-with_rows o k [] rows kept = kept
+  kept-with_rows o k (new ∷ more) rows kept = kept-with_rows o k more (with_row key cmp new rows) (kept-with_row o k new rows kept)
