@@ -9,3 +9,5 @@ pub mod Sounds
 pub mod Steps
 pub mod Numbers
 pub mod Histories
+pub mod Good
+pub mod Changes
