@@ -36,7 +36,7 @@ pub record FormsKept (t : Lists) : Type 0 where
   pub candidates : list_all is_candidate_row t.candidates ≡ true
   pub shipments : list_all is_shipment_row t.shipments ≡ true
 
-and_split : (a b : Bool) → (a && b) ≡ true → (a ≡ true) × (b ≡ true)
+pub and_split : (a b : Bool) → (a && b) ≡ true → (a ≡ true) × (b ≡ true)
 and_split true true h = (refl, refl)
 and_split true false h = absurd (false≢true h)
 and_split false b h = absurd (false≢true h)

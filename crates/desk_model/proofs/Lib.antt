@@ -11,3 +11,4 @@ pub mod Numbers
 pub mod Histories
 pub mod Good
 pub mod Changes
+pub mod Made
