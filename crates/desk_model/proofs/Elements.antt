@@ -150,3 +150,12 @@ find_each P test (x ∷ xs) a =
       | true ↦ λ e. (a.0, e, refl)
       | false ↦ λ e. find_each P test xs a.1
     ] refl
+
+-- a test of some element that a filter keeps
+pub any-filter : {X : Type 0} (test p : X → Bool) (xs : List X) → list_any p (filter test xs) ≡ list_any (λ x. test x && p x) xs
+any-filter test p [] = refl
+any-filter test p (x ∷ xs) =
+    elim (test x) as (λ b. list_any p (cond b (x ∷ filter test xs) (filter test xs)) ≡ ((b && p x) || list_any (λ y. test y && p y) xs)) [
+      | true ↦ ap (λ b. p x || b) (any-filter test p xs)
+      | false ↦ any-filter test p xs
+    ]

@@ -12,3 +12,4 @@ pub mod Histories
 pub mod Good
 pub mod Changes
 pub mod Made
+pub mod MadeBill
