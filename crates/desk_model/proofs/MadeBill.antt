@@ -88,3 +88,116 @@ module _ (t : Lists) (g : IsGood t) where
       (all_without_row line_key line_key_cmp (has_right_child t) (parent, child) t.lines g.names.lines)
       (acyclic_still t (record t { lines = rows }) t.parts g.acyclic
       (λ code e. reaches_fewer t.lines rows (λ p. any_without line_key line_key_cmp (parent, child) p t.lines) (enough t) code code e))
+
+  -- the line of an accepted edit: its parent is a part, and its child is of the right sort
+  sort_cases : (sort : PartSort) → (is_article_sort sort ≡ true) ⊎ (same_sort sort Assembly ≡ true)
+  sort_cases Article = inl refl
+  sort_cases Assembly = inr refl
+
+  part_cases : (o : Option PartRow) → is_some o ≡ true → (option_map_or (λ part. is_article_sort part.sort) o false ≡ true) ⊎ (option_map_or (λ part. same_sort part.sort Assembly) o false ≡ true)
+  part_cases None e = absurd (false≢true e)
+  part_cases (Some part) e = sort_cases part.sort
+
+  known_parent : (kept : Bool) (parent : List ℕ) (rest : Option RuleFault) → (if not kept then Some (UnknownPart parent) else rest) ≡ None → (kept ≡ true) × (rest ≡ None)
+  known_parent true parent rest e = (refl, e)
+  known_parent false parent rest e = some_none (UnknownPart parent) e
+    where
+      some_none : (x : RuleFault) {G : Type 0} → Some x ≡ None → G
+      some_none x h = cc
+
+  kept_child : (sort kept : Bool) (fault : RuleFault) → sort ≡ true → refuse_if (sort && not kept) fault ≡ None → kept ≡ true
+  kept_child sort kept fault s e = not-false kept (sym (rw s refl) ∙ refuse_if-none (sort && not kept) fault e)
+
+  right_new : (ticket parent child : List ℕ) (count : ℕ) → IsUnrefused t (Line ticket parent child count) → has_right_child t (record { parent = parent; child = child; count = count }) ≡ true
+  unfolding unknown_material unknown_part wrong_child
+  right_new ticket parent child count u =
+      let known = known_parent (is_part t parent) parent (refuse_if (is_assembly t parent && not (is_kept t child)) (UnknownPart child)) u.unknown_part in
+      let wrong = refuse_if-none (is_article t parent && is_part t child || is_assembly t parent && is_material t child) _ u.wrong_child in
+      let parts = Rattle.std.proofs.lemmas.Bool.or_parts (is_article t parent && is_part t child) (is_assembly t parent && is_material t child) wrong in
+      right_child_from t (record { parent = parent; child = child; count = count })
+      (⊎_elim
+      (λ article.
+        let kept = kept_child (is_article t parent) (is_kept t child) _ article u.unknown_material in
+        ⊎_elim (λ here. inl (article, here)) (λ part. absurd (both_ways (is_article t parent && is_part t child) parts.0 (and_from (is_article t parent) (is_part t child) article part))) (or_cases (is_material t child) (is_part t child) kept))
+      (λ assembly.
+        let kept = kept_child (is_assembly t parent) (is_kept t child) _ assembly known.1 in
+        ⊎_elim (λ material. absurd (both_ways (is_assembly t parent && is_material t child) parts.1 (and_from (is_assembly t parent) (is_material t child) assembly material))) (λ here. inr (assembly, here)) (or_cases (is_material t child) (is_part t child) kept))
+      (part_cases (part_row t parent) known.0))
+
+  module _ (new : LineRow) where
+    -- a code reaches the target by the old lines, or it comes to the new line's parent and goes on from its child
+    Reached : List ℕ → List ℕ → Type 0
+    Reached part target = (reaches t part target ≡ true) ⊎ ((is_or_reaches t part new.parent ≡ true) × (is_or_reaches t new.child target ≡ true))
+
+    lines' : List LineRow
+    lines' = with_row line_key line_key_cmp new t.lines
+
+    -- each line is the new one, or leads where an old one leads
+    IsOldOrNew : LineRow → Type 0
+    IsOldOrNew line = ((line.parent ≡ new.parent) × (line.child ≡ new.child)) ⊎ ((target : List ℕ) → is_or_reaches t line.child target ≡ true → reaches t line.parent target ≡ true)
+
+    each_old_or_new : AllByRecursion IsOldOrNew lines'
+    unfolding lines' IsOldOrNew
+    each_old_or_new =
+        each_with_row line_key line_key_cmp IsOldOrNew new t.lines (inl (refl, refl))
+        (each_map (λ line. (target : List ℕ) → is_or_reaches t line.child target ≡ true → reaches t line.parent target ≡ true) IsOldOrNew (λ line f. inr f) t.lines (by_line t (parents_of t g)))
+
+    onward_line : (part target : List ℕ) (line : LineRow) (further : Bool) → IsOldOrNew line × (same_code line.parent part ≡ true) → (same_code line.child target || further) ≡ true → (further ≡ true → Reached line.child target) → Reached part target
+    unfolding IsOldOrNew Reached
+    onward_line part target line further h e ih =
+        let same = same_code-true line.parent part h.1 in
+        elim h.0 [
+          | inl new_line ↦
+            let at_parent = or_left (same_code part new.parent) (reaches t part new.parent) (same_code-from part new.parent (sym same ∙ new_line.0)) in
+            ⊎_elim
+            (λ here. inr (at_parent, or_left (same_code new.child target) (reaches t new.child target) (same_code-from new.child target (sym new_line.1 ∙ same_code-true line.child target here))))
+            (λ there.
+              ⊎_elim
+              (λ old. inr (at_parent, or_right (same_code new.child target) (reaches t new.child target) (subst (λ c. reaches t c target ≡ true) new_line.1 old)))
+              (λ both. inr (at_parent, both.1)) (ih there))
+            (or_cases (same_code line.child target) further e)
+          | inr old_line ↦
+            ⊎_elim
+            (λ here. inl (subst (λ c. reaches t c target ≡ true) same (old_line target (or_left (same_code line.child target) (reaches t line.child target) here))))
+            (λ there.
+              ⊎_elim
+              (λ old. inl (subst (λ c. reaches t c target ≡ true) same (old_line target (or_right (same_code line.child target) (reaches t line.child target) old))))
+              (λ both. inr (or_right (same_code part new.parent) (reaches t part new.parent) (subst (λ c. reaches t c new.parent ≡ true) same (old_line new.parent both.0)), both.1)) (ih there))
+            (or_cases (same_code line.child target) further e)
+        ]
+
+    onward : (k : ℕ) (part target : List ℕ) → reaches_within lines' k part target ≡ true → Reached part target
+    unfolding reaches_within
+    onward zero part target e = absurd (false≢true e)
+    onward (suc k) part target e =
+        any_gives (λ line. same_code line.child target || reaches_within lines' k line.child target) (lines_of lines' part)
+        (each_map (λ line. IsOldOrNew line × (same_code line.parent part ≡ true)) (λ line. (same_code line.child target || reaches_within lines' k line.child target) ≡ true → Reached part target)
+        (λ line h found. onward_line part target line (reaches_within lines' k line.child target) h found (λ there. onward k line.child target there))
+        (lines_of lines' part) (each_filter IsOldOrNew (λ line. same_code line.parent part) lines' each_old_or_new)) e
+
+    -- where the child neither is the parent nor reaches it, no cycle comes to be
+    no_cycle : is_or_reaches t new.child new.parent ≡ false → (code : List ℕ) → reaches_within lines' (enough t) code code ≡ true → reaches t code code ≡ true
+    unfolding Reached
+    no_cycle open_ended code e =
+        ⊎_elim (λ old. old)
+        (λ both.
+          absurd
+          (both_ways (is_or_reaches t new.child new.parent) open_ended
+          (⊎_elim (λ here. subst (λ c. is_or_reaches t c new.parent ≡ true) (sym (same_code-true new.child code here)) both.0)
+          (λ there. or_right (same_code new.child new.parent) (reaches t new.child new.parent) (is_or_reaches_trans t (parents_of t g) new.child code new.parent there both.0))
+          (or_cases (same_code new.child code) (reaches t new.child code) both.1))))
+        (onward (enough t) code code e)
+
+  pub good-line : (ticket parent child : List ℕ) (count : ℕ) → is_edit_in_form (Line ticket parent child count) ≡ true → IsUnrefused t (Line ticket parent child count) → IsGood (made t (Line ticket parent child count))
+  unfolding made is_edit_in_form closes_cycle lines'
+  good-line ticket parent child count form u =
+      let new : LineRow = record { parent = parent; child = child; count = count } in
+      let f3 = and_split (is_code ticket && is_code parent && is_code child) (is_count count) form in
+      let f2 = and_split (is_code ticket && is_code parent) (is_code child) f3.0 in
+      let f1 = and_split (is_code ticket) (is_code parent) f2.0 in
+      let rows = with_row line_key line_key_cmp new t.lines in
+      good-lines t rows g
+      (IsByKey-with_row line_key line_key_cmp line_key_cmp_total new t.lines g.ordered.lines)
+      (all_with_row line_key line_key_cmp is_line_row new t.lines (and_from (is_code parent && is_code child) (is_count count) (and_from (is_code parent) (is_code child) f1.1 f2.1) f3.1) g.forms.lines)
+      (all_with_row line_key line_key_cmp (has_right_child t) new t.lines (right_new ticket parent child count u) g.names.lines)
+      (acyclic_still t (record t { lines = rows }) t.parts g.acyclic (no_cycle new (refuse_if-none (is_or_reaches t child parent) _ u.closes_cycle)))
