@@ -11,7 +11,7 @@ use Rattle.desk_text.specs.Code.{code_cmp, same_code}
 use Rattle.desk_text.proofs.CodeLemmas.{same_code_itself}
 use Rattle.desk_rows.specs.Rows.{row_of, with_row, without_row}
 use Rattle.desk_rows.proofs.Edits.{IsByKey-with_row, IsByKey-without_row}
-use Rattle.desk_rows.proofs.Lookups.{each_with_row, kept-with_row, row_of-with_row, row_of-with_row_other}
+use Rattle.desk_rows.proofs.Lookups.{each_with_row, kept-with_row, length-with_row-ge, row_of-with_row, row_of-with_row_other}
 use Rattle.desk_model.specs.declared.edit.Edit.{Edit}
 use Rattle.desk_model.specs.declared.edit.Edit.TheVariants.{Part, Line, Unline}
 use Rattle.desk_model.specs.declared.part_sort.PartSort.{PartSort}
@@ -201,3 +201,72 @@ module _ (t : Lists) (g : IsGood t) where
       (all_with_row line_key line_key_cmp is_line_row new t.lines (and_from (is_code parent && is_code child) (is_count count) (and_from (is_code parent) (is_code child) f1.1 f2.1) f3.1) g.forms.lines)
       (all_with_row line_key line_key_cmp (has_right_child t) new t.lines (right_new ticket parent child count u) g.names.lines)
       (acyclic_still t (record t { lines = rows }) t.parts g.acyclic (no_cycle new (refuse_if-none (is_or_reaches t child parent) _ u.closes_cycle)))
+
+  module _ (new : PartRow) (same_kind : (part : PartRow) → part_row t new.code ≡ Some part → same_sort part.sort new.sort ≡ true) where
+    parts' : List PartRow
+    parts' = with_row (λ row. row.code) code_cmp new t.parts
+
+    one_of_sort : (a b : PartSort) (f : PartSort → Bool) → same_sort a b ≡ true → f a ≡ true → f b ≡ true
+    one_of_sort Article Article f s e = e
+    one_of_sort Article Assembly f s e = absurd (false≢true s)
+    one_of_sort Assembly Article f s e = absurd (false≢true s)
+    one_of_sort Assembly Assembly f s e = e
+
+    sort_of_kept : (f : PartSort → Bool) (o : Option PartRow) → part_row t new.code ≡ o → option_map_or (λ part. f part.sort) o false ≡ true → f new.sort ≡ true
+    sort_of_kept f None e h = absurd (false≢true h)
+    sort_of_kept f (Some part) e h = one_of_sort part.sort new.sort f (same_kind part e) h
+
+    -- what was an article or an assembly is one still
+    sort_grows : (f : PartSort → Bool) (code : List ℕ) → option_map_or (λ part. f part.sort) (part_row t code) false ≡ true → option_map_or (λ part. f part.sort) (row_of (λ row. row.code) code_cmp code parts') false ≡ true
+    unfolding parts'
+    sort_grows f code e =
+        elim (cases_Bool (same_code new.code code)) [
+          | inl same ↦
+            let is = same_code-true new.code code same in
+            let found : row_of (λ row. row.code) code_cmp code (with_row (λ row. row.code) code_cmp new t.parts) ≡ Some new =
+            subst (λ c. row_of (λ row. row.code) code_cmp c (with_row (λ row. row.code) code_cmp new t.parts) ≡ Some new) is (row_of-with_row (λ row. row.code) code_cmp code_cmp_total new t.parts) in
+            rw found (sort_of_kept f (part_row t new.code) refl (subst (λ c. option_map_or (λ part. f part.sort) (part_row t c) false ≡ true) (sym is) e))
+          | inr other ↦ rw (row_of-with_row_other (λ row. row.code) code_cmp code_cmp_total new code t.parts other) e
+        ]
+
+    -- one part more is no line more: the same is reached
+    same_reached : (part target : List ℕ) → reaches_within t.lines (length parts' + 1) part target ≡ reaches t part target
+    unfolding parts'
+    same_reached part target =
+        let grown = length-with_row-ge (λ row. row.code) code_cmp new t.parts in
+        let deep : length (with_row (λ row. row.code) code_cmp new t.parts) + 1 ≡ length (with_row (λ row. row.code) code_cmp new t.parts) - length t.parts + enough t = omega (arith, grown) in
+        rw deep (reaches-deeper t (parents_of t g) target (length (with_row (λ row. row.code) code_cmp new t.parts) - length t.parts) part)
+
+    still_acyclic : (code : List ℕ) → not (reaches t code code) ≡ true
+    still_acyclic code =
+        elim (cases_Bool (is_part t code)) [
+          | inl kept ↦ kept_each (λ row. row.code) (λ c. not (reaches t c c) ≡ true) code t.parts (each_from_all (λ part. not (reaches t part.code part.code)) t.parts g.acyclic) kept
+          | inr absent ↦ not_from_false (reaches t code code) (reaches-step t (parents_of t g) code code ∙ rw (lines_of-none t (parents_of t g) code absent) refl)
+        ]
+
+  kind_kept : (ticket code name : List ℕ) (sort : PartSort) → kind_changed t (Part ticket code sort name) ≡ None → (part : PartRow) → part_row t code ≡ Some part → same_sort part.sort sort ≡ true
+  unfolding kind_changed
+  kind_kept ticket code name sort e part found = refuse_unless (same_sort part.sort sort) _ (rw found at e)
+
+  pub good-part : (ticket code name : List ℕ) (sort : PartSort) → is_edit_in_form (Part ticket code sort name) ≡ true → IsUnrefused t (Part ticket code sort name) → IsGood (made t (Part ticket code sort name))
+  unfolding made is_edit_in_form name_taken parts'
+  good-part ticket code name sort form u =
+      let new : PartRow = record { code = code; sort = sort; name = name } in
+      let f2 = and_split (is_code ticket && is_code code) (is_name name) form in
+      let f1 = and_split (is_code ticket) (is_code code) f2.0 in
+      let rows = with_row (λ row. row.code) code_cmp new t.parts in
+      let kind = kind_kept ticket code name sort u.kind_changed in
+      good-parts t rows g
+      (IsByKey-with_row (λ row. row.code) code_cmp code_cmp_total new t.parts g.ordered.parts)
+      (all_with_row (λ row. row.code) code_cmp is_part_row new t.parts (and_from (is_code code) (is_name name) f1.1 f2.1) g.forms.parts)
+      (record {
+        substances = λ c kept. kept;
+        materials = λ c kept. kept;
+        parts = λ c kept. kept-with_row (λ row. row.code) code_cmp code_cmp_total c new t.parts kept;
+        articles = sort_grows new kind is_article_sort;
+        assemblies = sort_grows new kind (λ s. same_sort s Assembly);
+        products = λ c kept. kept;
+      })
+      (all_with_row (λ row. row.code) code_cmp (λ part. not (is_material t part.code)) new t.parts (not_from_false (is_material t code) (refuse_if-none (is_material t code) _ u.name_taken)) g.apart)
+      (all_from_each (λ part. not (reaches_within t.lines (length rows + 1) part.code part.code)) rows
+      (each (λ part. not (reaches_within t.lines (length rows + 1) part.code part.code) ≡ true) (λ part. ap not (same_reached new kind part.code part.code) ∙ still_acyclic new kind part.code) rows))

@@ -1,5 +1,5 @@
 -- What is found after a row is put in or a key's row is taken out, and what holds of each row then.
-use Rattle.std.proofs.Common.{◌≡◌, ℕ, ◌+◌, ◌≤◌, Bool, true, false, cond, List, [], ◌∷◌, map, length, sum_by, refl, sym, ap, ◌∙◌, subst, Ordering, Less, Equal, Greater, is_eq, Option, Some, None, is_some, arith}
+use Rattle.std.proofs.Common.{◌≡◌, ℕ, suc, ◌+◌, ◌≤◌, Bool, true, false, cond, List, [], ◌∷◌, map, length, sum_by, refl, sym, ap, ◌∙◌, subst, Ordering, Less, Equal, Greater, is_eq, Option, Some, None, is_some, arith}
 use Rattle.std.specs.Ordering.{match_ordering, ordering_reverse}
 use Rattle.std.specs.Cmp.{IsTotalOrder}
 use Rattle.std.specs.List.{AllByRecursion}
@@ -104,3 +104,13 @@ module _ {R K : Type 0} (key : R → K) (cmp : K → K → Ordering) where
   pub kept-with_rows : IsTotalOrder cmp → (k : K) (more rows : List R) → is_some (row_of key cmp k rows) ≡ true → is_some (row_of key cmp k (with_rows key cmp more rows)) ≡ true
   kept-with_rows o k [] rows kept = kept
   kept-with_rows o k (new ∷ more) rows kept = kept-with_rows o k more (with_row key cmp new rows) (kept-with_row o k new rows kept)
+
+-- no row is lost when one is put in
+pub length-with_row-ge : {R K : Type 0} (key : R → K) (cmp : K → K → Ordering) (new : R) (rows : List R) → length rows ≤ length (with_row key cmp new rows)
+length-with_row-ge key cmp new [] = omega arith
+length-with_row-ge key cmp new (row ∷ rows) =
+    elim (cmp (key row) (key new)) as (λ o. suc (length rows) ≤ length (match_ordering o (row ∷ with_row key cmp new rows) (new ∷ rows) (new ∷ row ∷ rows))) [
+      | Less ↦ omega (arith, length-with_row-ge key cmp new rows)
+      | Equal ↦ omega arith
+      | Greater ↦ omega arith
+    ]
