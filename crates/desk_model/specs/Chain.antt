@@ -1,8 +1,8 @@
 -- The chain from a part to what it reaches.
-use Rattle.std.specs.Prelude.{ℕ, zero, suc, List, [], ◌∷◌, Option, find, option_map, if◌then◌else◌}
+use Rattle.std.specs.Prelude.{ℕ, zero, suc, Bool, true, false, ◌&&◌, List, [], ◌∷◌, Option, find, option_map, if◌then◌else◌}
 use Rattle.std.specs.Option.{option_map_or}
 use Rattle.desk_text.specs.Code.{same_code}
-use Rattle.desk_model.specs.Lists.{Lists}
+use Rattle.desk_model.specs.Lists.{Lists, is_line}
 use Rattle.desk_model.specs.Reaches.{enough, is_or_reaches, lines_of}
 
 -- the child of the part with the least code that is the target or reaches it: the lines of a part stand in order of child
@@ -18,3 +18,20 @@ chain_within t (suc k) part target =
 -- the part alone where it is the target; else the part, and the chain from the next child to the target
 abbrev pub chain : Lists → List ℕ → List ℕ → List (List ℕ)
 chain t part target = chain_within t (enough t) part target
+
+-- each two neighbours are a line of the tables
+abbrev pub are_linked : Lists → List (List ℕ) → Bool
+are_linked t [] = true
+are_linked t (part ∷ []) = true
+are_linked t (part ∷ child ∷ codes) = is_line t part child && are_linked t (child ∷ codes)
+
+-- the first code is this one
+abbrev pub begins_with : List ℕ → List (List ℕ) → Bool
+begins_with code [] = false
+begins_with code (first ∷ codes) = same_code first code
+
+-- the last code is this one
+abbrev pub ends_with : List ℕ → List (List ℕ) → Bool
+ends_with code [] = false
+ends_with code (last ∷ []) = same_code last code
+ends_with code (part ∷ child ∷ codes) = ends_with code (child ∷ codes)

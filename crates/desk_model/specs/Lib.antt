@@ -10,8 +10,10 @@ pub mod Duties
 pub mod EditText
 pub mod Effect
 pub mod Findings
+pub mod Examples
 pub mod Forms
 pub mod History
+pub mod Laws
 pub mod Lists
 pub mod Mass
 pub mod Reaches
@@ -24,3 +26,4 @@ pub mod Step
 pub mod Terms
 pub mod Tonnage
 pub mod Totals
+pub mod Verdicts

@@ -1,5 +1,5 @@
 -- The desk's tables: ten lists of rows, each in the order of its key, and what is kept at a key.
-use Rattle.std.specs.Prelude.{ℕ, Bool, List, Option, is_some}
+use Rattle.std.specs.Prelude.{ℕ, Bool, ◌||◌, List, Option, is_some}
 use Rattle.std.specs.Ordering.{nat_cmp, on, then_cmp}
 use Rattle.std.specs.declared.cmp.Ordering.{Ordering}
 use Rattle.desk_text.specs.Code.{code_cmp}
@@ -89,6 +89,13 @@ is_material t code = is_some (material_row t code)
 
 abbrev pub is_part : Lists → List ℕ → Bool
 is_part t code = is_some (part_row t code)
+
+-- materials and parts share one space of codes
+abbrev pub is_kept : Lists → List ℕ → Bool
+is_kept t code = is_material t code || is_part t code
+
+abbrev pub is_line : Lists → List ℕ → List ℕ → Bool
+is_line t parent child = is_some (line_row t parent child)
 
 abbrev pub is_product : Lists → List ℕ → Bool
 is_product t code = is_some (product_row t code)

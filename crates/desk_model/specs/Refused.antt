@@ -15,7 +15,7 @@ use Rattle.desk_model.specs.Content.{holds_too_much}
 use Rattle.desk_model.specs.Declaration.{Declared}
 use Rattle.desk_model.specs.EditText.{edit_text, same_text, ticket_code}
 use Rattle.desk_model.specs.Effect.{entered, units_of}
-use Rattle.desk_model.specs.Lists.{Lists, exemption_row, is_material, is_part, is_product, is_substance, line_row, material_row, part_row, ticket_row}
+use Rattle.desk_model.specs.Lists.{Lists, exemption_row, is_kept, is_line, is_material, is_part, is_product, is_substance, material_row, part_row, ticket_row}
 use Rattle.desk_model.specs.Reaches.{is_or_reaches}
 use Rattle.desk_model.specs.Terms.{breaks_annex, breaks_span}
 use Rattle.desk_model.specs.Totals.{has_too_many_findings, has_too_much_text, tables_over, too_heavy_part, too_heavy_year}
@@ -50,10 +50,6 @@ unknown_substance t (Member ticket substance rule factor) = refuse_if (not (is_s
 unknown_substance t (Declare declaration) = option_map UnknownSubstance (find (λ code. not (is_substance t code)) (declared_substances declaration))
 unknown_substance t (Candidate ticket substance day) = refuse_if (not (is_substance t substance)) (UnknownSubstance substance)
 unknown_substance t _ = None
-
--- the code is that of a kept material or of a kept part
-abbrev pub is_kept : Lists → List ℕ → Bool
-is_kept t code = is_material t code || is_part t code
 
 -- 3: the line of a kept article leads to what is neither a kept material nor a kept part
 unfoldable pub unknown_material : Lists → Edit → Option RuleFault
@@ -100,7 +96,7 @@ wrong_child t _ = None
 
 -- 10: the line isn't kept
 unfoldable pub no_such_line : Lists → Edit → Option RuleFault
-no_such_line t (Unline ticket parent child) = refuse_if (not (is_some (line_row t parent child))) (NoSuchLine parent child)
+no_such_line t (Unline ticket parent child) = refuse_if (not (is_line t parent child)) (NoSuchLine parent child)
 no_such_line t _ = None
 
 -- the material is kept from another supplier

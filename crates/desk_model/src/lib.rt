@@ -6,6 +6,7 @@ mod declaration;
 mod edit;
 mod enter;
 mod exemption;
+pub mod laws;
 pub mod limits;
 mod list_of;
 mod material_decl;

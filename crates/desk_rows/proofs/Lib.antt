@@ -1,3 +1,4 @@
 pub mod Order
 pub mod Search
 pub mod Edits
+pub mod Lookups

@@ -1,0 +1,220 @@
+-- The examples hold by computation.
+use Rattle.std.proofs.Common.{refl}
+use Rattle.std.specs.Fmt.{digits}
+use Rattle.desk_text.specs.Day.{date_text, six_months_after}
+use Rattle.desk_law.specs.Kind.{kind_code, kind_place}
+use Rattle.desk_law.specs.KindSet.{kinds_text, has_kind}
+use Rattle.desk_law.specs.Exemption.{covers, is_valid_on}
+use Rattle.desk_law.specs.InForce.{first_day, is_in_force}
+use Rattle.desk_law.specs.Limit.{is_over, limit_of}
+use Rattle.desk_law.specs.Verdict.{verdict}
+use Rattle.desk_law.specs.Rule.{rule_code, rule_number}
+use Rattle.desk_model.specs.Above.{content, is_above}
+use Rattle.desk_model.specs.Affected.{is_affected, seeds_of_new}
+use Rattle.desk_model.specs.Chain.{chain_within}
+use Rattle.desk_model.specs.Duties.{duties}
+use Rattle.desk_model.specs.Effect.{entered, made}
+use Rattle.desk_model.specs.EditText.{edit_text, ticket_code}
+use Rattle.desk_model.specs.Findings.{finding_count, findings}
+use Rattle.desk_model.specs.Reaches.{reaches_within}
+use Rattle.desk_model.specs.Refused.{refused, ticket_reused, unknown_substance, unknown_material, unknown_part, unknown_product, unknown_exemption, name_taken, kind_changed, wrong_child, no_such_line, foreign_material, stale_declaration, masses_exceed, exemption_span, annex_kinds, ship_below_zero, units_too_large, table_full, text_full, closes_cycle, total_too_large, findings_full, year_too_large}
+use Rattle.desk_model.specs.Rolled.{rolled_within}
+use Rattle.desk_model.specs.Share.{share}
+use Rattle.desk_model.specs.Start.{start}
+use Rattle.desk_model.specs.Step.{kept_number, step}
+use Rattle.desk_model.specs.Tonnage.{due_day, notices, tonnage}
+use Rattle.desk_model.specs.Totals.{has_too_many_findings, has_too_much_text, tables_over, too_heavy_part, too_heavy_year}
+use Rattle.desk_model.specs.Examples.Articles.{DutyExamples, NoticeExamples}
+use Rattle.desk_model.specs.Examples.Chains.{ChainExamples}
+use Rattle.desk_model.specs.Examples.Gateway.{GatewayExamples}
+use Rattle.desk_model.specs.Examples.Limits.{LimitExamples}
+use Rattle.desk_model.specs.Examples.Refusals.{RefusalExamples, AcceptanceExamples, OrderExamples}
+use Rattle.desk_model.specs.Examples.Shares.{ShareExamples}
+use Rattle.desk_model.specs.Examples.Texts.{TextExamples}
+
+pub duty_examples : DutyExamples
+unfolding digits covers is_valid_on first_day is_in_force verdict date_text six_months_after kind_code kind_place kinds_text has_kind is_over limit_of rule_code rule_number content is_above is_affected seeds_of_new chain_within duties entered made edit_text ticket_code finding_count findings reaches_within refused ticket_reused unknown_substance unknown_material unknown_part unknown_product unknown_exemption name_taken kind_changed wrong_child no_such_line foreign_material stale_declaration masses_exceed exemption_span annex_kinds ship_below_zero units_too_large table_full text_full closes_cycle total_too_large findings_full year_too_large rolled_within share start kept_number step due_day notices tonnage has_too_many_findings has_too_much_text tables_over too_heavy_part too_heavy_year
+duty_examples = record {
+  content_of_article = refl;
+  article_mass = refl;
+  not_above = refl;
+  no_duty = refl;
+  lighter_article = refl;
+  a_duty = refl;
+  duty_chain = refl;
+  day_before = refl;
+  day_of_inclusion = refl;
+  own_duty = refl;
+  nothing_carried = refl;
+  one_carried = refl;
+}
+
+pub notice_examples : NoticeExamples
+unfolding digits covers is_valid_on first_day is_in_force verdict date_text six_months_after kind_code kind_place kinds_text has_kind is_over limit_of rule_code rule_number content is_above is_affected seeds_of_new chain_within duties entered made edit_text ticket_code finding_count findings reaches_within refused ticket_reused unknown_substance unknown_material unknown_part unknown_product unknown_exemption name_taken kind_changed wrong_child no_such_line foreign_material stale_declaration masses_exceed exemption_span annex_kinds ship_below_zero units_too_large table_full text_full closes_cycle total_too_large findings_full year_too_large rolled_within share start kept_number step due_day notices tonnage has_too_many_findings has_too_much_text tables_over too_heavy_part too_heavy_year
+notice_examples = record {
+  one_tonne = refl;
+  no_notice = refl;
+  over_one_tonne = refl;
+  a_notice = refl;
+  other_year = refl;
+  units_add_up = refl;
+  all_taken_off = refl;
+  first_due_day = refl;
+  later_due_day = refl;
+  end_of_february = refl;
+  past_last_day = refl;
+  candidate_affects = refl;
+  candidate_again = refl;
+}
+
+pub chain_examples : ChainExamples
+unfolding digits covers is_valid_on first_day is_in_force verdict date_text six_months_after kind_code kind_place kinds_text has_kind is_over limit_of rule_code rule_number content is_above is_affected seeds_of_new chain_within duties entered made edit_text ticket_code finding_count findings reaches_within refused ticket_reused unknown_substance unknown_material unknown_part unknown_product unknown_exemption name_taken kind_changed wrong_child no_such_line foreign_material stale_declaration masses_exceed exemption_span annex_kinds ship_below_zero units_too_large table_full text_full closes_cycle total_too_large findings_full year_too_large rolled_within share start kept_number step due_day notices tonnage has_too_many_findings has_too_much_text tables_over too_heavy_part too_heavy_year
+chain_examples = record {
+  eleven_edits = refl;
+  both_ways_count = refl;
+  article_mass = refl;
+  material_mass = refl;
+  reaches_down = refl;
+  reaches_not_up = refl;
+  reaches_not_itself = refl;
+  least_child = refl;
+  chain_to_itself = refl;
+  one_finding = refl;
+  four_findings = refl;
+  taken_out = refl;
+  other_way = refl;
+  less_mass = refl;
+  affects_parent = refl;
+  affects_users = refl;
+  five_edits = refl;
+}
+
+pub gateway_examples : GatewayExamples
+unfolding digits covers is_valid_on first_day is_in_force verdict date_text six_months_after kind_code kind_place kinds_text has_kind is_over limit_of rule_code rule_number content is_above is_affected seeds_of_new chain_within duties entered made edit_text ticket_code finding_count findings reaches_within refused ticket_reused unknown_substance unknown_material unknown_part unknown_product unknown_exemption name_taken kind_changed wrong_child no_such_line foreign_material stale_declaration masses_exceed exemption_span annex_kinds ship_below_zero units_too_large table_full text_full closes_cycle total_too_large findings_full year_too_large rolled_within share start kept_number step due_day notices tonnage has_too_many_findings has_too_much_text tables_over too_heavy_part too_heavy_year
+gateway_examples = record {
+  nineteen_edits = refl;
+  whole_mass = refl;
+  cable_mass = refl;
+  four_findings = refl;
+  brass_exempt = refl;
+  last_day = refl;
+  day_after = refl;
+  pvc_breach = refl;
+  pvc_before = refl;
+  brass_within = refl;
+  breach_chain = refl;
+  two_duties = refl;
+  cable_content = refl;
+  pin_chain = refl;
+  carried_lead = refl;
+  carried_dehp = refl;
+  lead_tonnage = refl;
+  one_notice = refl;
+}
+
+pub limit_examples : LimitExamples
+unfolding digits covers is_valid_on first_day is_in_force verdict date_text six_months_after kind_code kind_place kinds_text has_kind is_over limit_of rule_code rule_number content is_above is_affected seeds_of_new chain_within duties entered made edit_text ticket_code finding_count findings reaches_within refused ticket_reused unknown_substance unknown_material unknown_part unknown_product unknown_exemption name_taken kind_changed wrong_child no_such_line foreign_material stale_declaration masses_exceed exemption_span annex_kinds ship_below_zero units_too_large table_full text_full closes_cycle total_too_large findings_full year_too_large rolled_within share start kept_number step due_day notices tonnage has_too_many_findings has_too_much_text tables_over too_heavy_part too_heavy_year
+limit_examples = record {
+  rule_21 = refl;
+  below = refl;
+  mass_below = refl;
+  rule_23 = refl;
+  three_units = refl;
+  rule_18 = refl;
+  room_in_others = refl;
+  most_text = λ text e. rw e refl;
+  too_much_text = λ text e. rw e refl;
+  rule_19 = λ t edit e. rw e refl;
+  rule_22 = λ t edit e. rw e refl;
+}
+
+pub refusal_examples : RefusalExamples
+unfolding digits covers is_valid_on first_day is_in_force verdict date_text six_months_after kind_code kind_place kinds_text has_kind is_over limit_of rule_code rule_number content is_above is_affected seeds_of_new chain_within duties entered made edit_text ticket_code finding_count findings reaches_within refused ticket_reused unknown_substance unknown_material unknown_part unknown_product unknown_exemption name_taken kind_changed wrong_child no_such_line foreign_material stale_declaration masses_exceed exemption_span annex_kinds ship_below_zero units_too_large table_full text_full closes_cycle total_too_large findings_full year_too_large rolled_within share start kept_number step due_day notices tonnage has_too_many_findings has_too_much_text tables_over too_heavy_part too_heavy_year
+refusal_examples = record {
+  rule_1 = refl;
+  rule_1_declare = refl;
+  rule_2_member = refl;
+  rule_2_candidate = refl;
+  rule_2_declare = refl;
+  rule_3 = refl;
+  rule_4_parent = refl;
+  rule_4_child = refl;
+  rule_4_unline = refl;
+  rule_4_product = refl;
+  rule_5_ship = refl;
+  rule_5_unship = refl;
+  rule_6 = refl;
+  rule_7_declare = refl;
+  rule_7_part = refl;
+  rule_8 = refl;
+  rule_9_article = refl;
+  rule_9_assembly = refl;
+  rule_10 = refl;
+  rule_11 = refl;
+  rule_12 = refl;
+  rule_13 = refl;
+  rule_14_days = refl;
+  rule_14_ppm = refl;
+  rule_15 = refl;
+  rule_16 = refl;
+  rule_16_no_entry = refl;
+  rule_17 = refl;
+  rule_20_itself = refl;
+  rule_20 = refl;
+}
+
+pub acceptance_examples : AcceptanceExamples
+unfolding digits covers is_valid_on first_day is_in_force verdict date_text six_months_after kind_code kind_place kinds_text has_kind is_over limit_of rule_code rule_number content is_above is_affected seeds_of_new chain_within duties entered made edit_text ticket_code finding_count findings reaches_within refused ticket_reused unknown_substance unknown_material unknown_part unknown_product unknown_exemption name_taken kind_changed wrong_child no_such_line foreign_material stale_declaration masses_exceed exemption_span annex_kinds ship_below_zero units_too_large table_full text_full closes_cycle total_too_large findings_full year_too_large rolled_within share start kept_number step due_day notices tonnage has_too_many_findings has_too_much_text tables_over too_heavy_part too_heavy_year
+acceptance_examples = record {
+  annex_four = refl;
+  most_units = refl;
+  repeated = refl;
+  repeated_declaration = refl;
+  repeated_shipment = refl;
+  half_declared = refl;
+  none_entered = refl;
+}
+
+pub order_examples : OrderExamples
+unfolding digits covers is_valid_on first_day is_in_force verdict date_text six_months_after kind_code kind_place kinds_text has_kind is_over limit_of rule_code rule_number content is_above is_affected seeds_of_new chain_within duties entered made edit_text ticket_code finding_count findings reaches_within refused ticket_reused unknown_substance unknown_material unknown_part unknown_product unknown_exemption name_taken kind_changed wrong_child no_such_line foreign_material stale_declaration masses_exceed exemption_span annex_kinds ship_below_zero units_too_large table_full text_full closes_cycle total_too_large findings_full year_too_large rolled_within share start kept_number step due_day notices tonnage has_too_many_findings has_too_much_text tables_over too_heavy_part too_heavy_year
+order_examples = record {
+  reused_and_unknown = refl;
+  unknown_and_taken = refl;
+  unknown_and_heavy = refl;
+  unknown_and_no_line = refl;
+  wrong_and_cycle = refl;
+  foreign_and_stale = refl;
+  span_and_kinds = refl;
+}
+
+pub share_examples : ShareExamples
+unfolding digits covers is_valid_on first_day is_in_force verdict date_text six_months_after kind_code kind_place kinds_text has_kind is_over limit_of rule_code rule_number content is_above is_affected seeds_of_new chain_within duties entered made edit_text ticket_code finding_count findings reaches_within refused ticket_reused unknown_substance unknown_material unknown_part unknown_product unknown_exemption name_taken kind_changed wrong_child no_such_line foreign_material stale_declaration masses_exceed exemption_span annex_kinds ship_below_zero units_too_large table_full text_full closes_cycle total_too_large findings_full year_too_large rolled_within share start kept_number step due_day notices tonnage has_too_many_findings has_too_much_text tables_over too_heavy_part too_heavy_year
+share_examples = record {
+  oxide_over = refl;
+  oxide_over_limit = refl;
+  oxide_within = refl;
+  oxide_within_limit = refl;
+  no_member_no_share = refl;
+  at_limit = refl;
+  over_limit = refl;
+  cadmium_at_limit = refl;
+  cadmium_over_limit = refl;
+  cleared = refl;
+  cleared_share = refl;
+  cleared_affects = refl;
+  nothing_to_clear = refl;
+}
+
+pub text_examples : TextExamples
+unfolding digits covers is_valid_on first_day is_in_force verdict date_text six_months_after kind_code kind_place kinds_text has_kind is_over limit_of rule_code rule_number content is_above is_affected seeds_of_new chain_within duties entered made edit_text ticket_code finding_count findings reaches_within refused ticket_reused unknown_substance unknown_material unknown_part unknown_product unknown_exemption name_taken kind_changed wrong_child no_such_line foreign_material stale_declaration masses_exceed exemption_span annex_kinds ship_below_zero units_too_large table_full text_full closes_cycle total_too_large findings_full year_too_large rolled_within share start kept_number step due_day notices tonnage has_too_many_findings has_too_much_text tables_over too_heavy_part too_heavy_year
+text_examples = record {
+  declaration = refl;
+  declaration_code = refl;
+  part = refl;
+  sent_code = refl;
+  no_cas = refl;
+  exemption = refl;
+  ship = refl;
+  ten_substances = refl;
+  ten_members = refl;
+}

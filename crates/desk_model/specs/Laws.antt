@@ -1,0 +1,88 @@
+-- Laws of the definitions. Each is the contract of a function without a body in `src/laws.rt`, so that the check proves it.
+use Rattle.std.specs.Prelude.{◌≡◌, ℕ, ◌+◌, ◌*◌, ◌≤◌, Bool, true, ◌||◌, List, [], ◌∷◌, Option, Some, None, Result, Ok, Err, length, sum_by, if◌then◌else◌}
+use Rattle.std.specs.List.{list_any}
+use Rattle.std.specs.Option.{option_map_or}
+use Rattle.desk_text.specs.Code.{same_code}
+use Rattle.desk_model.specs.declared.edit.Edit.{Edit}
+use Rattle.desk_model.specs.declared.rule_fault.RuleFault.{RuleFault}
+use Rattle.desk_model.specs.Carried.{carried, own_load}
+use Rattle.desk_model.specs.Chain.{are_linked, begins_with, chain, chain_within, ends_with, next_to}
+use Rattle.desk_model.specs.Effect.{entered, next_number}
+use Rattle.desk_model.specs.History.{Begins, History, IsAccepted, IsHistory, number_of, tables_after, up_to}
+use Rattle.desk_model.specs.Lists.{Lists, is_kept}
+use Rattle.desk_model.specs.Mass.{mass, own_mass}
+use Rattle.desk_model.specs.Reaches.{enough, is_or_reaches, lines_of, reaches, reaches_within}
+use Rattle.desk_model.specs.Refused.{refused}
+use Rattle.desk_model.specs.Rolled.{rolled, rolled_within}
+use Rattle.desk_model.specs.Sound.{Sound, are_numbers}
+use Rattle.desk_model.specs.Step.{kept_number, step}
+
+-- on sound tables the recursions over the bill come to the same at any greater depth
+pub record DepthIsEnough : Type 0 where
+  pub reached : (t : Lists) → Sound t → (more : ℕ) (part target : List ℕ) → reaches_within t.lines (more + enough t) part target ≡ reaches t part target
+  pub rolled_up : (t : Lists) → Sound t → (own : List ℕ → ℕ) (more : ℕ) (code : List ℕ) → rolled_within t.lines own (more + enough t) code ≡ rolled t own code
+  pub chained : (t : Lists) → Sound t → (more : ℕ) (part target : List ℕ) → chain_within t (more + enough t) part target ≡ chain t part target
+
+-- a part reaches the children of its lines and what these reach
+abbrev pub ReachesByLines : Type 0
+ReachesByLines = (t : Lists) → Sound t → (part target : List ℕ) →
+    reaches t part target ≡ list_any (λ line. is_or_reaches t line.child target) (lines_of t.lines part)
+
+-- a part weighs what its lines lead to
+abbrev pub MassByLines : Type 0
+MassByLines = (t : Lists) → Sound t → (code : List ℕ) →
+    mass t code ≡ own_mass t code + sum_by (λ line. line.count * mass t line.child) (lines_of t.lines code)
+
+-- a part carries its own load and what its lines lead to
+abbrev pub CarriedByLines : Type 0
+CarriedByLines = (t : Lists) → Sound t → (substance code : List ℕ) →
+    carried t substance code ≡ own_load t substance code + sum_by (λ line. line.count * carried t substance line.child) (lines_of t.lines code)
+
+-- a chain is the part alone, or the part and the chain of its next child
+abbrev pub ChainByNext : Type 0
+ChainByNext = (t : Lists) → Sound t → (part target : List ℕ) →
+    chain t part target ≡ (if same_code part target then part ∷ [] else part ∷ option_map_or (λ child. chain t child target) (next_to t part target) [])
+
+-- a value that is stored at each material and part, and that is right by the values stored at the children, is the one that rolls up
+abbrev pub StoredRollUpIsRight : Type 0
+StoredRollUpIsRight = (t : Lists) → Sound t → (own stored : List ℕ → ℕ) →
+    ((code : List ℕ) → is_kept t code ≡ true → stored code ≡ own code + sum_by (λ line. line.count * stored line.child) (lines_of t.lines code)) →
+    (code : List ℕ) → is_kept t code ≡ true → stored code ≡ rolled t own code
+
+-- the same of a mark on each material and part that says whether it reaches the target
+abbrev pub StoredMarkIsRight : Type 0
+StoredMarkIsRight = (t : Lists) → Sound t → (target : List ℕ) (stored : List ℕ → Bool) →
+    ((code : List ℕ) → is_kept t code ≡ true → stored code ≡ list_any (λ line. same_code line.child target || stored line.child) (lines_of t.lines code)) →
+    (code : List ℕ) → is_kept t code ≡ true → stored code ≡ reaches t code target
+
+-- a chain begins with the part, goes from line to line, and ends with the target exactly where the part is it or reaches it
+pub record ChainLeads : Type 0 where
+  pub begins : (t : Lists) → Sound t → (part target : List ℕ) → begins_with part (chain t part target) ≡ true
+  pub linked : (t : Lists) → Sound t → (part target : List ℕ) → are_linked t (chain t part target) ≡ true
+  pub ends : (t : Lists) → Sound t → (part target : List ℕ) → ends_with target (chain t part target) ≡ is_or_reaches t part target
+
+-- what a part carries of a substance never exceeds its mass
+abbrev pub CarriedWithinMass : Type 0
+CarriedWithinMass = (t : Lists) → Sound t → (substance code : List ℕ) → carried t substance code ≤ mass t code
+
+-- a refused edit changes nothing; neither does one that is kept, which gets its number
+pub record OnlyNewEditsChange : Type 0 where
+  pub refused : (t : Lists) (edit : Edit) (fault : RuleFault) → (step t edit).0 ≡ Err fault → (step t edit).1 ≡ t
+  pub kept : (t : Lists) (edit : Edit) (number : ℕ) → kept_number t edit ≡ Some number → step t edit ≡ (Ok number, t)
+
+-- an accepted edit gets the next number, is kept with it from then on, and adds one ticket
+pub record AcceptedEditsAreKept : Type 0 where
+  pub answer : (t : Lists) (edit : Edit) → IsAccepted t edit → step t edit ≡ (Ok (next_number t), entered t edit)
+  pub kept : (t : Lists) (edit : Edit) → kept_number (entered t edit) edit ≡ Some (next_number t)
+  pub one_ticket : (t : Lists) (edit : Edit) → IsAccepted t edit → length (entered t edit).tickets ≡ length t.tickets + 1
+  pub stays : (t : Lists) (kept other : Edit) (number : ℕ) → kept_number t kept ≡ Some number → kept_number (step t other).1 kept ≡ Some number
+
+-- ticket numbers stay 1 to n, each once
+abbrev pub NumbersStayWhole : Type 0
+NumbersStayWhole = (t : Lists) (edit : Edit) → are_numbers t.tickets ≡ true → are_numbers (step t edit).1.tickets ≡ true
+
+-- each number of a history, from that of its opening tables on, names one beginning of it, which is a history of that number
+pub record NumbersNamePrefixes : Type 0 where
+  pub number : (history : History) (n : ℕ) → IsHistory history → length history.opening.tickets ≤ n → n ≤ number_of history → number_of (up_to history n) ≡ n
+  pub history : (history : History) (n : ℕ) → IsHistory history → IsHistory (up_to history n)
+  pub begins : (history : History) (n : ℕ) → Begins (up_to history n) history

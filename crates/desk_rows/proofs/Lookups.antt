@@ -1,0 +1,116 @@
+-- What is found after a row is put in or a key's row is taken out, and what holds of each row then.
+use Rattle.std.proofs.Common.{◌≡◌, ℕ, suc, ◌+◌, ◌≤◌, Bool, true, false, cond, List, [], ◌∷◌, map, length, sum_by, refl, sym, ap, ◌∙◌, subst, Ordering, Less, Equal, Greater, is_eq, Option, Some, None, is_some, arith}
+use Rattle.std.specs.Ordering.{match_ordering, ordering_reverse}
+use Rattle.std.specs.Cmp.{IsTotalOrder}
+use Rattle.std.specs.List.{AllByRecursion}
+use Rattle.std.proofs.lemmas.Bool.{false≢true}
+use Rattle.std.proofs.lemmas.Cmp.{alike_right, tied_back, tied_itself}
+use Rattle.std.proofs.lemmas.List.Sums.{sum_by-cons}
+use Rattle.desk_rows.specs.Rows.{IsByKey, row_of, with_row, with_rows, without_row}
+use Rattle.desk_rows.proofs.Order.{AllAbove, AllAbove-down, first_above, greater_back, rest_by_key, row_of-above}
+
+none_some : {R : Type 0} (row : R) {G : Type 0} → None ≡ Some row → G
+none_some row e = cc
+
+is_eq-false : (a : Ordering) → (a ≡ Equal → ⊥) → is_eq a ≡ false
+is_eq-false Less h = refl
+is_eq-false Equal h = absurd (h refl)
+is_eq-false Greater h = refl
+
+module _ {R K : Type 0} (key : R → K) (cmp : K → K → Ordering) where
+  -- what holds of each row and of the new row holds of each row with the new one
+  pub each_with_row : (P : R → Type 0) (new : R) (rows : List R) → P new → AllByRecursion P rows → AllByRecursion P (with_row key cmp new rows)
+  each_with_row P new [] p a = (p, tt)
+  each_with_row P new (row ∷ rows) p a =
+      elim (cmp (key row) (key new)) as (λ o. AllByRecursion P (match_ordering o (row ∷ with_row key cmp new rows) (new ∷ rows) (new ∷ row ∷ rows))) [
+        | Less ↦ (a.0, each_with_row P new rows p a.1)
+        | Equal ↦ (p, a.1)
+        | Greater ↦ (p, a)
+      ]
+
+  pub each_with_rows : (P : R → Type 0) (more rows : List R) → AllByRecursion P more → AllByRecursion P rows → AllByRecursion P (with_rows key cmp more rows)
+  each_with_rows P [] rows m a = a
+  each_with_rows P (new ∷ more) rows m a = each_with_rows P more (with_row key cmp new rows) m.1 (each_with_row P new rows m.0 a)
+
+  pub each_without_row : (P : R → Type 0) (k : K) (rows : List R) → AllByRecursion P rows → AllByRecursion P (without_row key cmp k rows)
+  each_without_row P k [] a = tt
+  each_without_row P k (row ∷ rows) a =
+      elim (is_eq (cmp (key row) k)) as (λ b. AllByRecursion P (cond b rows (row ∷ without_row key cmp k rows))) [ true ↦ a.1 | false ↦ (a.0, each_without_row P k rows a.1) ]
+
+  -- a sum with a row whose key wasn't there
+  pub sum_by-with_row : (f : R → ℕ) (new : R) (rows : List R) → row_of key cmp (key new) rows ≡ None → sum_by f (with_row key cmp new rows) ≡ f new + sum_by f rows
+  sum_by-with_row f new [] absent = sum_by-cons f new []
+  sum_by-with_row f new (row ∷ rows) absent =
+      elim (cmp (key row) (key new)) as (λ o. cond (is_eq o) (Some row) (row_of key cmp (key new) rows) ≡ None → sum_by f (match_ordering o (row ∷ with_row key cmp new rows) (new ∷ rows) (new ∷ row ∷ rows)) ≡ f new + sum_by f (row ∷ rows)) [
+        | Less ↦ λ later. omega (arith, sum_by-cons f row (with_row key cmp new rows), sum_by-cons f row rows, sum_by-with_row f new rows later)
+        | Equal ↦ λ here. none_some row (sym here)
+        | Greater ↦ λ later. sum_by-cons f new (row ∷ rows)
+      ] absent
+
+  module _ (o : IsTotalOrder cmp) where
+    found_step : (new row : R) (rows : List R) (a : Ordering) → cmp (key row) (key new) ≡ a → row_of key cmp (key new) (with_row key cmp new rows) ≡ Some new → row_of key cmp (key new) (with_row key cmp new (row ∷ rows)) ≡ Some new
+    found_step new row rows Less e ih = rw (e, e) ih
+    found_step new row rows Equal e ih = rw (e, tied_itself o (key new)) refl
+    found_step new row rows Greater e ih = rw (e, tied_itself o (key new)) refl
+
+    -- the row that was put in is found
+    pub row_of-with_row : (new : R) (rows : List R) → row_of key cmp (key new) (with_row key cmp new rows) ≡ Some new
+    row_of-with_row new [] = rw (tied_itself o (key new)) refl
+    row_of-with_row new (row ∷ rows) = found_step new row rows (cmp (key row) (key new)) refl (row_of-with_row new rows)
+
+    other_step : (new row : R) (k : K) (rows : List R) (a : Ordering) → cmp (key row) (key new) ≡ a → is_eq (cmp (key new) k) ≡ false → row_of key cmp k (with_row key cmp new rows) ≡ row_of key cmp k rows → row_of key cmp k (with_row key cmp new (row ∷ rows)) ≡ row_of key cmp k (row ∷ rows)
+    other_step new row k rows Less e other ih = rw e (ap (λ found. cond (is_eq (cmp (key row) k)) (Some row) found) ih)
+    other_step new row k rows Equal e other ih =
+        let same : cmp (key row) k ≡ cmp (key new) k = o.congr (key row) (key new) k e in
+        rw (e, other, same, other) refl
+    other_step new row k rows Greater e other ih = rw (e, other) refl
+
+    -- another key finds what it found before
+    pub row_of-with_row_other : (new : R) (k : K) (rows : List R) → is_eq (cmp (key new) k) ≡ false → row_of key cmp k (with_row key cmp new rows) ≡ row_of key cmp k rows
+    row_of-with_row_other new k [] other = rw other refl
+    row_of-with_row_other new k (row ∷ rows) other = other_step new row k rows (cmp (key row) (key new)) refl other (row_of-with_row_other new k rows other)
+
+    without_step : (j k : K) (row : R) (rows : List R) (b : Bool) → is_eq (cmp (key row) j) ≡ b → is_eq (cmp j k) ≡ false → row_of key cmp k (without_row key cmp j rows) ≡ row_of key cmp k rows → row_of key cmp k (without_row key cmp j (row ∷ rows)) ≡ row_of key cmp k (row ∷ rows)
+    without_step j k row rows true e other ih =
+        let same : is_eq (cmp (key row) k) ≡ false = ap is_eq (o.congr (key row) j k (is_equal (cmp (key row) j) e)) ∙ other in
+        rw (e, same) refl
+      where
+        is_equal : (a : Ordering) → is_eq a ≡ true → a ≡ Equal
+        is_equal Less h = absurd (false≢true h)
+        is_equal Equal h = refl
+        is_equal Greater h = absurd (false≢true h)
+    without_step j k row rows false e other ih = rw e (ap (λ found. cond (is_eq (cmp (key row) k)) (Some row) found) ih)
+
+    pub row_of-without_row_other : (j k : K) (rows : List R) → is_eq (cmp j k) ≡ false → row_of key cmp k (without_row key cmp j rows) ≡ row_of key cmp k rows
+    row_of-without_row_other j k [] other = refl
+    row_of-without_row_other j k (row ∷ rows) other = without_step j k row rows (is_eq (cmp (key row) j)) refl other (row_of-without_row_other j k rows other)
+
+module _ {R K : Type 0} (key : R → K) (cmp : K → K → Ordering) where
+  kept_step : (k : K) (new row : R) (rows : List R) (a : Ordering) (o : IsTotalOrder cmp) → cmp (key row) (key new) ≡ a → is_some (row_of key cmp k (row ∷ rows)) ≡ true → (is_some (row_of key cmp k rows) ≡ true → is_some (row_of key cmp k (with_row key cmp new rows)) ≡ true) → is_some (row_of key cmp k (with_row key cmp new (row ∷ rows))) ≡ true
+  kept_step k new row rows Less o e kept ih =
+      rw e
+      (elim (is_eq (cmp (key row) k)) as (λ b. is_some (cond b (Some row) (row_of key cmp k rows)) ≡ true → is_some (cond b (Some row) (row_of key cmp k (with_row key cmp new rows))) ≡ true) [ true ↦ λ h. refl | false ↦ ih ] kept)
+  kept_step k new row rows Equal o e kept ih =
+      rw (e, sym (o.congr (key row) (key new) k e))
+      (elim (is_eq (cmp (key row) k)) as (λ b. is_some (cond b (Some row) (row_of key cmp k rows)) ≡ true → is_some (cond b (Some new) (row_of key cmp k rows)) ≡ true) [ true ↦ λ h. refl | false ↦ λ h. h ] kept)
+  kept_step k new row rows Greater o e kept ih =
+      rw e (elim (is_eq (cmp (key new) k)) as (λ b. is_some (cond b (Some new) (row_of key cmp k (row ∷ rows))) ≡ true) [ true ↦ refl | false ↦ kept ])
+
+  -- a kept key stays kept when a row is put in
+  pub kept-with_row : IsTotalOrder cmp → (k : K) (new : R) (rows : List R) → is_some (row_of key cmp k rows) ≡ true → is_some (row_of key cmp k (with_row key cmp new rows)) ≡ true
+  kept-with_row o k new [] kept = absurd (false≢true kept)
+  kept-with_row o k new (row ∷ rows) kept = kept_step k new row rows (cmp (key row) (key new)) o refl kept (kept-with_row o k new rows)
+
+  pub kept-with_rows : IsTotalOrder cmp → (k : K) (more rows : List R) → is_some (row_of key cmp k rows) ≡ true → is_some (row_of key cmp k (with_rows key cmp more rows)) ≡ true
+  kept-with_rows o k [] rows kept = kept
+  kept-with_rows o k (new ∷ more) rows kept = kept-with_rows o k more (with_row key cmp new rows) (kept-with_row o k new rows kept)
+
+-- no row is lost when one is put in
+pub length-with_row-ge : {R K : Type 0} (key : R → K) (cmp : K → K → Ordering) (new : R) (rows : List R) → length rows ≤ length (with_row key cmp new rows)
+length-with_row-ge key cmp new [] = omega arith
+length-with_row-ge key cmp new (row ∷ rows) =
+    elim (cmp (key row) (key new)) as (λ o. suc (length rows) ≤ length (match_ordering o (row ∷ with_row key cmp new rows) (new ∷ rows) (new ∷ row ∷ rows))) [
+      | Less ↦ omega (arith, length-with_row-ge key cmp new rows)
+      | Equal ↦ omega arith
+      | Greater ↦ omega arith
+    ]
