@@ -96,12 +96,12 @@ module _ (t : Lists) (parents : HasParents t) where
         elim (stable_or_more k) [
           | inl found ↦ inl (found.0, omega (arith, found.1), found.2)
           | inr enough ↦
-            elim (same_or_more (λ part. within k part.code) (λ part. within (suc k) part.code) t.parts (wider k)) [
-              | inl same ↦ inl (k, omega arith, stable_from_parts k same)
-              | inr more ↦
-                let rises = count_less (λ part. within k part.code) (λ part. within (suc k) part.code) t.parts (wider k) more in
-                inr (omega (arith, rises, enough))
-            ]
+              elim (same_or_more (λ part. within k part.code) (λ part. within (suc k) part.code) t.parts (wider k)) [
+                | inl same ↦ inl (k, omega arith, stable_from_parts k same)
+                | inr more ↦
+                    let rises = count_less (λ part. within k part.code) (λ part. within (suc k) part.code) t.parts (wider k) more in
+                    inr (omega (arith, rises, enough))
+              ]
         ]
 
     too_many : (k : ℕ) → k ≤ count k → k ≤ length t.parts
@@ -145,8 +145,8 @@ module _ (t : Lists) (parents : HasParents t) where
       ∙ any_map (λ line. same_code line.child b || within b k line.child) (λ line. is_or_reaches t line.child c) (lines_of t.lines a)
       (each (λ line. (same_code line.child b || within b k line.child) ≡ true → is_or_reaches t line.child c ≡ true)
       (λ line h.
-        or_right (same_code line.child c) (reaches t line.child c)
-        (⊎_elim (λ here. subst (λ d. reaches t d c ≡ true) (sym (same_code-true line.child b here)) f) (λ there. within_trans k line.child b c there f) (or_cases (same_code line.child b) (within b k line.child) h)))
+      or_right (same_code line.child c) (reaches t line.child c)
+      (⊎_elim (λ here. subst (λ d. reaches t d c ≡ true) (sym (same_code-true line.child b here)) f) (λ there. within_trans k line.child b c there f) (or_cases (same_code line.child b) (within b k line.child) h)))
       (lines_of t.lines a))
       (sym (within-suc b k a) ∙ e)
 
@@ -192,9 +192,9 @@ module _ (t : Lists) (parents : HasParents t) where
     below k code h =
         each_map (λ line. (is_part t line.child ≡ true → rank line.child < rank line.parent) × (same_code line.parent code ≡ true)) (λ line. is_part t line.child ≡ true → rank line.child < k)
         (λ line f kept.
-          let falls_here = f.0 kept in
-          let same = ap rank (same_code-true line.parent code f.1) in
-          omega (arith, falls_here, same, h))
+        let falls_here = f.0 kept in
+        let same = ap rank (same_code-true line.parent code f.1) in
+        omega (arith, falls_here, same, h))
         (lines_of t.lines code)
         (each_filter (λ line. is_part t line.child ≡ true → rank line.child < rank line.parent) (λ line. same_code line.parent code) t.lines each_falls)
 
@@ -207,8 +207,8 @@ module _ (t : Lists) (parents : HasParents t) where
     by_rank P step (suc k) code h =
         elim (cases_Bool (is_part t code)) [
           | inl kept ↦
-            step code
-            (each_map (λ line. is_part t line.child ≡ true → rank line.child < k) (λ line. P line.child) (λ line g. by_rank P step k line.child g) (lines_of t.lines code) (below k code (h kept)))
+              step code
+              (each_map (λ line. is_part t line.child ≡ true → rank line.child < k) (λ line. P line.child) (λ line g. by_rank P step k line.child g) (lines_of t.lines code) (below k code (h kept)))
           | inr absent ↦ step code (childless P code absent)
         ]
 
@@ -238,12 +238,12 @@ module _ (t : Lists) (parents : HasParents t) where
       rolled_stable (suc k) code h =
           elim (cases_Bool (is_part t code)) [
             | inl kept ↦
-              rolled_within-suc (suc k) code
-              ∙ ap (λ n. own code + n)
-              (sum_same (λ line. line.count * rolled_within t.lines own (suc k) line.child) (λ line. line.count * rolled_within t.lines own k line.child) (lines_of t.lines code)
-              (each_map (λ line. is_part t line.child ≡ true → rank line.child < k) (λ line. line.count * rolled_within t.lines own (suc k) line.child ≡ line.count * rolled_within t.lines own k line.child)
-              (λ line g. ap (λ n. line.count * n) (rolled_stable k line.child g)) (lines_of t.lines code) (below k code (h kept))))
-              ∙ sym (rolled_within-suc k code)
+                rolled_within-suc (suc k) code
+                ∙ ap (λ n. own code + n)
+                (sum_same (λ line. line.count * rolled_within t.lines own (suc k) line.child) (λ line. line.count * rolled_within t.lines own k line.child) (lines_of t.lines code)
+                (each_map (λ line. is_part t line.child ≡ true → rank line.child < k) (λ line. line.count * rolled_within t.lines own (suc k) line.child ≡ line.count * rolled_within t.lines own k line.child)
+                (λ line g. ap (λ n. line.count * n) (rolled_stable k line.child g)) (lines_of t.lines code) (below k code (h kept))))
+                ∙ sym (rolled_within-suc k code)
             | inr absent ↦ rolled_within-none (suc (suc k)) code absent ∙ sym (rolled_within-none (suc k) code absent)
           ]
 
@@ -263,27 +263,27 @@ module _ (t : Lists) (parents : HasParents t) where
       rolled-unique stored children step =
           bill_induction (λ code. is_kept t code ≡ true → stored code ≡ rolled t own code)
           (λ code below kept.
-            step code kept
-            ∙ ap (λ n. own code + n)
-            (sum_same (λ line. line.count * stored line.child) (λ line. line.count * rolled t own line.child) (lines_of t.lines code)
-            (each_map (λ line. (is_kept t line.child ≡ true → stored line.child ≡ rolled t own line.child) × ((is_kept t line.child ≡ true) × (same_code line.parent code ≡ true))) (λ line. line.count * stored line.child ≡ line.count * rolled t own line.child)
-            (λ line h. ap (λ n. line.count * n) (h.0 h.1.0)) (lines_of t.lines code)
-            (each_both (λ line. is_kept t line.child ≡ true → stored line.child ≡ rolled t own line.child) (λ line. (is_kept t line.child ≡ true) × (same_code line.parent code ≡ true)) (lines_of t.lines code) below
-            (each_filter (λ line. is_kept t line.child ≡ true) (λ line. same_code line.parent code) t.lines children))))
-            ∙ sym (rolled-step code))
+          step code kept
+          ∙ ap (λ n. own code + n)
+          (sum_same (λ line. line.count * stored line.child) (λ line. line.count * rolled t own line.child) (lines_of t.lines code)
+          (each_map (λ line. (is_kept t line.child ≡ true → stored line.child ≡ rolled t own line.child) × ((is_kept t line.child ≡ true) × (same_code line.parent code ≡ true))) (λ line. line.count * stored line.child ≡ line.count * rolled t own line.child)
+          (λ line h. ap (λ n. line.count * n) (h.0 h.1.0)) (lines_of t.lines code)
+          (each_both (λ line. is_kept t line.child ≡ true → stored line.child ≡ rolled t own line.child) (λ line. (is_kept t line.child ≡ true) × (same_code line.parent code ≡ true)) (lines_of t.lines code) below
+          (each_filter (λ line. is_kept t line.child ≡ true) (λ line. same_code line.parent code) t.lines children))))
+          ∙ sym (rolled-step code))
 
     -- the same of what is stored on whom a part reaches
     pub reaches-unique : (target : List ℕ) (stored : List ℕ → Bool) → AllByRecursion (λ line. is_kept t line.child ≡ true) t.lines → ((code : List ℕ) → is_kept t code ≡ true → stored code ≡ list_any (λ line. same_code line.child target || stored line.child) (lines_of t.lines code)) → (code : List ℕ) → is_kept t code ≡ true → stored code ≡ reaches t code target
     reaches-unique target stored children step =
         bill_induction (λ code. is_kept t code ≡ true → stored code ≡ reaches t code target)
         (λ code below kept.
-          step code kept
-          ∙ any_same (λ line. same_code line.child target || stored line.child) (λ line. is_or_reaches t line.child target) (lines_of t.lines code)
-          (each_map (λ line. (is_kept t line.child ≡ true → stored line.child ≡ reaches t line.child target) × ((is_kept t line.child ≡ true) × (same_code line.parent code ≡ true))) (λ line. (same_code line.child target || stored line.child) ≡ is_or_reaches t line.child target)
-          (λ line h. ap (λ b. same_code line.child target || b) (h.0 h.1.0)) (lines_of t.lines code)
-          (each_both (λ line. is_kept t line.child ≡ true → stored line.child ≡ reaches t line.child target) (λ line. (is_kept t line.child ≡ true) × (same_code line.parent code ≡ true)) (lines_of t.lines code) below
-          (each_filter (λ line. is_kept t line.child ≡ true) (λ line. same_code line.parent code) t.lines children)))
-          ∙ sym (reaches-step target code))
+        step code kept
+        ∙ any_same (λ line. same_code line.child target || stored line.child) (λ line. is_or_reaches t line.child target) (lines_of t.lines code)
+        (each_map (λ line. (is_kept t line.child ≡ true → stored line.child ≡ reaches t line.child target) × ((is_kept t line.child ≡ true) × (same_code line.parent code ≡ true))) (λ line. (same_code line.child target || stored line.child) ≡ is_or_reaches t line.child target)
+        (λ line h. ap (λ b. same_code line.child target || b) (h.0 h.1.0)) (lines_of t.lines code)
+        (each_both (λ line. is_kept t line.child ≡ true → stored line.child ≡ reaches t line.child target) (λ line. (is_kept t line.child ≡ true) × (same_code line.parent code ≡ true)) (lines_of t.lines code) below
+        (each_filter (λ line. is_kept t line.child ≡ true) (λ line. same_code line.parent code) t.lines children)))
+        ∙ sym (reaches-step target code))
 
     -- chains
     module _ (target : List ℕ) where
@@ -328,13 +328,13 @@ module _ (t : Lists) (parents : HasParents t) where
       chain_stable (suc k) part h =
           elim (cases_Bool (is_part t part)) [
             | inl kept ↦
-              chain_within-suc (suc k) part
-              ∙ ap (λ rest. if same_code part target then part ∷ [] else part ∷ rest)
-              (chains_same k (next_to t part target) _ _ _
-              (next_each (λ child. chain_within t (suc k) child target ≡ chain_within t k child target) part
-              (each_map (λ line. is_part t line.child ≡ true → rank line.child < k) (λ line. chain_within t (suc k) line.child target ≡ chain_within t k line.child target)
-              (λ line g. chain_stable k line.child g) (lines_of t.lines part) (below k part (h kept)))))
-              ∙ sym (chain_within-suc k part)
+                chain_within-suc (suc k) part
+                ∙ ap (λ rest. if same_code part target then part ∷ [] else part ∷ rest)
+                (chains_same k (next_to t part target) _ _ _
+                (next_each (λ child. chain_within t (suc k) child target ≡ chain_within t k child target) part
+                (each_map (λ line. is_part t line.child ≡ true → rank line.child < k) (λ line. chain_within t (suc k) line.child target ≡ chain_within t k line.child target)
+                (λ line g. chain_stable k line.child g) (lines_of t.lines part) (below k part (h kept)))))
+                ∙ sym (chain_within-suc k part)
             | inr absent ↦ chain_within-none (suc (suc k)) part absent ∙ sym (chain_within-none (suc k) part absent)
           ]
 

@@ -56,10 +56,10 @@ module _ (t : Lists) (parents : HasParents t) (acyclic : list_all (λ part. not 
   chain-linked =
       bill_induction t parents acyclic (λ part. are_linked t (chain t part target) ≡ true)
       (λ part below.
-        rw (chain_is part)
-        (linked_of part (same_code part target) (next_to t part target)
-        (next_each t parents acyclic target (λ child. (is_line t part child ≡ true) × (are_linked t (chain t child target) ≡ true)) part
-        (each_both (λ line. is_line t part line.child ≡ true) (λ line. are_linked t (chain t line.child target) ≡ true) (lines_of t.lines part) (each_line part) below))))
+      rw (chain_is part)
+      (linked_of part (same_code part target) (next_to t part target)
+      (next_each t parents acyclic target (λ child. (is_line t part child ≡ true) × (are_linked t (chain t child target) ≡ true)) part
+      (each_both (λ line. is_line t part line.child ≡ true) (λ line. are_linked t (chain t line.child target) ≡ true) (lines_of t.lines part) (each_line part) below))))
 
   later_end : (part child : List ℕ) (codes : List (List ℕ)) → begins_with child codes ≡ true → ends_with target (part ∷ codes) ≡ ends_with target codes
   later_end part child [] begins = absurd (Rattle.std.proofs.lemmas.Bool.false≢true begins)
@@ -76,6 +76,6 @@ module _ (t : Lists) (parents : HasParents t) (acyclic : list_all (λ part. not 
   chain-ends =
       bill_induction t parents acyclic (λ part. ends_with target (chain t part target) ≡ is_or_reaches t part target)
       (λ part below.
-        rw (chain_is part)
-        (ends_of part (same_code part target) (next_to t part target) refl
-        (next_each t parents acyclic target (λ child. ends_with target (chain t child target) ≡ is_or_reaches t child target) part below)))
+      rw (chain_is part)
+      (ends_of part (same_code part target) (next_to t part target) refl
+      (next_each t parents acyclic target (λ child. ends_with target (chain t child target) ≡ is_or_reaches t child target) part below)))

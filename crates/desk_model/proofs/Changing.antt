@@ -33,8 +33,8 @@ module _ {R : Type 0} (key : R → List ℕ) (p : R → Bool) where
       let tests = and_parts (p first) (list_all p rows) all in
       elim (is_eq (code_cmp (key first) code)) as (λ b. is_eq (code_cmp (key first) code) ≡ b → cond b (Some first) (row_of key code_cmp code rows) ≡ Some row → (p row ≡ true) × (key row ≡ code)) [
         | true ↦ λ same here.
-          let is : first ≡ row = some_inside first row here in
-          (subst (λ r. p r ≡ true) is tests.0, subst (λ r. key r ≡ code) is ((same_code-Decides (key first) code).0 same))
+            let is : first ≡ row = some_inside first row here in
+            (subst (λ r. p r ≡ true) is tests.0, subst (λ r. key r ≡ code) is ((same_code-Decides (key first) code).0 same))
         | false ↦ λ other later. found_row code rows row tests.1 later
       ] refl e
 

@@ -1,10 +1,8 @@
 -- The parts of what a material may hold.
-use Rattle.std.proofs.Common.{◌≡◌, ℕ, ◌*◌, ◌^◌, ◌<◌, ◌≤◌, Bool, true, ◌&&◌, List, map, length, get_or, sum_by, arith}
+use Rattle.std.proofs.Common.{◌≡◌, ℕ, ◌≤◌, Bool, true, ◌&&◌, List, map, length}
 use Rattle.std.specs.Prelude.{nat_le}
-use Rattle.std.specs.List.{All, list_all}
+use Rattle.std.specs.List.{list_all}
 use Rattle.std.proofs.lemmas.List.{map-id}
-use Rattle.std.proofs.lemmas.List.Sums.{AllPass-from_list_all, sum_by-le}
-use Rattle.std.proofs.lemmas.Nat.{mul-le}
 use Rattle.std.proofs.lemmas.Bool.{and_from, and_parts, le-leb, leb-true}
 use Rattle.desk_law.specs.declared.claim.Claim.{Claim}
 use Rattle.desk_text.specs.Code.{code_cmp}
@@ -69,13 +67,3 @@ pub from_claim_parts : (claims : List Claim) → ClaimParts claims → are_claim
 from_claim_parts claims p =
     and_from (nat_le (length claims) CLAIM_LIMIT) (rises claim_cmp claims) (le-leb (length claims) CLAIM_LIMIT p.fits)
     (rises_from_sorted claim_cmp claims (rw map-id at p.by_key))
-
--- the substances' masses sum to less than 2^64
-pub sum_fits : (held : List SubstanceMass) → are_substances held ≡ true → sum_by (λ one. one.mass) held < 2 ^ 64
-sum_fits held h =
-    let p = substance_parts held h in
-    let light = AllPass-from_list_all is_light held p.light in
-    let each : All (λ one. one.mass ≤ MASS_LIMIT) held = λ i d inside. leb-true (get_or held i d).mass MASS_LIMIT (light i d inside) in
-    let sum = sum_by-le (λ one. one.mass) MASS_LIMIT held each in
-    let many : length held * MASS_LIMIT ≤ CONTENT_LIMIT * MASS_LIMIT = mul-le (length held) MASS_LIMIT CONTENT_LIMIT MASS_LIMIT p.fits (omega arith) in
-    omega (arith, sum, many)

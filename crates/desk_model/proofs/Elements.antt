@@ -1,9 +1,9 @@
 -- Facts on each element of a list, and what tests, sums and counts make of them.
-use Rattle.std.proofs.Common.{◌≡◌, ℕ, suc, ◌+◌, ◌<◌, ◌≤◌, Bool, true, false, cond, not, ◌&&◌, ◌||◌, List, [], ◌∷◌, map, length, filter, find, sum_by, count_by, Option, Some, None, MatchOption, is_some, refl, sym, ap, ◌∙◌, subst, ◌⊎◌, inl, inr, arith}
+use Rattle.std.proofs.Common.{◌≡◌, ℕ, suc, ◌+◌, ◌<◌, ◌≤◌, Bool, true, false, cond, not, ◌&&◌, ◌||◌, List, [], ◌∷◌, ◌++◌, map, length, filter, find, sum_by, count_by, Option, Some, None, MatchOption, is_some, refl, sym, ap, ◌∙◌, subst, ◌⊎◌, inl, inr, arith}
 use Rattle.std.specs.Prelude.{if◌then◌else◌}
 use Rattle.std.specs.Bool.{beq}
-use Rattle.std.specs.List.{AllByRecursion, list_all, list_any}
-use Rattle.std.proofs.lemmas.Bool.{and_parts, and_from, or_left, or_right, or_cases, cases_Bool, both_ways, false≢true, true≢false}
+use Rattle.std.specs.List.{AllByRecursion, flat_map, list_all, list_any}
+use Rattle.std.proofs.lemmas.Bool.{and_parts, and_from, or_left, or_parts, or_right, or_cases, cases_Bool, both_ways, false≢true, true≢false}
 use Rattle.std.proofs.lemmas.List.Sums.{sum_by-cons}
 
 pub each : {X : Type 0} (P : X → Type 0) → ((x : X) → P x) → (xs : List X) → AllByRecursion P xs
@@ -47,9 +47,10 @@ any_gives p (x ∷ xs) {G} a e = elim (or_cases (p x) (list_any p xs) e) [ inl h
 -- each element that passes makes the test of some element true
 pub any_from_each : {X : Type 0} (p : X → Bool) (xs : List X) → AllByRecursion (λ x. p x ≡ true → list_any p xs ≡ true) xs
 any_from_each p [] = tt
-any_from_each p (x ∷ xs) =
-    (λ e. or_left (p x) (list_any p xs) e,
-    each_map (λ y. p y ≡ true → list_any p xs ≡ true) (λ y. p y ≡ true → list_any p (x ∷ xs) ≡ true) (λ y f e. or_right (p x) (list_any p xs) (f e)) xs (any_from_each p xs))
+any_from_each p (x ∷ xs) = (
+  λ e. or_left (p x) (list_any p xs) e,
+  each_map (λ y. p y ≡ true → list_any p xs ≡ true) (λ y. p y ≡ true → list_any p (x ∷ xs) ≡ true) (λ y f e. or_right (p x) (list_any p xs) (f e)) xs (any_from_each p xs),
+)
 
 pub any_map : {X : Type 0} (p q : X → Bool) (xs : List X) → AllByRecursion (λ x. p x ≡ true → q x ≡ true) xs → list_any p xs ≡ true → list_any q xs ≡ true
 any_map p q [] a e = e
@@ -68,10 +69,11 @@ pub sum_le : {X : Type 0} (f g : X → ℕ) (xs : List X) → AllByRecursion (λ
 sum_le f g [] a = omega arith
 sum_le f g (x ∷ xs) a = let ih = sum_le f g xs a.1 in omega (arith, sum_by-cons f x xs, sum_by-cons g x xs, a.0, ih)
 
--- counts
-one_if : Bool → ℕ
-one_if b = cond b 1 0
+pub sum_zero : {X : Type 0} (f : X → ℕ) (xs : List X) → AllByRecursion (λ x. f x ≡ 0) xs → sum_by f xs ≡ 0
+sum_zero f [] a = refl
+sum_zero f (x ∷ xs) a = let ih = sum_zero f xs a.1 in omega (arith, sum_by-cons f x xs, a.0, ih)
 
+-- counts
 pub count_by-cons : {X : Type 0} (p : X → Bool) (x : X) (xs : List X) → count_by p (x ∷ xs) ≡ cond (p x) 1 0 + count_by p xs
 count_by-cons p x xs = sum_by-cons (λ y. cond (p y) 1 0) x xs
 
@@ -95,13 +97,13 @@ count_less p q [] a e = absurd (false≢true e)
 count_less p q (x ∷ xs) a e =
     elim (or_cases (q x && not (p x)) (list_any (λ y. q y && not (p y)) xs) e) [
       | inl here ↦
-        let parts = and_parts (q x) (not (p x)) here in
-        let one = less_one (p x) (q x) parts.0 (Rattle.std.proofs.lemmas.Bool.not-true (p x) parts.1) in
-        let rest = count_le p q xs a.1 in
-        omega (arith, count_by-cons p x xs, count_by-cons q x xs, one, rest)
+          let parts = and_parts (q x) (not (p x)) here in
+          let one = less_one (p x) (q x) parts.0 (Rattle.std.proofs.lemmas.Bool.not-true (p x) parts.1) in
+          let rest = count_le p q xs a.1 in
+          omega (arith, count_by-cons p x xs, count_by-cons q x xs, one, rest)
       | inr there ↦
-        let rest = count_less p q xs a.1 there in
-        omega (arith, count_by-cons p x xs, count_by-cons q x xs, implied_one (p x) (q x) a.0, rest)
+          let rest = count_less p q xs a.1 there in
+          omega (arith, count_by-cons p x xs, count_by-cons q x xs, implied_one (p x) (q x) a.0, rest)
     ]
 
 agree_or : (a b : Bool) → (a ≡ true → b ≡ true) → ((b && not a) ≡ true) ⊎ (a ≡ b)
@@ -116,10 +118,10 @@ same_or_more p q (x ∷ xs) a =
     elim (agree_or (p x) (q x) a.0) [
       | inl more ↦ inr (or_left (q x && not (p x)) (list_any (λ y. q y && not (p y)) xs) more)
       | inr same ↦
-        elim (same_or_more p q xs a.1) [
-          | inl rest ↦ inl (same, rest)
-          | inr later ↦ inr (or_right (q x && not (p x)) (list_any (λ y. q y && not (p y)) xs) later)
-        ]
+          elim (same_or_more p q xs a.1) [
+            | inl rest ↦ inl (same, rest)
+            | inr later ↦ inr (or_right (q x && not (p x)) (list_any (λ y. q y && not (p y)) xs) later)
+          ]
     ]
 
 -- no element passes a test that each fails
@@ -134,13 +136,14 @@ filter_keeps test p x xs e =
 -- each element that passes both tests makes the second true of some element that the first keeps
 pub any_of_filter : {X : Type 0} (xs : List X) → AllByRecursion (λ x. (test p : X → Bool) → test x ≡ true → p x ≡ true → list_any p (filter test xs) ≡ true) xs
 any_of_filter [] = tt
-any_of_filter {X} (x ∷ xs) =
-    (λ test p kept good. rw kept (or_left (p x) (list_any p (filter test xs)) good),
-    each_map
-    (λ y. (test p : X → Bool) → test y ≡ true → p y ≡ true → list_any p (filter test xs) ≡ true)
-    (λ y. (test p : X → Bool) → test y ≡ true → p y ≡ true → list_any p (filter test (x ∷ xs)) ≡ true)
-    (λ y f test p kept good. filter_keeps test p x xs (f test p kept good))
-    xs (any_of_filter xs))
+any_of_filter {X} (x ∷ xs) = (
+  λ test p kept good. rw kept (or_left (p x) (list_any p (filter test xs)) good),
+  each_map
+      (λ y. (test p : X → Bool) → test y ≡ true → p y ≡ true → list_any p (filter test xs) ≡ true)
+      (λ y. (test p : X → Bool) → test y ≡ true → p y ≡ true → list_any p (filter test (x ∷ xs)) ≡ true)
+      (λ y f test p kept good. filter_keeps test p x xs (f test p kept good))
+      xs (any_of_filter xs),
+)
 
 -- what holds of each element holds of the first that passes
 pub find_each : {X : Type 0} (P : X → Type 0) (test : X → Bool) (xs : List X) → AllByRecursion P xs → MatchOption (find test xs) (list_any test xs ≡ false) (λ x. P x × (test x ≡ true) × (list_any test xs ≡ true))
@@ -159,3 +162,52 @@ any-filter test p (x ∷ xs) =
       | true ↦ ap (λ b. p x || b) (any-filter test p xs)
       | false ↦ any-filter test p xs
     ]
+
+-- the elements of a map, of a flat map, and those before which a search finds none
+pub each_of_map : {X Y : Type 0} (P : Y → Type 0) (f : X → Y) (xs : List X) → AllByRecursion (λ x. P (f x)) xs → AllByRecursion P (map f xs)
+each_of_map P f [] a = tt
+each_of_map P f (x ∷ xs) a = (a.0, each_of_map P f xs a.1)
+
+pub each_in_map : {X Y : Type 0} (P : Y → Type 0) (f : X → Y) (xs : List X) → AllByRecursion P (map f xs) → AllByRecursion (λ x. P (f x)) xs
+each_in_map P f [] a = tt
+each_in_map P f (x ∷ xs) a = (a.0, each_in_map P f xs a.1)
+
+pub each_split : {X : Type 0} (P : X → Type 0) (xs ys : List X) → AllByRecursion P (xs ++ ys) → AllByRecursion P xs × AllByRecursion P ys
+each_split P [] ys a = (tt, a)
+each_split P (x ∷ xs) ys a = let rest = each_split P xs ys a.1 in ((a.0, rest.0), rest.1)
+
+pub each_in_flat_map : {X Y : Type 0} (P : Y → Type 0) (f : X → List Y) (xs : List X) → AllByRecursion P (flat_map f xs) → AllByRecursion (λ x. AllByRecursion P (f x)) xs
+each_in_flat_map P f [] a = tt
+each_in_flat_map P f (x ∷ xs) a = let parts = each_split P (f x) (flat_map f xs) a in (parts.0, each_in_flat_map P f xs parts.1)
+
+none_found : {X : Type 0} (x : X) {G : Type 0} → Some x ≡ None → G
+none_found x e = cc
+
+pub find-none : {X : Type 0} (test : X → Bool) (xs : List X) → find test xs ≡ None → AllByRecursion (λ x. test x ≡ false) xs
+find-none test [] e = tt
+find-none test (x ∷ xs) e =
+    elim (test x) as (λ b. test x ≡ b → cond b (Some x) (find test xs) ≡ None → (test x ≡ false) × AllByRecursion (λ y. test y ≡ false) xs) [
+      | true ↦ λ here h. none_found x h
+      | false ↦ λ here h. (here, find-none test xs h)
+    ] refl e
+
+pub any-map : {X Y : Type 0} (p : Y → Bool) (f : X → Y) (xs : List X) → list_any p (map f xs) ≡ list_any (λ x. p (f x)) xs
+any-map p f [] = refl
+any-map p f (x ∷ xs) = ap (λ b. p (f x) || b) (any-map p f xs)
+
+-- no element passes
+pub none_from_any : {X : Type 0} (p : X → Bool) (xs : List X) → list_any p xs ≡ false → AllByRecursion (λ x. p x ≡ false) xs
+none_from_any p [] e = tt
+none_from_any p (x ∷ xs) e = let parts = or_parts (p x) (list_any p xs) e in (parts.0, none_from_any p xs parts.1)
+
+pub any_none : {X : Type 0} (p : X → Bool) (xs : List X) → AllByRecursion (λ x. p x ≡ false) xs → list_any p xs ≡ false
+any_none p [] a = refl
+any_none p (x ∷ xs) a = rw (a.0, any_none p xs a.1) refl
+
+-- each element that passes makes the test of some element true, whatever the test
+pub any_of_all : {X : Type 0} (xs : List X) → AllByRecursion (λ x. (p : X → Bool) → p x ≡ true → list_any p xs ≡ true) xs
+any_of_all [] = tt
+any_of_all {X} (x ∷ xs) = (
+  λ p e. or_left (p x) (list_any p xs) e,
+  each_map (λ y. (p : X → Bool) → p y ≡ true → list_any p xs ≡ true) (λ y. (p : X → Bool) → p y ≡ true → list_any p (x ∷ xs) ≡ true) (λ y f p e. or_right (p x) (list_any p xs) (f p e)) xs (any_of_all xs),
+)

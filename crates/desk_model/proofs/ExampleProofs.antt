@@ -8,6 +8,7 @@ use Rattle.desk_law.specs.Exemption.{covers, is_valid_on}
 use Rattle.desk_law.specs.InForce.{first_day, is_in_force}
 use Rattle.desk_law.specs.Limit.{is_over, limit_of}
 use Rattle.desk_law.specs.Verdict.{verdict}
+use Rattle.desk_model.specs.Verdicts.{verdict_on}
 use Rattle.desk_law.specs.Rule.{rule_code, rule_number}
 use Rattle.desk_model.specs.Above.{content, is_above}
 use Rattle.desk_model.specs.Affected.{is_affected, seeds_of_new}
@@ -90,7 +91,7 @@ chain_examples = record {
 }
 
 pub gateway_examples : GatewayExamples
-unfolding digits covers is_valid_on first_day is_in_force verdict date_text six_months_after kind_code kind_place kinds_text has_kind is_over limit_of rule_code rule_number content is_above is_affected seeds_of_new chain_within duties entered made edit_text ticket_code finding_count findings reaches_within refused ticket_reused unknown_substance unknown_material unknown_part unknown_product unknown_exemption name_taken kind_changed wrong_child no_such_line foreign_material stale_declaration masses_exceed exemption_span annex_kinds ship_below_zero units_too_large table_full text_full closes_cycle total_too_large findings_full year_too_large rolled_within share start kept_number step due_day notices tonnage has_too_many_findings has_too_much_text tables_over too_heavy_part too_heavy_year
+unfolding verdict_on digits covers is_valid_on first_day is_in_force verdict date_text six_months_after kind_code kind_place kinds_text has_kind is_over limit_of rule_code rule_number content is_above is_affected seeds_of_new chain_within duties entered made edit_text ticket_code finding_count findings reaches_within refused ticket_reused unknown_substance unknown_material unknown_part unknown_product unknown_exemption name_taken kind_changed wrong_child no_such_line foreign_material stale_declaration masses_exceed exemption_span annex_kinds ship_below_zero units_too_large table_full text_full closes_cycle total_too_large findings_full year_too_large rolled_within share start kept_number step due_day notices tonnage has_too_many_findings has_too_much_text tables_over too_heavy_part too_heavy_year
 gateway_examples = record {
   nineteen_edits = refl;
   whole_mass = refl;

@@ -31,8 +31,8 @@ module _ {R : Type 0} (key : R → List ℕ) where
   found_each P code (first ∷ rows) row a e =
       elim (same_code (key first) code) as (λ b. same_code (key first) code ≡ b → cond b (Some first) (row_of key code_cmp code rows) ≡ Some row → P row × (key row ≡ code)) [
         | true ↦ λ same here.
-          let is : first ≡ row = some_inside first row here in
-          (subst P is a.0, subst (λ r. key r ≡ code) is (same_code-true (key first) code same))
+            let is : first ≡ row = some_inside first row here in
+            (subst P is a.0, subst (λ r. key r ≡ code) is (same_code-true (key first) code same))
         | false ↦ λ other later. found_each P code rows row a.1 later
       ] refl e
 
@@ -61,9 +61,10 @@ module _ {R K : Type 0} (key : R → K) (cmp : K → K → Ordering) (o : IsTota
   -- each row's key is kept
   pub each_kept : (rows : List R) → AllByRecursion (λ row. is_some (row_of key cmp (key row) rows) ≡ true) rows
   each_kept [] = tt
-  each_kept (first ∷ rows) =
-      (rw (tied_itself o (key first)) refl,
-      each_map (λ row. is_some (row_of key cmp (key row) rows) ≡ true) (λ row. is_some (row_of key cmp (key row) (first ∷ rows)) ≡ true) (λ row e. found_later (key row) first rows e) rows (each_kept rows))
+  each_kept (first ∷ rows) = (
+    rw (tied_itself o (key first)) refl,
+    each_map (λ row. is_some (row_of key cmp (key row) rows) ≡ true) (λ row. is_some (row_of key cmp (key row) (first ∷ rows)) ≡ true) (λ row e. found_later (key row) first rows e) rows (each_kept rows),
+  )
 
 -- the orders of the tables' keys
 pub code_cmp_total : IsTotalOrder code_cmp
@@ -77,3 +78,12 @@ member_key_cmp_total = then_total (on_total (λ key. key.0) nat_list_cmp_total) 
 
 pub shipment_key_cmp_total : IsTotalOrder shipment_key_cmp
 shipment_key_cmp_total = then_total (on_total (λ key. key.0) nat_cmp_total) (on_total (λ key. key.1) nat_list_cmp_total)
+
+-- a row that is found and passes a test makes the test of some row true
+pub found_any : {R : Type 0} (key : R → List ℕ) (p : R → Bool) (code : List ℕ) (rows : List R) (row : R) → row_of key code_cmp code rows ≡ Some row → p row ≡ true → list_any p rows ≡ true
+found_any key p code [] row e h = none_some row e
+found_any key p code (first ∷ rows) row e h =
+    elim (same_code (key first) code) as (λ b. cond b (Some first) (row_of key code_cmp code rows) ≡ Some row → list_any p (first ∷ rows) ≡ true) [
+      | true ↦ λ here. or_left (p first) (list_any p rows) (subst (λ r. p r ≡ true) (sym (some_inside first row here)) h)
+      | false ↦ λ later. or_right (p first) (list_any p rows) (found_any key p code rows row later h)
+    ] e

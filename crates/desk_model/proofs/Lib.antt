@@ -1,3 +1,4 @@
+pub mod Affects
 pub mod Bill
 pub mod Chains
 pub mod Changes
@@ -12,11 +13,16 @@ pub mod Good
 pub mod Histories
 pub mod Kept
 pub mod Loads
+pub mod Local
 pub mod Made
 pub mod MadeBill
+pub mod MadeDeclared
 pub mod Numbers
 pub mod Order
 pub mod Rules
+pub mod SoundSteps
 pub mod Sounds
+pub mod StartForms
 pub mod Steps
 pub mod Substances
+pub mod Unaffected

@@ -18,7 +18,7 @@ use Rattle.desk_model.specs.Mass.{mass, own_mass}
 use Rattle.desk_model.specs.Reaches.{lines_of}
 use Rattle.desk_model.specs.Sound.{Sound, has_right_child}
 use Rattle.desk_model.proofs.Bill.{bill_induction, lines_of-none, rolled-step}
-use Rattle.desk_model.proofs.Elements.{each, each_both, each_filter, each_from_all, each_map, sum_le, sum_same}
+use Rattle.desk_model.proofs.Elements.{each, each_both, each_filter, each_from_all, each_map, sum_le, sum_zero}
 use Rattle.desk_model.proofs.Kept.{found_each, same_code-true}
 use Rattle.desk_model.proofs.Sounds.{article_child, each_right_child, has_parents, is_part-article, not_part}
 
@@ -81,30 +81,32 @@ module _ (t : Lists) (s : Sound t) where
       (lines_of t.lines code)
       (each_filter (λ line. has_right_child t line ≡ true) (λ line. same_code line.parent code) t.lines (each_right_child t s))
 
-  sum_zero : (lines : List LineRow) (f : LineRow → ℕ) → AllByRecursion (λ line. f line ≡ 0) lines → sum_by f lines ≡ 0
-  sum_zero [] f a = refl
-  sum_zero (line ∷ lines) f a = omega (arith, sum_by-cons f line lines, a.0, sum_zero lines f a.1)
-
   zero_times : (n m : ℕ) → m ≡ 0 → n * m ≡ 0
   zero_times n m e = rw e (omega arith)
 
   carried_by : (substance code : List ℕ) (article above : Bool) → is_article t code ≡ article → AllByRecursion (λ line. carried t substance line.child ≤ mass t line.child) (lines_of t.lines code) → (if article && above then content t code substance else 0) + sum_by (λ line. line.count * carried t substance line.child) (lines_of t.lines code) ≤ sum_by (λ line. line.count * mass t line.child) (lines_of t.lines code)
   carried_by substance code true true e below =
       let nothing =
-      sum_zero (lines_of t.lines code) (λ line. line.count * carried t substance line.child)
+      sum_zero (λ line. line.count * carried t substance line.child) (lines_of t.lines code)
       (each_map (λ line. is_material t line.child ≡ true) (λ line. line.count * carried t substance line.child ≡ 0)
       (λ line kept. zero_times line.count (carried t substance line.child) (carried-material substance line.child kept)) (lines_of t.lines code) (article_lines code e)) in
       omega (arith, nothing, content-le code substance)
   carried_by substance code true false e below =
-      omega (arith, sum_le (λ line. line.count * carried t substance line.child) (λ line. line.count * mass t line.child) (lines_of t.lines code)
-      (each_map (λ line. carried t substance line.child ≤ mass t line.child) (λ line. line.count * carried t substance line.child ≤ line.count * mass t line.child) (λ line h. mul-le-mul_left line.count h) (lines_of t.lines code) below))
+      omega (
+        arith,
+        sum_le (λ line. line.count * carried t substance line.child) (λ line. line.count * mass t line.child) (lines_of t.lines code)
+            (each_map (λ line. carried t substance line.child ≤ mass t line.child) (λ line. line.count * carried t substance line.child ≤ line.count * mass t line.child) (λ line h. mul-le-mul_left line.count h) (lines_of t.lines code) below),
+      )
   carried_by substance code false above e below =
-      omega (arith, sum_le (λ line. line.count * carried t substance line.child) (λ line. line.count * mass t line.child) (lines_of t.lines code)
-      (each_map (λ line. carried t substance line.child ≤ mass t line.child) (λ line. line.count * carried t substance line.child ≤ line.count * mass t line.child) (λ line h. mul-le-mul_left line.count h) (lines_of t.lines code) below))
+      omega (
+        arith,
+        sum_le (λ line. line.count * carried t substance line.child) (λ line. line.count * mass t line.child) (lines_of t.lines code)
+            (each_map (λ line. carried t substance line.child ≤ mass t line.child) (λ line. line.count * carried t substance line.child ≤ line.count * mass t line.child) (λ line h. mul-le-mul_left line.count h) (lines_of t.lines code) below),
+      )
 
   -- what a part carries of a substance is at most its mass
   pub carried-le : (substance code : List ℕ) → carried t substance code ≤ mass t code
   carried-le substance =
       bill_induction t (has_parents t s) s.acyclic (λ code. carried t substance code ≤ mass t code)
       (λ code below.
-        omega (arith, carried-step substance code, mass-step code, carried_by substance code (is_article t code) (is_above t code substance) refl below))
+      omega (arith, carried-step substance code, mass-step code, carried_by substance code (is_article t code) (is_above t code substance) refl below))

@@ -58,7 +58,7 @@ module _ {R K : Type 0} (key : R → K) (cmp : K → K → Ordering) where
   all_without_row p k rows f = all_from_each p (without_row key cmp k rows) (each_without_row key cmp (λ row. p row ≡ true) k rows (each_from_all p rows f))
 
 module _ (t : Lists) (g : IsGood t) where
-  good-substance : (ticket code name : List ℕ) (cas : Option (List ℕ)) → is_edit_in_form (Substance ticket code name cas) ≡ true → IsGood (made t (Substance ticket code name cas))
+  pub good-substance : (ticket code name : List ℕ) (cas : Option (List ℕ)) → is_edit_in_form (Substance ticket code name cas) ≡ true → IsGood (made t (Substance ticket code name cas))
   unfolding made is_edit_in_form
   good-substance ticket code name cas form =
       let new : SubstanceRow = record { code = code; name = name; cas = cas } in
@@ -77,7 +77,7 @@ module _ (t : Lists) (g : IsGood t) where
         products = λ c kept. kept;
       })
 
-  good-member : (ticket substance : List ℕ) (rule : Rule) (factor : ℕ) → is_edit_in_form (Member ticket substance rule factor) ≡ true → IsUnrefused t (Member ticket substance rule factor) → IsGood (made t (Member ticket substance rule factor))
+  pub good-member : (ticket substance : List ℕ) (rule : Rule) (factor : ℕ) → is_edit_in_form (Member ticket substance rule factor) ≡ true → IsUnrefused t (Member ticket substance rule factor) → IsGood (made t (Member ticket substance rule factor))
   unfolding made is_edit_in_form unknown_substance
   good-member ticket substance rule zero form u =
       good-members t (without_row member_key member_key_cmp (substance, rule_number rule) t.members) g
@@ -94,7 +94,7 @@ module _ (t : Lists) (g : IsGood t) where
       (and_from (is_code substance && nat_le 1 (suc fewer)) (nat_le (suc fewer) WHOLE_FACTOR) (and_from (is_code substance) (nat_le 1 (suc fewer)) f1.1 (le-leb 1 (suc fewer) (omega arith))) f2.1) g.forms.members)
       (all_with_row member_key member_key_cmp (λ member. is_substance t member.substance) new t.members (refuse_unless _ _ u.unknown_substance) g.names.members)
 
-  good-product : (ticket part : List ℕ) (kind : Kind) → is_edit_in_form (Product ticket part kind) ≡ true → IsUnrefused t (Product ticket part kind) → IsGood (made t (Product ticket part kind))
+  pub good-product : (ticket part : List ℕ) (kind : Kind) → is_edit_in_form (Product ticket part kind) ≡ true → IsUnrefused t (Product ticket part kind) → IsGood (made t (Product ticket part kind))
   unfolding made is_edit_in_form unknown_part
   good-product ticket part kind form u =
       let new : ProductRow = record { part = part; kind = kind } in
@@ -112,7 +112,7 @@ module _ (t : Lists) (g : IsGood t) where
         products = λ c kept. kept-with_row (λ row. row.part) code_cmp code_cmp_total c new t.products kept;
       })
 
-  good-exemption : (ticket : List ℕ) (exemption : ExemptionRow) → is_edit_in_form (Exemption ticket exemption) ≡ true → IsUnrefused t (Exemption ticket exemption) → IsGood (made t (Exemption ticket exemption))
+  pub good-exemption : (ticket : List ℕ) (exemption : ExemptionRow) → is_edit_in_form (Exemption ticket exemption) ≡ true → IsUnrefused t (Exemption ticket exemption) → IsGood (made t (Exemption ticket exemption))
   unfolding made is_edit_in_form exemption_span annex_kinds
   good-exemption ticket exemption form u =
       let f1 = and_split (is_code ticket) (is_exemption_row exemption) form in
@@ -124,7 +124,7 @@ module _ (t : Lists) (g : IsGood t) where
       (all_with_row (λ row. row.terms.row) code_cmp (λ row. not (breaks_span row.terms) && not (breaks_annex row.terms)) exemption t.exemptions
       (and_from (not (breaks_span exemption.terms)) (not (breaks_annex exemption.terms)) (not_from_false (breaks_span exemption.terms) span) (not_from_false (breaks_annex exemption.terms) annex)) g.exemptions)
 
-  good-unexempt : (ticket row : List ℕ) → IsGood (made t (Unexempt ticket row))
+  pub good-unexempt : (ticket row : List ℕ) → IsGood (made t (Unexempt ticket row))
   unfolding made
   good-unexempt ticket row =
       good-exemptions t (without_row (λ kept. kept.terms.row) code_cmp row t.exemptions) g
@@ -132,7 +132,7 @@ module _ (t : Lists) (g : IsGood t) where
       (all_without_row (λ kept. kept.terms.row) code_cmp is_exemption_row row t.exemptions g.forms.exemptions)
       (all_without_row (λ kept. kept.terms.row) code_cmp (λ kept. not (breaks_span kept.terms) && not (breaks_annex kept.terms)) row t.exemptions g.exemptions)
 
-  good-candidate : (ticket substance : List ℕ) (day : Date) → is_edit_in_form (Candidate ticket substance day) ≡ true → IsUnrefused t (Candidate ticket substance day) → IsGood (made t (Candidate ticket substance day))
+  pub good-candidate : (ticket substance : List ℕ) (day : Date) → is_edit_in_form (Candidate ticket substance day) ≡ true → IsUnrefused t (Candidate ticket substance day) → IsGood (made t (Candidate ticket substance day))
   unfolding made is_edit_in_form unknown_substance
   good-candidate ticket substance day form u =
       let new : CandidateRow = record { substance = substance; day = day } in
@@ -160,7 +160,7 @@ module _ (t : Lists) (g : IsGood t) where
       (and_from (is_year year && is_code product) (are_units (suc fewer)) (and_from (is_year year) (is_code product) y c) (and_from (nat_le 1 (suc fewer)) (nat_le (suc fewer) UNITS_LIMIT) least most)) g.forms.shipments)
       (all_with_row shipment_key shipment_key_cmp (λ shipment. is_product t shipment.product) new t.shipments kept g.names.shipments)
 
-  good-ship : (ticket product : List ℕ) (year units : ℕ) → is_edit_in_form (Ship ticket product year units) ≡ true → IsUnrefused t (Ship ticket product year units) → IsGood (made t (Ship ticket product year units))
+  pub good-ship : (ticket product : List ℕ) (year units : ℕ) → is_edit_in_form (Ship ticket product year units) ≡ true → IsUnrefused t (Ship ticket product year units) → IsGood (made t (Ship ticket product year units))
   unfolding made is_edit_in_form unknown_product units_too_large
   good-ship ticket product year units form u =
       let f3 = and_split (is_code ticket && is_code product && is_year year) (are_units units) form in
@@ -189,7 +189,7 @@ module _ (t : Lists) (g : IsGood t) where
             | false ↦ found_units rows a.1
           ]
 
-  good-unship : (ticket product : List ℕ) (year units : ℕ) → is_edit_in_form (Unship ticket product year units) ≡ true → IsUnrefused t (Unship ticket product year units) → IsGood (made t (Unship ticket product year units))
+  pub good-unship : (ticket product : List ℕ) (year units : ℕ) → is_edit_in_form (Unship ticket product year units) ≡ true → IsUnrefused t (Unship ticket product year units) → IsGood (made t (Unship ticket product year units))
   unfolding made is_edit_in_form unknown_product
   good-unship ticket product year units form u =
       let f3 = and_split (is_code ticket && is_code product && is_year year) (are_units units) form in

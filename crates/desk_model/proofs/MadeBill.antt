@@ -43,7 +43,7 @@ any_without key cmp k p (row ∷ rows) e =
     elim (is_eq (cmp (key row) k)) as (λ b. list_any p (cond b rows (row ∷ without_row key cmp k rows)) ≡ true → list_any p (row ∷ rows) ≡ true) [
       | true ↦ λ h. or_right (p row) (list_any p rows) h
       | false ↦ λ h.
-        ⊎_elim (λ here. or_left (p row) (list_any p rows) here) (λ later. or_right (p row) (list_any p rows) (any_without key cmp k p rows later)) (or_cases (p row) (list_any p (without_row key cmp k rows)) h)
+          ⊎_elim (λ here. or_left (p row) (list_any p rows) here) (λ later. or_right (p row) (list_any p rows) (any_without key cmp k p rows later)) (or_cases (p row) (list_any p (without_row key cmp k rows)) h)
     ] e
 
 reaches_fewer : (lines fewer : List LineRow) → ((p : LineRow → Bool) → list_any p fewer ≡ true → list_any p lines ≡ true) → (k : ℕ) (part target : List ℕ) → reaches_within fewer k part target ≡ true → reaches_within lines k part target ≡ true
@@ -55,11 +55,11 @@ reaches_fewer lines fewer sub (suc k) part target e =
     (any_map (λ line. same_code line.parent part && (same_code line.child target || reaches_within fewer k line.child target)) (λ line. same_code line.parent part && (same_code line.child target || reaches_within lines k line.child target)) fewer
     (each (λ line. (same_code line.parent part && (same_code line.child target || reaches_within fewer k line.child target)) ≡ true → (same_code line.parent part && (same_code line.child target || reaches_within lines k line.child target)) ≡ true)
     (λ line h.
-      let parts = and_split (same_code line.parent part) (same_code line.child target || reaches_within fewer k line.child target) h in
-      and_from (same_code line.parent part) (same_code line.child target || reaches_within lines k line.child target) parts.0
-      (⊎_elim (λ here. or_left (same_code line.child target) (reaches_within lines k line.child target) here)
-      (λ there. or_right (same_code line.child target) (reaches_within lines k line.child target) (reaches_fewer lines fewer sub k line.child target there))
-      (or_cases (same_code line.child target) (reaches_within fewer k line.child target) parts.1)))
+    let parts = and_split (same_code line.parent part) (same_code line.child target || reaches_within fewer k line.child target) h in
+    and_from (same_code line.parent part) (same_code line.child target || reaches_within lines k line.child target) parts.0
+    (⊎_elim (λ here. or_left (same_code line.child target) (reaches_within lines k line.child target) here)
+    (λ there. or_right (same_code line.child target) (reaches_within lines k line.child target) (reaches_fewer lines fewer sub k line.child target there))
+    (or_cases (same_code line.child target) (reaches_within fewer k line.child target) parts.1)))
     fewer)
     (sym (any-filter (λ line. same_code line.parent part) (λ line. same_code line.child target || reaches_within fewer k line.child target) fewer) ∙ e))
 
@@ -117,11 +117,11 @@ module _ (t : Lists) (g : IsGood t) where
       right_child_from t (record { parent = parent; child = child; count = count })
       (⊎_elim
       (λ article.
-        let kept = kept_child (is_article t parent) (is_kept t child) _ article u.unknown_material in
-        ⊎_elim (λ here. inl (article, here)) (λ part. absurd (both_ways (is_article t parent && is_part t child) parts.0 (and_from (is_article t parent) (is_part t child) article part))) (or_cases (is_material t child) (is_part t child) kept))
+      let kept = kept_child (is_article t parent) (is_kept t child) _ article u.unknown_material in
+      ⊎_elim (λ here. inl (article, here)) (λ part. absurd (both_ways (is_article t parent && is_part t child) parts.0 (and_from (is_article t parent) (is_part t child) article part))) (or_cases (is_material t child) (is_part t child) kept))
       (λ assembly.
-        let kept = kept_child (is_assembly t parent) (is_kept t child) _ assembly known.1 in
-        ⊎_elim (λ material. absurd (both_ways (is_assembly t parent && is_material t child) parts.1 (and_from (is_assembly t parent) (is_material t child) assembly material))) (λ here. inr (assembly, here)) (or_cases (is_material t child) (is_part t child) kept))
+      let kept = kept_child (is_assembly t parent) (is_kept t child) _ assembly known.1 in
+      ⊎_elim (λ material. absurd (both_ways (is_assembly t parent && is_material t child) parts.1 (and_from (is_assembly t parent) (is_material t child) assembly material))) (λ here. inr (assembly, here)) (or_cases (is_material t child) (is_part t child) kept))
       (part_cases (part_row t parent) known.0))
 
   module _ (new : LineRow) where
@@ -148,22 +148,22 @@ module _ (t : Lists) (g : IsGood t) where
         let same = same_code-true line.parent part h.1 in
         elim h.0 [
           | inl new_line ↦
-            let at_parent = or_left (same_code part new.parent) (reaches t part new.parent) (same_code-from part new.parent (sym same ∙ new_line.0)) in
-            ⊎_elim
-            (λ here. inr (at_parent, or_left (same_code new.child target) (reaches t new.child target) (same_code-from new.child target (sym new_line.1 ∙ same_code-true line.child target here))))
-            (λ there.
+              let at_parent = or_left (same_code part new.parent) (reaches t part new.parent) (same_code-from part new.parent (sym same ∙ new_line.0)) in
+              ⊎_elim
+              (λ here. inr (at_parent, or_left (same_code new.child target) (reaches t new.child target) (same_code-from new.child target (sym new_line.1 ∙ same_code-true line.child target here))))
+              (λ there.
               ⊎_elim
               (λ old. inr (at_parent, or_right (same_code new.child target) (reaches t new.child target) (subst (λ c. reaches t c target ≡ true) new_line.1 old)))
               (λ both. inr (at_parent, both.1)) (ih there))
-            (or_cases (same_code line.child target) further e)
+              (or_cases (same_code line.child target) further e)
           | inr old_line ↦
-            ⊎_elim
-            (λ here. inl (subst (λ c. reaches t c target ≡ true) same (old_line target (or_left (same_code line.child target) (reaches t line.child target) here))))
-            (λ there.
+              ⊎_elim
+              (λ here. inl (subst (λ c. reaches t c target ≡ true) same (old_line target (or_left (same_code line.child target) (reaches t line.child target) here))))
+              (λ there.
               ⊎_elim
               (λ old. inl (subst (λ c. reaches t c target ≡ true) same (old_line target (or_right (same_code line.child target) (reaches t line.child target) old))))
               (λ both. inr (or_right (same_code part new.parent) (reaches t part new.parent) (subst (λ c. reaches t c new.parent ≡ true) same (old_line new.parent both.0)), both.1)) (ih there))
-            (or_cases (same_code line.child target) further e)
+              (or_cases (same_code line.child target) further e)
         ]
 
     onward : (k : ℕ) (part target : List ℕ) → reaches_within lines' k part target ≡ true → Reached part target
@@ -181,11 +181,11 @@ module _ (t : Lists) (g : IsGood t) where
     no_cycle open_ended code e =
         ⊎_elim (λ old. old)
         (λ both.
-          absurd
-          (both_ways (is_or_reaches t new.child new.parent) open_ended
-          (⊎_elim (λ here. subst (λ c. is_or_reaches t c new.parent ≡ true) (sym (same_code-true new.child code here)) both.0)
-          (λ there. or_right (same_code new.child new.parent) (reaches t new.child new.parent) (is_or_reaches_trans t (parents_of t g) new.child code new.parent there both.0))
-          (or_cases (same_code new.child code) (reaches t new.child code) both.1))))
+        absurd
+        (both_ways (is_or_reaches t new.child new.parent) open_ended
+        (⊎_elim (λ here. subst (λ c. is_or_reaches t c new.parent ≡ true) (sym (same_code-true new.child code here)) both.0)
+        (λ there. or_right (same_code new.child new.parent) (reaches t new.child new.parent) (is_or_reaches_trans t (parents_of t g) new.child code new.parent there both.0))
+        (or_cases (same_code new.child code) (reaches t new.child code) both.1))))
         (onward (enough t) code code e)
 
   pub good-line : (ticket parent child : List ℕ) (count : ℕ) → is_edit_in_form (Line ticket parent child count) ≡ true → IsUnrefused t (Line ticket parent child count) → IsGood (made t (Line ticket parent child count))
@@ -222,10 +222,10 @@ module _ (t : Lists) (g : IsGood t) where
     sort_grows f code e =
         elim (cases_Bool (same_code new.code code)) [
           | inl same ↦
-            let is = same_code-true new.code code same in
-            let found : row_of (λ row. row.code) code_cmp code (with_row (λ row. row.code) code_cmp new t.parts) ≡ Some new =
-            subst (λ c. row_of (λ row. row.code) code_cmp c (with_row (λ row. row.code) code_cmp new t.parts) ≡ Some new) is (row_of-with_row (λ row. row.code) code_cmp code_cmp_total new t.parts) in
-            rw found (sort_of_kept f (part_row t new.code) refl (subst (λ c. option_map_or (λ part. f part.sort) (part_row t c) false ≡ true) (sym is) e))
+              let is = same_code-true new.code code same in
+              let found : row_of (λ row. row.code) code_cmp code (with_row (λ row. row.code) code_cmp new t.parts) ≡ Some new =
+              subst (λ c. row_of (λ row. row.code) code_cmp c (with_row (λ row. row.code) code_cmp new t.parts) ≡ Some new) is (row_of-with_row (λ row. row.code) code_cmp code_cmp_total new t.parts) in
+              rw found (sort_of_kept f (part_row t new.code) refl (subst (λ c. option_map_or (λ part. f part.sort) (part_row t c) false ≡ true) (sym is) e))
           | inr other ↦ rw (row_of-with_row_other (λ row. row.code) code_cmp code_cmp_total new code t.parts other) e
         ]
 
@@ -244,7 +244,7 @@ module _ (t : Lists) (g : IsGood t) where
           | inr absent ↦ not_from_false (reaches t code code) (reaches-step t (parents_of t g) code code ∙ rw (lines_of-none t (parents_of t g) code absent) refl)
         ]
 
-  kind_kept : (ticket code name : List ℕ) (sort : PartSort) → kind_changed t (Part ticket code sort name) ≡ None → (part : PartRow) → part_row t code ≡ Some part → same_sort part.sort sort ≡ true
+  pub kind_kept : (ticket code name : List ℕ) (sort : PartSort) → kind_changed t (Part ticket code sort name) ≡ None → (part : PartRow) → part_row t code ≡ Some part → same_sort part.sort sort ≡ true
   unfolding kind_changed
   kind_kept ticket code name sort e part found = refuse_unless (same_sort part.sort sort) _ (rw found at e)
 

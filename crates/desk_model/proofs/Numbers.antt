@@ -9,7 +9,7 @@ use Rattle.desk_rows.specs.Rows.{row_of, with_row}
 use Rattle.desk_rows.proofs.Lookups.{sum_by-with_row}
 use Rattle.desk_model.specs.declared.rows.ticket.TicketRow.{TicketRow}
 use Rattle.desk_model.specs.Sound.{are_numbers}
-use Rattle.desk_model.proofs.Elements.{all_from_each, count_by-cons, each, each_from_all, each_map, sum_same}
+use Rattle.desk_model.proofs.Elements.{all_from_each, count_by-cons, each, each_from_all, each_map, sum_same, sum_zero}
 
 -- how many tickets have the number
 count_of : List TicketRow → ℕ → ℕ
@@ -26,19 +26,19 @@ stretch number a (suc len) =
     let whole = sum_by-cons (λ n. one (number == n)) a (range_with_len (a + 1) len) in
     elim (cases_order number a) [
       | inl same ↦
-        let later : one (nat_le (a + 1) number && nat_le (suc number) (a + 1 + len)) ≡ 0 = rw (lt-leb (a + 1) number (omega arith)) refl in
-        let here : one (number == a) ≡ 1 = rw (eq-eqb number a same) refl in
-        let all : one (nat_le a number && nat_le (suc number) (a + suc len)) ≡ 1 = rw (le-leb a number (omega arith), le-leb (suc number) (a + suc len) (omega arith)) refl in
-        omega (arith, rest, whole, later, here, all)
+          let later : one (nat_le (a + 1) number && nat_le (suc number) (a + 1 + len)) ≡ 0 = rw (lt-leb (a + 1) number (omega arith)) refl in
+          let here : one (number == a) ≡ 1 = rw (eq-eqb number a same) refl in
+          let all : one (nat_le a number && nat_le (suc number) (a + suc len)) ≡ 1 = rw (le-leb a number (omega arith), le-leb (suc number) (a + suc len) (omega arith)) refl in
+          omega (arith, rest, whole, later, here, all)
       | inr (inl before) ↦
-        let later : one (nat_le (a + 1) number && nat_le (suc number) (a + 1 + len)) ≡ 0 = rw (lt-leb (a + 1) number (omega arith)) refl in
-        let here : one (number == a) ≡ 0 = rw (ne_eqb number a (omega arith)) refl in
-        omega (arith, rest, whole, later, here)
+          let later : one (nat_le (a + 1) number && nat_le (suc number) (a + 1 + len)) ≡ 0 = rw (lt-leb (a + 1) number (omega arith)) refl in
+          let here : one (number == a) ≡ 0 = rw (ne_eqb number a (omega arith)) refl in
+          omega (arith, rest, whole, later, here)
       | inr (inr behind) ↦
-        let here : one (number == a) ≡ 0 = rw (ne_eqb number a (omega arith)) refl in
-        let same : one (nat_le (a + 1) number && nat_le (suc number) (a + 1 + len)) ≡ one (nat_le a number && nat_le (suc number) (a + suc len)) =
-        rw (le-leb (a + 1) number (omega arith), le-leb a number (omega arith)) (ap (λ m. one (nat_le (suc number) m)) (omega arith)) in
-        omega (arith, rest, whole, here, same)
+          let here : one (number == a) ≡ 0 = rw (ne_eqb number a (omega arith)) refl in
+          let same : one (nat_le (a + 1) number && nat_le (suc number) (a + 1 + len)) ≡ one (nat_le a number && nat_le (suc number) (a + suc len)) =
+          rw (le-leb (a + 1) number (omega arith), le-leb a number (omega arith)) (ap (λ m. one (nat_le (suc number) m)) (omega arith)) in
+          omega (arith, rest, whole, here, same)
     ]
 
 range_each : (P : ℕ → Type 0) (a len : ℕ) → ((n : ℕ) → a ≤ n → n < a + len → P n) → AllByRecursion P (range_with_len a len)
@@ -58,10 +58,6 @@ sum_plus : (f g : ℕ → ℕ) (ns : List ℕ) → sum_by (λ n. f n + g n) ns �
 sum_plus f g [] = refl
 sum_plus f g (n ∷ ns) = omega (arith, sum_by-cons (λ m. f m + g m) n ns, sum_by-cons f n ns, sum_by-cons g n ns, sum_plus f g ns)
 
-sum_none : (ns : List ℕ) → sum_by (λ n. 0) ns ≡ 0
-sum_none [] = refl
-sum_none (n ∷ ns) = omega (arith, sum_by-cons (λ m. 0) n ns, sum_none ns)
-
 sum_ones : (a len : ℕ) → sum_by (λ n. 1) (range_with_len a len) ≡ len
 sum_ones a zero = refl
 sum_ones a (suc len) = omega (arith, sum_by-cons (λ m. 1) a (range_with_len (a + 1) len), sum_ones (a + 1) len)
@@ -71,7 +67,7 @@ lies_in a len ticket = nat_le a ticket.number && nat_le (suc ticket.number) (a +
 
 -- all counts over a stretch together are at most the tickets whose number lies in it
 total : (tickets : List TicketRow) (a len : ℕ) → sum_by (λ n. count_by (λ ticket. ticket.number == n) tickets) (range_with_len a len) ≤ count_by (lies_in a len) tickets
-total [] a len = omega (arith, sum_none (range_with_len a len))
+total [] a len = omega (arith, sum_zero (λ n. 0) (range_with_len a len) (each (λ n. ◌≡◌ {A = ℕ} 0 0) (λ n. refl) (range_with_len a len)))
 total (ticket ∷ tickets) a len =
     let split : sum_by (λ n. count_by (λ row. row.number == n) (ticket ∷ tickets)) (range_with_len a len) ≡ sum_by (λ n. one (ticket.number == n) + count_by (λ row. row.number == n) tickets) (range_with_len a len) =
     sum_same (λ n. count_by (λ row. row.number == n) (ticket ∷ tickets)) (λ n. one (ticket.number == n) + count_by (λ row. row.number == n) tickets) (range_with_len a len)
@@ -84,11 +80,11 @@ full_count p [] h = tt
 full_count p (ticket ∷ tickets) h =
     elim (cases_Bool (p ticket)) [
       | inl passes ↦
-        let here : one (p ticket) ≡ 1 = rw passes refl in
-        (passes, full_count p tickets (omega (arith, h, here, count_by-cons p ticket tickets)))
+          let here : one (p ticket) ≡ 1 = rw passes refl in
+          (passes, full_count p tickets (omega (arith, h, here, count_by-cons p ticket tickets)))
       | inr fails ↦
-        let here : one (p ticket) ≡ 0 = rw fails refl in
-        absurd (omega (arith, h, here, count_by-cons p ticket tickets, count_by-le-length p tickets))
+          let here : one (p ticket) ≡ 0 = rw fails refl in
+          absurd (omega (arith, h, here, count_by-cons p ticket tickets, count_by-le-length p tickets))
     ]
 
 count_none : (p : TicketRow → Bool) (tickets : List TicketRow) → AllByRecursion (λ ticket. p ticket ≡ false) tickets → count_by p tickets ≡ 0
@@ -108,18 +104,21 @@ module _ (tickets : List TicketRow) (numbered : are_numbers tickets ≡ true) wh
   pub each_in_range : AllByRecursion (λ ticket. lies_in 1 (length tickets) ticket ≡ true) tickets
   each_in_range =
       full_count (lies_in 1 (length tickets)) tickets
-      (omega (arith,
+      (omega (
+        arith,
         sum_same (λ n. count_by (λ ticket. ticket.number == n) tickets) (λ n. 1) (range_with_len 1 (length tickets)) each_once,
-        sum_ones 1 (length tickets), total tickets 1 (length tickets)))
+        sum_ones 1 (length tickets),
+        total tickets 1 (length tickets),
+      ))
 
   next_free : count_by (λ ticket. ticket.number == length tickets + 1) tickets ≡ 0
   next_free =
       count_none (λ ticket. ticket.number == length tickets + 1) tickets
       (each_map (λ ticket. lies_in 1 (length tickets) ticket ≡ true) (λ ticket. (ticket.number == length tickets + 1) ≡ false)
       (λ ticket h.
-        let parts = and_parts (nat_le 1 ticket.number) (nat_le (suc ticket.number) (1 + length tickets)) h in
-        let below = leb-true (suc ticket.number) (1 + length tickets) parts.1 in
-        ne_eqb ticket.number (length tickets + 1) (omega (arith, below)))
+      let parts = and_parts (nat_le 1 ticket.number) (nat_le (suc ticket.number) (1 + length tickets)) h in
+      let below = leb-true (suc ticket.number) (1 + length tickets) parts.1 in
+      ne_eqb ticket.number (length tickets + 1) (omega (arith, below)))
       tickets each_in_range)
 
   -- with a new ticket of the next number the numbers are 1 to n again
@@ -129,15 +128,15 @@ module _ (tickets : List TicketRow) (numbered : are_numbers tickets ≡ true) wh
       (all_from_each (λ n. count_by (λ ticket. ticket.number == n) (with_row (λ row. row.code) code_cmp new tickets) == 1) (range_with_len 1 (length tickets + 1))
       (range_each (λ n. (count_by (λ ticket. ticket.number == n) (with_row (λ row. row.code) code_cmp new tickets) == 1) ≡ true) 1 (length tickets + 1)
       (λ n low high.
-        let counted = sum_by-with_row (λ row. row.code) code_cmp (λ ticket. one (ticket.number == n)) new tickets absent in
-        elim (cases_order n (length tickets + 1)) [
-          | inl same ↦
+      let counted = sum_by-with_row (λ row. row.code) code_cmp (λ ticket. one (ticket.number == n)) new tickets absent in
+      elim (cases_order n (length tickets + 1)) [
+        | inl same ↦
             let here : one (new.number == n) ≡ 1 = rw (eq-eqb new.number n (omega (arith, next, same))) refl in
             let rest : count_by (λ ticket. ticket.number == n) tickets ≡ 0 = ap (λ m. count_by (λ ticket. ticket.number == m) tickets) same ∙ next_free in
             eq-eqb _ 1 (omega (arith, counted, here, rest))
-          | inr (inl before) ↦
+        | inr (inl before) ↦
             let here : one (new.number == n) ≡ 0 = rw (ne_eqb new.number n (omega (arith, next, before))) refl in
             let rest = range_at (λ m. count_by (λ ticket. ticket.number == m) tickets ≡ 1) 1 (length tickets) each_once n low (omega (arith, before)) in
             eq-eqb _ 1 (omega (arith, counted, here, rest))
-          | inr (inr behind) ↦ absurd (omega (arith, high, behind))
-        ])))
+        | inr (inr behind) ↦ absurd (omega (arith, high, behind))
+      ])))

@@ -15,21 +15,22 @@ use Rattle.desk_model.specs.Declaration.{Declared}
 use Rattle.desk_model.specs.EditText.{edit_text, ticket_code}
 use Rattle.desk_model.specs.Lists.{Lists, line_key, line_key_cmp, member_key, member_key_cmp, shipment_key, shipment_key_cmp, shipment_row}
 
+-- the row of a declared material
+abbrev pub declared_row : Declared → MaterialDecl → MaterialRow
+declared_row d material = record {
+  code = material.code;
+  supplier = d.supplier;
+  number = d.number;
+  day = d.day;
+  name = material.name;
+  mass = material.mass;
+  substances = material.substances;
+  claims = material.claims;
+}
+
 -- the rows of a declaration's materials
 abbrev pub declared_rows : Declared → List MaterialRow
-declared_rows d =
-    map
-    (λ m. record {
-      code = m.code;
-      supplier = d.supplier;
-      number = d.number;
-      day = d.day;
-      name = m.name;
-      mass = m.mass;
-      substances = m.substances;
-      claims = m.claims;
-    })
-    d.materials
+declared_rows d = map (declared_row d) d.materials
 
 -- how many units of the product the year's entry holds: 0 where there is none
 abbrev pub units_of : Lists → ℕ → List ℕ → ℕ

@@ -1,20 +1,24 @@
 -- Laws of the definitions. Each is the contract of a function without a body in `src/laws.rt`, so that the check proves it.
-use Rattle.std.specs.Prelude.{◌≡◌, ℕ, ◌+◌, ◌*◌, ◌≤◌, Bool, true, ◌||◌, List, [], ◌∷◌, Option, Some, None, Result, Ok, Err, length, sum_by, if◌then◌else◌}
-use Rattle.std.specs.List.{list_any}
+use Rattle.std.specs.Prelude.{◌≡◌, ℕ, ◌+◌, ◌*◌, ◌≤◌, Bool, true, false, ◌||◌, List, [], ◌∷◌, Option, Some, None, Result, Ok, Err, length, sum_by, if◌then◌else◌}
+use Rattle.std.specs.List.{list_all, list_any}
 use Rattle.std.specs.Option.{option_map_or}
 use Rattle.desk_text.specs.Code.{same_code}
 use Rattle.desk_model.specs.declared.edit.Edit.{Edit}
 use Rattle.desk_model.specs.declared.rule_fault.RuleFault.{RuleFault}
+use Rattle.desk_model.specs.Affected.{is_affected}
 use Rattle.desk_model.specs.Carried.{carried, own_load}
 use Rattle.desk_model.specs.Chain.{are_linked, begins_with, chain, chain_within, ends_with, next_to}
 use Rattle.desk_model.specs.Effect.{entered, next_number}
-use Rattle.desk_model.specs.History.{Begins, History, IsAccepted, IsHistory, number_of, tables_after, up_to}
+use Rattle.desk_model.specs.History.{Begins, History, IsAccepted, IsHistory, after, number_of, up_to}
+use Rattle.desk_model.specs.Findings.{findings}
+use Rattle.desk_model.specs.Forms.{is_edit_in_form}
 use Rattle.desk_model.specs.Lists.{Lists, is_kept}
 use Rattle.desk_model.specs.Mass.{mass, own_mass}
 use Rattle.desk_model.specs.Reaches.{enough, is_or_reaches, lines_of, reaches, reaches_within}
 use Rattle.desk_model.specs.Refused.{refused}
 use Rattle.desk_model.specs.Rolled.{rolled, rolled_within}
 use Rattle.desk_model.specs.Sound.{Sound, are_numbers}
+use Rattle.desk_model.specs.Start.{start}
 use Rattle.desk_model.specs.Step.{kept_number, step}
 
 -- on sound tables the recursions over the bill come to the same at any greater depth
@@ -86,3 +90,19 @@ pub record NumbersNamePrefixes : Type 0 where
   pub number : (history : History) (n : ℕ) → IsHistory history → length history.opening.tickets ≤ n → n ≤ number_of history → number_of (up_to history n) ≡ n
   pub history : (history : History) (n : ℕ) → IsHistory history → IsHistory (up_to history n)
   pub begins : (history : History) (n : ℕ) → Begins (up_to history n) history
+
+-- the start tables are sound, a step keeps tables sound, and so a history leaves sound tables. The edits' values are of their form
+-- and in their range, which the type of edits keeps
+pub record TablesStaySound : Type 0 where
+  pub start : Sound start
+  pub step : (t : Lists) (edit : Edit) → Sound t → is_edit_in_form edit ≡ true → Sound (step t edit).1
+  pub history : (history : History) → IsHistory history → list_all is_edit_in_form history.edits ≡ true → Sound (after history)
+
+-- a material or part that an accepted edit doesn't affect weighs, reaches, carries and is found to have what it did, and by the
+-- same chains
+pub record OthersStay : Type 0 where
+  pub masses : (t : Lists) → Sound t → (edit : Edit) → is_edit_in_form edit ≡ true → IsAccepted t edit → (code : List ℕ) → is_affected t edit code ≡ false → mass (entered t edit) code ≡ mass t code
+  pub reached : (t : Lists) → Sound t → (edit : Edit) → is_edit_in_form edit ≡ true → IsAccepted t edit → (code : List ℕ) → is_affected t edit code ≡ false → (target : List ℕ) → reaches (entered t edit) code target ≡ reaches t code target
+  pub chains : (t : Lists) → Sound t → (edit : Edit) → is_edit_in_form edit ≡ true → IsAccepted t edit → (code : List ℕ) → is_affected t edit code ≡ false → (target : List ℕ) → chain (entered t edit) code target ≡ chain t code target
+  pub loads : (t : Lists) → Sound t → (edit : Edit) → is_edit_in_form edit ≡ true → IsAccepted t edit → (code : List ℕ) → is_affected t edit code ≡ false → (substance : List ℕ) → carried (entered t edit) substance code ≡ carried t substance code
+  pub findings : (t : Lists) → Sound t → (edit : Edit) → is_edit_in_form edit ≡ true → IsAccepted t edit → (code : List ℕ) → is_affected t edit code ≡ false → findings (entered t edit) code ≡ findings t code

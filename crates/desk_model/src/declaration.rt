@@ -67,7 +67,7 @@ impl Declaration {
     /// Adds a material that holds nothing yet. Its mass is in micrograms, from 1 to 1,000,000,000,000,000.
     ///
     /// `Repeated`: the declaration lists the code already. `TooMany`: it lists 256 materials. They are tried in this
-    /// order, and the declaration is then as it was.
+    /// order. `OutOfMemory`: none was left for the material. After an error the declaration is as it was.
     pub fn add_material(&mut self, code: Code, name: Name, mass: u64) -> Result<(), DeclError>
         requires least { 1 ≤ mass }
         requires greatest { mass ≤ MASS_LIMIT }
@@ -85,7 +85,8 @@ impl Declaration {
     /// 1,000,000,000,000,000.
     ///
     /// `Orphan`: the declaration doesn't list the material. `Repeated`: the material has the substance already.
-    /// `TooMany`: it has 64 substances. They are tried in this order, and the declaration is then as it was.
+    /// `TooMany`: it has 64 substances. They are tried in this order. `OutOfMemory`: none was left for the substance. After an
+    /// error the declaration is as it was.
     pub fn add_substance(
         &mut self,
         material: &Code,
@@ -107,7 +108,8 @@ impl Declaration {
     /// Adds a claim of exemption for a material that the declaration lists.
     ///
     /// `Orphan`: the declaration doesn't list the material. `Repeated`: the material has the claim already. `TooMany`: it
-    /// has 16 claims. They are tried in this order, and the declaration is then as it was.
+    /// has 16 claims. They are tried in this order. `OutOfMemory`: none was left for the claim. After an error the
+    /// declaration is as it was.
     pub fn add_claim(&mut self, material: &Code, claim: Claim) -> Result<(), DeclError>
         ensures ok { OnOk result (claim_added material.now claim self.old ≡ Ok self.new) }
         ensures error { IfErr result (λ e. e ≢ DeclError.OutOfMemory

@@ -15,6 +15,8 @@ mod row;
 mod rows;
 mod rule_fault;
 mod substance_mass;
+#[cfg(test)]
+mod tests;
 mod within;
 
 pub use decl_error::DeclError;

@@ -1,5 +1,5 @@
-ghost use Rattle.std.specs.Prelude.{◌≡◌, ◌<◌, ◌^◌, true, sum_by};
-ghost use Rattle.desk_model.specs.Content.{are_substances, holds_too_much};
+ghost use Rattle.std.specs.Prelude.{◌≡◌, sum_by};
+ghost use Rattle.desk_model.specs.Content.{holds_too_much};
 ghost use Rattle.desk_model.specs.Declaring.{empty_material};
 
 use crate::{ListOf, SubstanceMass};
@@ -40,19 +40,21 @@ impl MaterialDecl {
 
     /// Whether the substances weigh more than the material that holds them.
     pub fn holds_too_much(&self) -> bool
-        requires { are_substances self.now.substances ≡ true }
         ensures { result ≡ holds_too_much self.now.mass self.now.substances }
     {
-        self.mass < total_mass(self.substances.as_slice())
+        u128::from(self.mass) < total_mass(self.substances.as_slice())
     }
 }
 
 /// The mass of the substances together, in micrograms.
-fn total_mass(held: &[SubstanceMass]) -> u64
-    requires { sum_by (λ one. one.mass) held.now < 2 ^ 64 }
+fn total_mass(held: &[SubstanceMass]) -> u128
     ensures { result ≡ sum_by (λ one. one.mass) held.now }
 {
-    held.iter().map(|one| one.mass).sum()
+    let mut total = 0;
+    for one in held {
+        total += u128::from(one.mass);
+    }
+    total
 }
 
 impl Keyed for MaterialDecl {

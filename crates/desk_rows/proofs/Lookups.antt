@@ -1,5 +1,5 @@
 -- What is found after a row is put in or a key's row is taken out, and what holds of each row then.
-use Rattle.std.proofs.Common.{◌≡◌, ℕ, suc, ◌+◌, ◌≤◌, Bool, true, false, cond, List, [], ◌∷◌, map, length, sum_by, refl, sym, ap, ◌∙◌, subst, Ordering, Less, Equal, Greater, is_eq, Option, Some, None, is_some, arith}
+use Rattle.std.proofs.Common.{◌≡◌, ℕ, suc, ◌+◌, ◌≤◌, Bool, true, false, cond, List, [], ◌∷◌, filter, map, length, sum_by, refl, sym, ap, ◌∙◌, subst, Ordering, Less, Equal, Greater, is_eq, Option, Some, None, is_some, arith}
 use Rattle.std.specs.Ordering.{match_ordering, ordering_reverse}
 use Rattle.std.specs.Cmp.{IsTotalOrder}
 use Rattle.std.specs.List.{AllByRecursion}
@@ -7,7 +7,7 @@ use Rattle.std.proofs.lemmas.Bool.{false≢true}
 use Rattle.std.proofs.lemmas.Cmp.{alike_right, tied_back, tied_itself}
 use Rattle.std.proofs.lemmas.List.Sums.{sum_by-cons}
 use Rattle.desk_rows.specs.Rows.{IsByKey, row_of, with_row, with_rows, without_row}
-use Rattle.desk_rows.proofs.Order.{AllAbove, AllAbove-down, first_above, greater_back, rest_by_key, row_of-above}
+use Rattle.desk_rows.proofs.Order.{AllAbove, AllAbove-down, first_above, greater_back, less_back, rest_by_key, row_of-above}
 
 none_some : {R : Type 0} (row : R) {G : Type 0} → None ≡ Some row → G
 none_some row e = cc
@@ -114,3 +114,60 @@ length-with_row-ge key cmp new (row ∷ rows) =
       | Equal ↦ omega arith
       | Greater ↦ omega arith
     ]
+
+-- a key that none of the new rows has finds what it found before
+pub row_of-with_rows_other : {R K : Type 0} (key : R → K) (cmp : K → K → Ordering) → IsTotalOrder cmp → (k : K) (more rows : List R) → AllByRecursion (λ row. is_eq (cmp (key row) k) ≡ false) more → row_of key cmp k (with_rows key cmp more rows) ≡ row_of key cmp k rows
+row_of-with_rows_other key cmp o k [] rows other = refl
+row_of-with_rows_other key cmp o k (new ∷ more) rows other =
+    row_of-with_rows_other key cmp o k more (with_row key cmp new rows) other.1 ∙ row_of-with_row_other key cmp o new k rows other.0
+
+module _ {R K : Type 0} (key : R → K) (cmp : K → K → Ordering) (test : R → Bool) where
+  -- a filter that keeps neither the new row nor the row in whose place it comes
+  pub filter-with_row : (new : R) (rows : List R) → test new ≡ false → AllByRecursion (λ row. cmp (key row) (key new) ≡ Equal → test row ≡ false) rows → filter test (with_row key cmp new rows) ≡ filter test rows
+  filter-with_row new [] none old = rw none refl
+  filter-with_row new (row ∷ rows) none old =
+      elim (cmp (key row) (key new)) as (λ o. (o ≡ Equal → test row ≡ false) → filter test (match_ordering o (row ∷ with_row key cmp new rows) (new ∷ rows) (new ∷ row ∷ rows)) ≡ filter test (row ∷ rows)) [
+        | Less ↦ λ here. ap (λ rest. cond (test row) (row ∷ rest) rest) (filter-with_row new rows none old.1)
+        | Equal ↦ λ here. rw (none, here refl) refl
+        | Greater ↦ λ here. rw none refl
+      ] old.0
+
+  pub filter-with_rows : (more rows : List R) → AllByRecursion (λ new. (test new ≡ false) × ((row : R) → cmp (key row) (key new) ≡ Equal → test row ≡ false)) more → filter test (with_rows key cmp more rows) ≡ filter test rows
+  filter-with_rows [] rows a = refl
+  filter-with_rows (new ∷ more) rows a =
+      filter-with_rows more (with_row key cmp new rows) a.1 ∙ filter-with_row new rows a.0.0 (every (λ row. cmp (key row) (key new) ≡ Equal → test row ≡ false) a.0.1 rows)
+    where
+      every : (P : R → Type 0) → ((row : R) → P row) → (xs : List R) → AllByRecursion P xs
+      every P f [] = tt
+      every P f (x ∷ xs) = (f x, every P f xs)
+
+  -- a filter that doesn't keep the row that is taken out
+  pub filter-without_row : (k : K) (rows : List R) → AllByRecursion (λ row. is_eq (cmp (key row) k) ≡ true → test row ≡ false) rows → filter test (without_row key cmp k rows) ≡ filter test rows
+  filter-without_row k [] old = refl
+  filter-without_row k (row ∷ rows) old =
+      elim (is_eq (cmp (key row) k)) as (λ b. (b ≡ true → test row ≡ false) → filter test (cond b rows (row ∷ without_row key cmp k rows)) ≡ filter test (row ∷ rows)) [
+        | true ↦ λ here. rw (here refl) refl
+        | false ↦ λ here. ap (λ rest. cond (test row) (row ∷ rest) rest) (filter-without_row k rows old.1)
+      ] old.0
+
+  -- a row that comes in the place of one that the test and the name don't tell from it
+  pub replaced : {Y : Type 0} (name : R → Y) (o : IsTotalOrder cmp) (new : R) (rows : List R) → IsByKey key cmp rows → is_some (row_of key cmp (key new) rows) ≡ true → ((row : R) → row_of key cmp (key new) rows ≡ Some row → (test row ≡ test new) × (name row ≡ name new)) → map name (filter test (with_row key cmp new rows)) ≡ map name (filter test rows)
+  replaced name o new [] h kept same = absurd (false≢true kept)
+  replaced name o new (row ∷ rows) h kept same =
+      elim (cmp (key row) (key new)) as (λ a. cmp (key row) (key new) ≡ a → map name (filter test (match_ordering a (row ∷ with_row key cmp new rows) (new ∷ rows) (new ∷ row ∷ rows))) ≡ map name (filter test (row ∷ rows))) [
+        | Less ↦ λ e.
+            let later : is_some (row_of key cmp (key new) rows) ≡ true = rw e at kept in
+            in_front (with_row key cmp new rows) (replaced name o new rows (rest_by_key key cmp o row rows h) later (λ found f. same found (rw e f)))
+        | Equal ↦ λ e. let here = same row (rw e refl) in in_place here.0 here.1
+        | Greater ↦ λ e.
+            let above = AllAbove-down key cmp o (key new) (key row) rows (less_back key cmp o (key row) (key new) e) (first_above key cmp o row rows h) in
+            let none : row_of key cmp (key new) rows ≡ None = row_of-above key cmp o (key new) rows above in
+            let gone : is_some (row_of key cmp (key new) rows) ≡ true = rw e at kept in
+            absurd (false≢true (sym (ap is_some none) ∙ gone))
+      ] refl
+    where
+      in_front : (more : List R) → map name (filter test more) ≡ map name (filter test rows) → map name (filter test (row ∷ more)) ≡ map name (filter test (row ∷ rows))
+      in_front more e = elim (test row) as (λ b. map name (cond b (row ∷ filter test more) (filter test more)) ≡ map name (cond b (row ∷ filter test rows) (filter test rows))) [ true ↦ ap (λ rest. name row ∷ rest) e | false ↦ e ]
+
+      in_place : test row ≡ test new → name row ≡ name new → map name (filter test (new ∷ rows)) ≡ map name (filter test (row ∷ rows))
+      in_place e f = rw e (elim (test new) as (λ b. map name (cond b (new ∷ filter test rows) (filter test rows)) ≡ map name (cond b (row ∷ filter test rows) (filter test rows))) [ true ↦ ap (λ n. n ∷ map name (filter test rows)) (sym f) | false ↦ refl ])

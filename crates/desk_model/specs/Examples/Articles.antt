@@ -37,7 +37,6 @@ desk = desk_after parts
 abbrev pub lighter : Lists
 lighter = desk_after (parts ++ declares (codes "ACME") 2 (material (codes "W2") 998 [] ∷ []) ∷ [])
 
-
 pub record DutyExamples : Type 0 where
   pub content_of_article : content desk (codes "W") (codes "svhc") ≡ 1
   -- 1 of 1000 is not more than 0.1 percent

@@ -63,6 +63,6 @@ pub record ChainExamples : Type 0 where
   pub affects_parent : affected desk take_out ≡ codes "P" ∷ []
   -- a new declaration of the material affects all that reaches it
   pub affects_users : affected desk (declares (codes "ACME") 2 (material (codes "MAT") 7 [] ∷ []))
-    ≡ codes "MAT" ∷ codes "A" ∷ codes "B" ∷ codes "C" ∷ codes "P" ∷ []
+      ≡ codes "MAT" ∷ codes "A" ∷ codes "B" ∷ codes "C" ∷ codes "P" ∷ []
   -- the history up to 5 has the five edits that were accepted first
   pub five_edits : number_of (up_to (record { opening = start; edits = edits }) 5) ≡ 5

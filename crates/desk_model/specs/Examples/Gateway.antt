@@ -76,14 +76,14 @@ desk = desk_after edits
 
 -- the verdict on a kept material for the gateway's kind
 abbrev pub verdict_at : List ℕ → Rule → Date → Option Verdict
-verdict_at code rule day = option_map (λ kept. verdict_on desk kept rule Telecommunications day) (material_row desk code)
+verdict_at code rule day = option_map (λ kept. verdict_on desk Telecommunications day kept rule) (material_row desk code)
 
 pub record GatewayExamples : Type 0 where
   pub nineteen_edits : number_of (record { opening = start; edits = edits }) ≡ 19
   pub whole_mass : mass desk (codes "GATEWAY") ≡ 102000000
   pub cable_mass : mass desk (codes "CABLE") ≡ 11000000
   pub four_findings : findings desk (codes "GATEWAY")
-    ≡ over (codes "BRASS") Lead ∷ over (codes "PVC") Dehp ∷ above (codes "CABLE") (codes "dehp") ∷ above (codes "PIN") (codes "lead") ∷ []
+      ≡ over (codes "BRASS") Lead ∷ over (codes "PVC") Dehp ∷ above (codes "CABLE") (codes "dehp") ∷ above (codes "PIN") (codes "lead") ∷ []
   pub brass_exempt : verdict_at (codes "BRASS") Lead (date 2024 7 22) ≡ Some (Exempt 0)
   pub last_day : verdict_at (codes "BRASS") Lead (date 2026 6 30) ≡ Some (Exempt 0)
   pub day_after : verdict_at (codes "BRASS") Lead (date 2026 7 1) ≡ Some Breach
@@ -92,7 +92,7 @@ pub record GatewayExamples : Type 0 where
   pub brass_within : verdict_at (codes "BRASS") Mercury (date 2024 7 22) ≡ Some Within
   pub breach_chain : chain desk (codes "GATEWAY") (codes "PVC") ≡ codes "GATEWAY" ∷ codes "CABLE" ∷ codes "PVC" ∷ []
   pub two_duties : duties desk (codes "GATEWAY") (date 2024 7 22)
-    ≡ record { article = codes "CABLE"; substance = codes "dehp" } ∷ record { article = codes "PIN"; substance = codes "lead" } ∷ []
+      ≡ record { article = codes "CABLE"; substance = codes "dehp" } ∷ record { article = codes "PIN"; substance = codes "lead" } ∷ []
   pub cable_content : content desk (codes "CABLE") (codes "dehp") ≡ 15000
   pub pin_chain : chain desk (codes "GATEWAY") (codes "PIN") ≡ codes "GATEWAY" ∷ codes "BOARD" ∷ codes "PIN" ∷ []
   pub carried_lead : carried desk (codes "lead") (codes "GATEWAY") ≡ 2400000

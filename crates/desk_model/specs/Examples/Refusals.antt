@@ -53,7 +53,7 @@ pub record RefusalExamples : Type 0 where
   pub rule_2_member : answer_at desk (Member (codes "t9") (codes "gold") Lead 1) ≡ Err (UnknownSubstance (codes "gold"))
   pub rule_2_candidate : answer_at desk (Candidate (codes "t9") (codes "gold") (date 2024 1 23)) ≡ Err (UnknownSubstance (codes "gold"))
   pub rule_2_declare : answer_at desk (declares (codes "ACME") 8 (material (codes "M1") 9 (holds (codes "lead") 1 ∷ holds (codes "tin") 1 ∷ []) ∷ material (codes "M2") 9 (holds (codes "gold") 1 ∷ []) ∷ []))
-    ≡ Err (UnknownSubstance (codes "tin"))
+      ≡ Err (UnknownSubstance (codes "tin"))
   pub rule_3 : answer_at desk (Line (codes "t9") (codes "PIN") (codes "GLUE") 1) ≡ Err (UnknownMaterial (codes "GLUE"))
   pub rule_4_parent : answer_at desk (Line (codes "t9") (codes "FRAME") (codes "PIN") 1) ≡ Err (UnknownPart (codes "FRAME"))
   pub rule_4_child : answer_at desk (Line (codes "t9") (codes "BOARD") (codes "FRAME") 1) ≡ Err (UnknownPart (codes "FRAME"))
@@ -80,7 +80,7 @@ pub record RefusalExamples : Type 0 where
   -- lines that would close a cycle, of one part and of three
   pub rule_20_itself : answer_at desk (Line (codes "t9") (codes "CASE") (codes "CASE") 1) ≡ Err (ClosesCycle (codes "CASE" ∷ []))
   pub rule_20 : answer_at (desk_after (edits ++ Line (codes "t9") (codes "CASE") (codes "BOARD") 1 ∷ [])) (Line (codes "t10") (codes "BOARD") (codes "CASE") 1)
-    ≡ Err (ClosesCycle (codes "CASE" ∷ codes "BOARD" ∷ []))
+      ≡ Err (ClosesCycle (codes "CASE" ∷ codes "BOARD" ∷ []))
 
 -- the second of these materials has a part's code
 abbrev pub half : Edit

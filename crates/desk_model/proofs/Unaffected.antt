@@ -1,0 +1,105 @@
+-- Codes that an accepted edit doesn't affect stay as they were.
+use Rattle.std.proofs.Common.{◌≡◌, ℕ, zero, suc, ◌+◌, ◌-◌, Bool, true, false, List, [], ◌∷◌, Option, Some, None, is_some, refl, sym, ap, ◌∙◌, subst}
+use Rattle.std.specs.Prelude.{if◌then◌else◌}
+use Rattle.std.specs.List.{list_any}
+use Rattle.desk_model.specs.declared.edit.Edit.{Edit}
+use Rattle.desk_model.specs.declared.edit.Edit.TheVariants.{Substance, Member, Declare, Part, Line, Unline, Product, Exemption, Unexempt, Candidate, Ship, Unship}
+use Rattle.desk_model.specs.Above.{is_candidate}
+use Rattle.desk_model.specs.Affected.{is_affected, seeds, seeds_of_new}
+use Rattle.desk_model.specs.Carried.{carried}
+use Rattle.desk_model.specs.Chain.{chain}
+use Rattle.desk_model.specs.Effect.{entered, made, units_of, with_units}
+use Rattle.desk_model.specs.Findings.{findings}
+use Rattle.desk_model.specs.Forms.{is_edit_in_form}
+use Rattle.desk_model.specs.History.{IsAccepted}
+use Rattle.desk_model.specs.Lists.{Lists, is_part}
+use Rattle.desk_model.specs.Mass.{mass}
+use Rattle.desk_model.specs.Reaches.{is_or_reaches, reaches}
+use Rattle.desk_model.specs.Sound.{Sound}
+use Rattle.desk_model.specs.Step.{kept_number}
+use Rattle.desk_model.proofs.Affects.{IsFree, agrees-candidate, agrees-declare, agrees-line, agrees-member, agrees-part, agrees-unline, agrees_plain}
+use Rattle.desk_model.proofs.Good.{good_of}
+use Rattle.desk_model.proofs.Local.{Agrees, same_carried, same_chain, same_findings, same_mass, same_reached}
+use Rattle.desk_model.proofs.MadeBill.{kind_kept}
+use Rattle.desk_model.proofs.Rules.{unrefused}
+use Rattle.desk_model.proofs.SoundSteps.{Sound-entered}
+
+-- shipments change nothing that rolls up
+shipped : (t : Lists) (edit : Edit) (year : ℕ) (product : List ℕ) (units : ℕ) → Sound (entered t edit) → (made t edit) ≡ with_units t year product units → Agrees t (entered t edit) (IsFree (entered t edit) [])
+unfolding entered
+shipped t edit year product units r is =
+    agrees_plain t (entered t edit) r []
+    (ap (λ v. v.lines) is ∙ lines units) (ap (λ v. v.parts) is ∙ parts units) (ap (λ v. v.materials) is ∙ materials units) (ap (λ v. v.members) is ∙ members units) (ap (λ v. v.candidates) is ∙ candidates units)
+  where
+    lines : (n : ℕ) → (with_units t year product n).lines ≡ t.lines
+    lines zero = refl
+    lines (suc n) = refl
+
+    parts : (n : ℕ) → (with_units t year product n).parts ≡ t.parts
+    parts zero = refl
+    parts (suc n) = refl
+
+    materials : (n : ℕ) → (with_units t year product n).materials ≡ t.materials
+    materials zero = refl
+    materials (suc n) = refl
+
+    members : (n : ℕ) → (with_units t year product n).members ≡ t.members
+    members zero = refl
+    members (suc n) = refl
+
+    candidates : (n : ℕ) → (with_units t year product n).candidates ≡ t.candidates
+    candidates zero = refl
+    candidates (suc n) = refl
+
+made-ship : (t : Lists) (ticket product : List ℕ) (year units : ℕ) → made t (Ship ticket product year units) ≡ with_units t year product (units_of t year product + units)
+unfolding made
+made-ship t ticket product year units = refl
+
+made-unship : (t : Lists) (ticket product : List ℕ) (year units : ℕ) → made t (Unship ticket product year units) ≡ with_units t year product (units_of t year product - units)
+unfolding made
+made-unship t ticket product year units = refl
+
+-- the tables before and after an accepted edit agree on the codes that are free of its seeds
+agrees : (t : Lists) (s : Sound t) (edit : Edit) → is_edit_in_form edit ≡ true → IsAccepted t edit → Sound (entered t edit) → Agrees t (entered t edit) (IsFree (entered t edit) (seeds_of_new t edit))
+unfolding seeds_of_new entered made
+agrees t s (Substance ticket code name cas) form a r = agrees_plain t (entered t (Substance ticket code name cas)) r [] refl refl refl refl refl
+agrees t s (Member ticket substance rule factor) form a r = agrees-member t ticket substance rule factor r
+agrees t s (Declare declaration) form a r = agrees-declare t declaration r
+agrees t s (Part ticket code sort name) form a r =
+    agrees-part t s ticket code name sort r (kind_kept t (good_of t s) ticket code name sort (unrefused t (Part ticket code sort name) a.is_unrefused).kind_changed) (is_part t code) refl
+agrees t s (Line ticket parent child count) form a r = agrees-line t ticket parent child count r
+agrees t s (Unline ticket parent child) form a r = agrees-unline t ticket parent child r
+agrees t s (Product ticket part kind) form a r = agrees_plain t (entered t (Product ticket part kind)) r [] refl refl refl refl refl
+agrees t s (Exemption ticket exemption) form a r = agrees_plain t (entered t (Exemption ticket exemption)) r [] refl refl refl refl refl
+agrees t s (Unexempt ticket row) form a r = agrees_plain t (entered t (Unexempt ticket row)) r [] refl refl refl refl refl
+agrees t s (Candidate ticket substance day) form a r = agrees-candidate t s ticket substance day r (is_candidate t substance) refl
+agrees t s (Ship ticket product year units) form a r = shipped t (Ship ticket product year units) year product (units_of t year product + units) r (made-ship t ticket product year units)
+agrees t s (Unship ticket product year units) form a r = shipped t (Unship ticket product year units) year product (units_of t year product - units) r (made-unship t ticket product year units)
+
+-- an unaffected code is free of the seeds
+free_of : (t : Lists) (edit : Edit) → IsAccepted t edit → (code : List ℕ) → is_affected t edit code ≡ false → IsFree (entered t edit) (seeds_of_new t edit) code
+unfolding is_affected
+free_of t edit a code e =
+    sym (ap (λ o. list_any (λ seed. is_or_reaches (entered t edit) code seed) (if is_some o then [] else seeds_of_new t edit)) a.is_new) ∙ e
+
+module _ (t : Lists) (s : Sound t) (edit : Edit) (form : is_edit_in_form edit ≡ true) (a : IsAccepted t edit) (code : List ℕ) (unaffected : is_affected t edit code ≡ false) where
+  after_sound : Sound (entered t edit)
+  after_sound = Sound-entered t edit s form a
+
+  both_agree : Agrees t (entered t edit) (IsFree (entered t edit) (seeds_of_new t edit))
+  both_agree = agrees t s edit form a after_sound
+
+  pub mass_stays : mass (entered t edit) code ≡ mass t code
+  mass_stays = same_mass t (entered t edit) s after_sound (IsFree (entered t edit) (seeds_of_new t edit)) both_agree code (free_of t edit a code unaffected)
+
+  pub reached_stays : (target : List ℕ) → reaches (entered t edit) code target ≡ reaches t code target
+  reached_stays target = same_reached t (entered t edit) s after_sound (IsFree (entered t edit) (seeds_of_new t edit)) both_agree target code (free_of t edit a code unaffected)
+
+  pub chain_stays : (target : List ℕ) → chain (entered t edit) code target ≡ chain t code target
+  chain_stays target = same_chain t (entered t edit) s after_sound (IsFree (entered t edit) (seeds_of_new t edit)) both_agree target code (free_of t edit a code unaffected)
+
+  pub carried_stays : (substance : List ℕ) → carried (entered t edit) substance code ≡ carried t substance code
+  carried_stays substance = same_carried t (entered t edit) s after_sound (IsFree (entered t edit) (seeds_of_new t edit)) both_agree substance code (free_of t edit a code unaffected)
+
+  pub findings_stay : findings (entered t edit) code ≡ findings t code
+  findings_stay = same_findings t (entered t edit) s after_sound (IsFree (entered t edit) (seeds_of_new t edit)) both_agree code (free_of t edit a code unaffected)
