@@ -13,10 +13,6 @@ pub number_of_none : (ds : List ℕ) → list_all is_ascii_digit ds ≡ false �
 number_of_none [] fails = refl
 number_of_none (d ∷ ds) fails = cond-false _ _ _ fails
 
-pub number_of_some : (ds : List ℕ) → 0 < length ds → list_all is_ascii_digit ds ≡ true → number_of ds ≡ Some (digits_value 10 ds)
-number_of_some [] some digits = absurd (omega arith)
-number_of_some (d ∷ ds) some digits = cond-true _ _ _ digits
-
 -- a line with the name adds its value
 values_of_more : (name front : List ℕ) (spans : List HeaderSpan) (i : ℕ) (d : HeaderSpan) → i < length spans
     → is_named name (header_bytes front (get_or spans i d)) ≡ true

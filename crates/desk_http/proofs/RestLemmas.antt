@@ -41,16 +41,6 @@ head_begins rest h after reads =
       bytes = sym (take-append-drop n rest) ∙ ap (λ l. l ++ drop n rest) same;
     }
 
--- and a head that a rest begins with, within the bound, is its head
-pub has_head : (h : RequestHead) (more : List ℕ) → IsRequestHead h → length (print_request h) ≤ HEAD_BYTES
-    → HasHead (print_request h ++ more) h
-has_head h more valid bound =
-    let n = length (print_request h) in
-    let sum : n + (HEAD_BYTES - n) ≡ HEAD_BYTES = omega arith in (
-      take (HEAD_BYTES - n) more,
-      (valid, ap (λ k. take k (print_request h ++ more)) (sym sum) ∙ take-append-add (print_request h) more (HEAD_BYTES - n)),
-    )
-
 -- a head whose body is there, as it is found in a buffer
 pub taken_from : (buffer : List ℕ) (found : Head) (n : ℕ) (h : RequestHead) (after : List ℕ) → ReadsRequest (front buffer) h after
     → length h.fields ≤ HEAD_LINES → IsHeadAt (front buffer) found h → found.body ≡ Known n → found.len + n ≤ length buffer

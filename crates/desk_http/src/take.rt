@@ -15,9 +15,8 @@ use crate::taken::Taken;
 /// Takes the request at the front of a buffer, or says why there is none.
 ///
 /// It takes no memory. What it says of a buffer it says of every longer one that begins so, but for
-/// `NotYet`: then the caller reads more and asks again. Each call reads the head anew. A caller whose
-/// bytes come in small pieces needn't ask before another line end has come, 8,192 bytes are there, or the
-/// input has ended, since no head ends elsewhere.
+/// `NotYet`: then the caller reads more and asks again. Each call reads the head anew, so a caller does
+/// well to read all that has come before it asks.
 pub fn take_request(buffer: &[u8]) -> Taken
     ensures { Takes buffer.now result }
 {
