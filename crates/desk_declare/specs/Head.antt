@@ -1,16 +1,13 @@
--- The head of a declaration, and the declaration that has no more than its head.
-use Rattle.std.specs.Prelude.{ℕ, ◌^◌, ◌==◌, ◌&&◌, if◌then◌else◌, List, [], ◌∷◌, length, codes, nat_lt, Option, None, Some, Result, unwrap_or, option_and_then}
-use Rattle.std.specs.Option.{ok_or}
+-- The head of a declaration.
+use Rattle.std.specs.Prelude.{ℕ, ◌^◌, ◌==◌, ◌&&◌, if◌then◌else◌, List, [], length, codes, nat_lt, Option, None, Some, unwrap_or, option_and_then}
 use Rattle.std.specs.Result.{result_ok}
 use Rattle.std.specs.Str.{bytes_eq}
 use Rattle.csv.specs.Records.{field_at}
 use Rattle.desk_text.specs.Code.{code_of}
 use Rattle.desk_text.specs.Day.{Date, day_of}
 use Rattle.desk_text.specs.Number.{number_below}
-use Rattle.desk_declare.specs.Rows.{Row, rows_of}
+use Rattle.desk_declare.specs.Rows.{Row}
 use Rattle.desk_declare.specs.declared.head.Head.{Head}
-use Rattle.desk_declare.specs.declared.read.DeclareFault.{DeclareFault}
-use Rattle.desk_declare.specs.declared.read.DeclareFault.TheVariants.{NotADeclaration}
 
 -- the field of a row at a place, counted from 0; empty where the row is shorter
 abbrev pub field : Row → ℕ → List ℕ
@@ -34,13 +31,3 @@ head_of row =
     if (length row == 5) && bytes_eq (field row 0) (codes "D") && bytes_eq (field row 1) (codes "1")
     then head_with (result_ok (code_of (field row 2))) (declaration_number_of (field row 3)) (result_ok (day_of (field row 4)))
     else None
-
--- the declaration that rows spell: a head alone
-unfoldable pub declaration_of_rows : List Row → Option Head
-declaration_of_rows [] = None
-declaration_of_rows (row ∷ []) = head_of row
-declaration_of_rows (row ∷ more ∷ rest) = None
-
--- the declaration that a text spells
-abbrev pub declaration_of : List ℕ → Result Head DeclareFault
-declaration_of bytes = ok_or (declaration_of_rows (rows_of bytes)) NotADeclaration

@@ -1,7 +1,8 @@
-ghost use Rattle.std.specs.Prelude.{◌≡◌};
+ghost use Rattle.std.specs.Prelude.{◌≡◌, ◌≤◌, IfSome};
 ghost use Rattle.csv.specs.Records.{fields_of};
-ghost use Rattle.desk_declare.specs.Head.{field, declaration_number_of};
+ghost use Rattle.desk_declare.specs.Head.{declaration_number_of};
 
+use crate::fields::field;
 use csv::ByteRecord;
 use desk_text::{Code, Day, read_u64};
 
@@ -25,7 +26,8 @@ impl Head {
     // The head that a row spells.
     #[tactic(auto, unfolding(crate::specs::Head::head_of))]
     pub(crate) fn from_row(row: &ByteRecord) -> Option<Head>
-        ensures { result ≡ head_of (fields_of row.now) }
+        ensures value { result ≡ head_of (fields_of row.now) }
+        ensures range { IfSome result (λ head. 1 ≤ head.number) }
     {
         if row.len() != HEAD_FIELDS
             || field(row, 0) != b"D".as_slice()
@@ -44,16 +46,10 @@ impl Head {
     }
 }
 
-// The field of a row at a place, empty where the row is shorter.
-fn field(row: &ByteRecord, place: usize) -> &[u8]
-    ensures { result.now ≡ field (fields_of row.now) place }
-{
-    row.get(place).unwrap_or(&[])
-}
-
 // A declaration's number is at least 1.
 fn declaration_number(bytes: &[u8]) -> Option<u64>
-    ensures { result ≡ declaration_number_of bytes.now }
+    ensures value { result ≡ declaration_number_of bytes.now }
+    ensures range { IfSome result (λ number. 1 ≤ number) }
 {
     let number = read_u64(bytes).ok()?;
     if number > 0 { Some(number) } else { None }

@@ -1,11 +1,10 @@
 -- What `check` writes for the bytes of a declaration.
-use Rattle.std.specs.Prelude.{◌≡◌, ℕ, if◌then◌else◌, nat_lt, List, ◌++◌, length, codes, Result, Ok, Err}
-use Rattle.std.specs.Fmt.{decimal}
-use Rattle.desk_text.specs.Day.{date_text}
-use Rattle.desk_law.specs.Kind.{kind_code}
-use Rattle.desk_declare.specs.Head.{declaration_of}
-use Rattle.desk_declare.specs.declared.head.Head.{Head}
+use Rattle.std.specs.Prelude.{◌≡◌, ℕ, if◌then◌else◌, nat_lt, List, length, Result, Ok, Err}
+use Rattle.desk_model.specs.Declaration.{Declared}
+use Rattle.desk_model.specs.Start.{start}
+use Rattle.desk_declare.specs.Declaration.{declaration_of}
 use Rattle.desk_declare.specs.declared.read.DeclareFault.{DeclareFault}
+use Rattle.desk_scratch.specs.CheckText.{check_text}
 use Rattle.desk_top.specs.declared.check.CheckFault.{CheckFault}
 use Rattle.desk_top.specs.declared.check.CheckFault.TheVariants.{Refused, Failed, OutOfMemory}
 use Rattle.desk_top.specs.declared.check.TheConstants.{INPUT_LIMIT}
@@ -13,18 +12,8 @@ use Rattle.desk_top.specs.declared.command.Check.{Check}
 use Rattle.desk_top.specs.declared.refusal.Refusal.{Refusal}
 use Rattle.desk_top.specs.declared.refusal.Refusal.TheVariants.{InputTooLong, NotADeclaration}
 
--- the first line: what was asked, and which declaration was judged
-abbrev pub check_line : Check → Head → List ℕ
-check_line check head =
-    codes "check " ++ date_text check.day ++ codes " kind " ++ kind_code check.kind
-    ++ codes " supplier " ++ head.supplier ++ codes " declaration " ++ decimal head.number ++ codes "\n"
-
--- the whole text for a declaration
-unfoldable pub check_text : Check → Head → List ℕ
-check_text check head = check_line check head ++ codes "compliant\n"
-
-abbrev pub text_or_refusal : Check → Result Head DeclareFault → Result (List ℕ) Refusal
-text_or_refusal check (Ok head) = Ok (check_text check head)
+abbrev pub text_or_refusal : Check → Result Declared DeclareFault → Result (List ℕ) Refusal
+text_or_refusal check (Ok d) = Ok (check_text start check.kind check.day d)
 text_or_refusal check (Err fault) = Err NotADeclaration
 
 -- the text for the bytes of an input, or why there is none

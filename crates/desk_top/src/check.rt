@@ -1,14 +1,16 @@
-ghost use Rattle.std.specs.Prelude.{◌≡◌, ◌≢◌, ◌+◌, ◌≤◌, List, ℕ, length, IfOk, IfSome, OnOk, IsErrOf, Err};
+ghost use Rattle.std.specs.Prelude.{◌≡◌, ◌≢◌, ◌+◌, ◌≤◌, List, ℕ, length, true, IfSome, OnOk, IsErrOf, Err};
 ghost use Rattle.std.specs.Io.KnownBytes.{Consumes, IsAtEnd};
+ghost use Rattle.desk_text.specs.Day.{is_askable};
 ghost use Rattle.desk_edge.specs.Faults.{Rose};
-ghost use Rattle.desk_top.specs.Check.{Agrees, check_text, checked};
+ghost use Rattle.desk_top.specs.Check.{Agrees, checked};
 
 use crate::command::Check;
 use crate::refusal::Refusal;
-use desk_declare::{DeclareFault, Head, read_declaration};
+use desk_declare::{DeclareFault, read_declaration};
 use desk_edge::{Link, ReadFault, read_up_to};
-use desk_text::Bytes;
-use std::alloc::{AllocError, Global};
+use desk_scratch::{Asked, check_text};
+use desk_text::{Bytes, OutOfMemory};
+use std::alloc::Global;
 
 /// The greatest number of bytes in a declaration that is checked.
 pub const INPUT_LIMIT: usize = 65_536;
@@ -52,13 +54,13 @@ impl From<DeclareFault> for CheckFault {
     }
 }
 
-impl From<AllocError> for CheckFault {
+impl From<OutOfMemory> for CheckFault {
     ghost use Rattle.std.specs.Prelude.{◌≡◌};
     ghost use Rattle.desk_top.specs.declared.check.CheckFault.TheVariants as fault;
 
     ghost from_gives = { λ _ e. e ≡ fault.OutOfMemory };
 
-    fn from(_error: AllocError) -> CheckFault {
+    fn from(_error: OutOfMemory) -> CheckFault {
         CheckFault::OutOfMemory
     }
 }
@@ -69,6 +71,7 @@ pub fn check_input<L: Link>(
     check: &Check,
     console: &mut L,
 ) -> Result<Bytes, CheckFault>
+    requires { is_askable check.now.day ≡ true }
     ensures answer { result ≢ Err CheckFault.Failed →
         IfSome (L.unread console.old) (λ bytes. Agrees result (checked check.now bytes)) }
     ensures end { OnOk result (IsAtEnd (L.unread console.new)) }
@@ -84,29 +87,17 @@ pub fn check_input<L: Link>(
 /// The answer to `check` for these bytes.
 #[tactic(auto, unfolding(crate::specs::Check::checked))]
 pub fn check_bytes(alloc: Global, check: &Check, bytes: &[u8]) -> Result<Bytes, CheckFault>
+    requires { is_askable check.now.day ≡ true }
     ensures answer { Agrees result (checked check.now bytes.now) }
     ensures within { OnOk result (length bytes.now ≤ INPUT_LIMIT) }
 {
     if bytes.len() > INPUT_LIMIT {
         return Err(CheckFault::Refused(Refusal::InputTooLong));
     }
-    let head = read_declaration(alloc, bytes)?;
-    Ok(text_of(alloc, check, &head)?)
-}
-
-// The whole text for a declaration.
-#[tactic(auto, unfolding(crate::specs::Check::check_text))]
-fn text_of(alloc: Global, check: &Check, head: &Head) -> Result<Bytes, AllocError>
-    ensures { IfOk result (λ text. text ≡ check_text check.now head.now) }
-{
-    let Check { day, kind } = check;
-    let Head {
-        supplier,
-        number,
-        ..
-    } = head;
-    let text = format!(in alloc;
-        "check {day} kind {kind} supplier {supplier} declaration {number}\ncompliant\n"
-    )?;
-    Ok(Bytes::from(text.into_bytes()))
+    let declaration = read_declaration(alloc, bytes)?;
+    let asked = Asked {
+        kind: check.kind,
+        day: check.day,
+    };
+    Ok(check_text(alloc, &asked, &declaration)?)
 }

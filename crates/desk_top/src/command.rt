@@ -1,4 +1,5 @@
-ghost use Rattle.std.specs.Prelude.{◌≡◌, map, string_bytes};
+ghost use Rattle.std.specs.Prelude.{◌≡◌, true, map, string_bytes, IfSome};
+ghost use Rattle.desk_text.specs.Day.{is_askable};
 ghost use Rattle.desk_top.specs.Command.{command_of, askable_day_of};
 
 use desk_law::Kind;
@@ -16,7 +17,8 @@ pub struct Check {
 /// The command that the program's words are, `None` where they are none.
 #[tactic(auto, unfolding(crate::specs::Command::command_of))]
 pub fn command(words: &[String]) -> Option<Check>
-    ensures { result ≡ command_of (map string_bytes words.now) }
+    ensures value { result ≡ command_of (map string_bytes words.now) }
+    ensures askable { IfSome result (λ check. is_askable check.day ≡ true) }
 {
     let [command, day, kind] = words else {
         return None;
@@ -31,7 +33,8 @@ pub fn command(words: &[String]) -> Option<Check>
 
 // The day that a word spells, where it may be asked about.
 fn askable_day(word: &[u8]) -> Option<Day>
-    ensures { result ≡ askable_day_of word.now }
+    ensures value { result ≡ askable_day_of word.now }
+    ensures askable { IfSome result (λ day. is_askable day ≡ true) }
 {
     let day = Day::read(word).ok()?;
     if day.is_askable() { Some(day) } else { None }

@@ -1,5 +1,6 @@
-ghost use Rattle.std.specs.Prelude.{◌≡◌, ◌↔◌, ◌⊎◌, ◌+◌, ◌≤◌, List, ℕ, length, map, codes, string_bytes, IfSome, None, Some};
+ghost use Rattle.std.specs.Prelude.{◌≡◌, ◌↔◌, ◌⊎◌, ◌+◌, ◌≤◌, List, ℕ, length, map, codes, string_bytes, IfSome, None, Some, true};
 ghost use Rattle.std.specs.Io.KnownBytes.{Appends, Consumes, IsAtEnd};
+ghost use Rattle.desk_text.specs.Day.{is_askable};
 ghost use Rattle.desk_edge.specs.Faults.{Rose};
 ghost use Rattle.desk_top.specs.Answer.{Answers, answer_to, status_code};
 ghost use Rattle.desk_top.specs.Command.{command_of};
@@ -47,6 +48,7 @@ pub fn run<R: Wait + Sync + Threads, L: Link>(
 
 // Writes the answer to `check`. It waits for nobody, and so returns.
 fn answer_check<L: Link>(alloc: Global, check: &Check, console: &mut L) -> Status
+    requires { is_askable check.now.day ≡ true }
     ensures words { result ≡ Status.BadWords → ⊥ }
     ensures console_fault { result ≡ Status.ConsoleFault → Rose (L.faults console.old) (L.faults console.new) }
     ensures end { result ≡ Status.Done → IsAtEnd (L.unread console.new) }

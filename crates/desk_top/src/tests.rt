@@ -8,6 +8,9 @@ use std::sync::Wait;
 use std::test::Fail;
 use std::thread::Threads;
 
+// More bytes than any answer of a test has.
+const ROOM: usize = 1_000_000;
+
 // The status for these words and this input, and what was written.
 fn outcome<R: Wait + Sync + Threads>(
     rt: &R,
@@ -24,7 +27,7 @@ fn outcome<R: Wait + Sync + Threads>(
         list.push(word.to_string(alloc)?)?;
     }
     let input = Bytes::from(input.to_vec(alloc)?);
-    let mut console = MemoryLink::new(alloc, input, piece, 4096, failing.to_vec(alloc)?)?;
+    let mut console = MemoryLink::new(alloc, input, piece, ROOM, failing.to_vec(alloc)?)?;
     let status = run(rt, alloc, &list, &mut console);
     Ok((status, console.written().to_vec(alloc)?))
 }
@@ -75,7 +78,11 @@ fn check_refuses_what_is_no_declaration(rt: HostRuntime) -> Result<(), Fail> {
         b"".as_slice(),
         b"D,1,ACME,07,2024-01-23",
         b"D,1,ACME,0,2024-01-23",
-        b"D,1,ACME,7,2024-01-23\nM,SOLDER,Solder paste,1000000\n",
+        b"D,1,ACME,7,2024-01-23\nM,SOLDER,Solder paste,0\n",
+        b"D,1,ACME,7,2024-01-23\nS,SOLDER,lead,1000\nM,SOLDER,Solder paste,1000000\n",
+        b"D,1,ACME,7,2024-01-23\nM,SOLDER,Solder paste,1000000\nS,SOLDER,tin,1000\n",
+        b"D,1,ACME,7,2024-01-23\nM,SOLDER,Solder paste,1000\nS,SOLDER,lead,1001\n",
+        b"D,1,ACME,7,2024-01-23\nM,SOLDER,Solder paste,1000000\nM,SOLDER,Solder wire,1000000\n",
         b"D,1,A\xffCME,7,2024-01-23",
         b"\xef\xbb\xbf\xef\xbb\xbfD,1,ACME,7,2024-01-23",
     ] {
@@ -105,31 +112,36 @@ fn check_reads_65536_bytes_and_no_more(rt: HostRuntime) -> Result<(), Fail> {
     Ok(())
 }
 
+// Whether the words are refused as no command line: with a line where the console takes it, and with
+// the status in any case.
+fn are_no_command<R: Wait + Sync + Threads>(
+    rt: &R,
+    alloc: Global,
+    words: &[&str],
+) -> Result<bool, Fail> {
+    let (status, line) = outcome(rt, alloc, words, HEAD, 64, &[])?;
+    let (unheard, nothing) = outcome(rt, alloc, words, HEAD, 64, &[1])?;
+    Ok(
+        status == 2
+            && line.as_slice() == b"desk: words\n".as_slice()
+            && unheard == 2
+            && nothing.is_empty(),
+    )
+}
+
 #[test]
 fn other_words_are_no_command_line(rt: HostRuntime) -> Result<(), Fail> {
-    for words in [
-        [].as_slice(),
-        ["fly"].as_slice(),
-        ["check", "2024-01-23"].as_slice(),
-        ["check", "2024-01-23", "12"].as_slice(),
-        ["check", "2024-02-30", "3"].as_slice(),
-        ["check", "2014-07-21", "3"].as_slice(),
-        ["check", "2024-01-23", "3", "x"].as_slice(),
-        ["Check", "2024-01-23", "3"].as_slice(),
-        ["check", "3", "2024-01-23"].as_slice(),
-        ["check", "2024-01-23", "3 "].as_slice(),
-    ] {
-        for failing in [[].as_slice(), [1].as_slice()] {
-            let (status, text) = outcome(&rt, rt.alloc(), words, HEAD, 64, failing)?;
-            assert_eq!(rt; status, 2);
-            let line = if failing.is_empty() {
-                "desk: words\n"
-            } else {
-                ""
-            };
-            assert_eq!(rt; text.as_slice(), line.as_bytes(), "of {words:?}");
-        }
-    }
+    let alloc = rt.alloc();
+    assert!(rt; are_no_command(&rt, alloc, &[])?);
+    assert!(rt; are_no_command(&rt, alloc, &["fly"])?);
+    assert!(rt; are_no_command(&rt, alloc, &["check", "2024-01-23"])?);
+    assert!(rt; are_no_command(&rt, alloc, &["check", "2024-01-23", "12"])?);
+    assert!(rt; are_no_command(&rt, alloc, &["check", "2024-02-30", "3"])?);
+    assert!(rt; are_no_command(&rt, alloc, &["check", "2014-07-21", "3"])?);
+    assert!(rt; are_no_command(&rt, alloc, &["check", "2024-01-23", "3", "x"])?);
+    assert!(rt; are_no_command(&rt, alloc, &["Check", "2024-01-23", "3"])?);
+    assert!(rt; are_no_command(&rt, alloc, &["check", "3", "2024-01-23"])?);
+    assert!(rt; are_no_command(&rt, alloc, &["check", "2024-01-23", "3 "])?);
     Ok(())
 }
 
@@ -146,5 +158,163 @@ fn a_console_that_fails_ends_the_check(rt: HostRuntime) -> Result<(), Fail> {
     assert_eq!(rt; status, 3);
     let (refused, _) = outcome(&rt, rt.alloc(), &words, b"x", 100_000, &[3])?;
     assert_eq!(rt; refused, 6);
+    Ok(())
+}
+
+// The answer on a gram of solder paste, by what its lines say of four rules.
+fn paste_answer(
+    alloc: Global,
+    asked: &str,
+    lead: &str,
+    cadmium: &str,
+    dehp: &str,
+    dibp: &str,
+    last: &str,
+) -> Result<String, Fail> {
+    let text = format!(in alloc;
+        "check {asked} supplier ACME declaration 7
+material SOLDER supplier ACME declaration 7 mass 1000000
+rule lead share {lead}
+rule mercury share 0 limit 1000000000 within
+rule cadmium share {cadmium}
+rule chromium-vi share 0 limit 1000000000 within
+rule pbb share 0 limit 1000000000 within
+rule pbde share 0 limit 1000000000 within
+rule dehp share {dehp}
+rule bbp share 0 limit 1000000000 within
+rule dbp share 0 limit 1000000000 within
+rule dibp share {dibp}
+{last}
+"
+    )?;
+    Ok(text)
+}
+
+const NONE: &str = "0 limit 1000000000 within";
+
+const NO_CADMIUM: &str = "0 limit 100000000 within";
+
+const LEAD: &[u8] = b"D,1,ACME,7,2024-01-23\nM,SOLDER,Paste,1000000\nS,SOLDER,lead,1000\n";
+
+const METALS: &[u8] =
+    b"D,1,ACME,7,2024-01-23\nM,SOLDER,Paste,1000000\nS,SOLDER,lead,1001\nS,SOLDER,cadmium,101\n";
+
+const DEHP: &[u8] = b"D,1,ACME,7,2024-01-23\nM,SOLDER,Paste,1000000\nS,SOLDER,dehp,2000\n";
+
+const DIBP: &[u8] = b"D,1,ACME,7,2024-01-23\nM,SOLDER,Paste,1000000\nS,SOLDER,dibp,2000\n";
+
+#[test]
+fn a_share_at_the_limit_is_within_and_one_over_it_a_breach(rt: HostRuntime) -> Result<(), Fail> {
+    let alloc = rt.alloc();
+    let words = ["check", "2024-01-23", "3"];
+    let at_limit = "1000000000 limit 1000000000 within";
+    let within = paste_answer(
+        alloc,
+        "2024-01-23 kind 3",
+        at_limit,
+        NO_CADMIUM,
+        NONE,
+        NONE,
+        "compliant",
+    )?;
+    let over = paste_answer(
+        alloc,
+        "2024-01-23 kind 3",
+        "1001000000 limit 1000000000 breach",
+        "101000000 limit 100000000 breach",
+        NONE,
+        NONE,
+        "not-compliant",
+    )?;
+    for piece in [1, 100_000] {
+        let (status, text) = outcome(&rt, alloc, &words, LEAD, piece, &[])?;
+        assert_eq!(rt; status, 0);
+        assert_eq!(rt; text.as_slice(), within.as_bytes());
+        let (status, text) = outcome(&rt, alloc, &words, METALS, piece, &[])?;
+        assert_eq!(rt; status, 0);
+        assert_eq!(rt; text.as_slice(), over.as_bytes());
+    }
+    Ok(())
+}
+
+const TOO_EARLY: &str = "2000000000 limit 1000000000 not-in-force";
+
+const OVER: &str = "2000000000 limit 1000000000 breach";
+
+#[test]
+fn dehp_counts_in_monitoring_instruments_from_its_day(rt: HostRuntime) -> Result<(), Fail> {
+    let alloc = rt.alloc();
+    let before = "2021-07-21 kind 9i";
+    let meant = paste_answer(
+        alloc,
+        before,
+        NONE,
+        NO_CADMIUM,
+        TOO_EARLY,
+        NONE,
+        "compliant",
+    )?;
+    let words = ["check", "2021-07-21", "9i"];
+    let (status, text) = outcome(&rt, alloc, &words, DEHP, 100_000, &[])?;
+    assert_eq!(rt; status, 0);
+    assert_eq!(rt; text.as_slice(), meant.as_bytes());
+
+    let from = "2021-07-22 kind 9i";
+    let meant = paste_answer(alloc, from, NONE, NO_CADMIUM, OVER, NONE, "not-compliant")?;
+    let later = ["check", "2021-07-22", "9i"];
+    let (status, text) = outcome(&rt, alloc, &later, DEHP, 100_000, &[])?;
+    assert_eq!(rt; status, 0);
+    assert_eq!(rt; text.as_slice(), meant.as_bytes());
+    Ok(())
+}
+
+#[test]
+fn toys_under_entry_51_have_a_limit_of_dibp_alone(rt: HostRuntime) -> Result<(), Fail> {
+    let alloc = rt.alloc();
+    let words = ["check", "2024-01-23", "7t"];
+    let asked = "2024-01-23 kind 7t";
+    let meant = paste_answer(alloc, asked, NONE, NO_CADMIUM, TOO_EARLY, NONE, "compliant")?;
+    let (status, text) = outcome(&rt, alloc, &words, DEHP, 100_000, &[])?;
+    assert_eq!(rt; status, 0);
+    assert_eq!(rt; text.as_slice(), meant.as_bytes());
+
+    let meant = paste_answer(alloc, asked, NONE, NO_CADMIUM, NONE, OVER, "not-compliant")?;
+    let (status, text) = outcome(&rt, alloc, &words, DIBP, 100_000, &[])?;
+    assert_eq!(rt; status, 0);
+    assert_eq!(rt; text.as_slice(), meant.as_bytes());
+    Ok(())
+}
+
+#[test]
+fn the_order_of_the_rows_changes_nothing(rt: HostRuntime) -> Result<(), Fail> {
+    let alloc = rt.alloc();
+    let words = ["check", "2024-01-23", "3"];
+    let sorted = b"D,1,ACME,7,2024-01-23\nM,A,Brass,9000\nS,A,cadmium,3\nS,A,lead,4\nM,B,Tin,7\n";
+    let (status, meant) = outcome(&rt, alloc, &words, sorted, 100_000, &[])?;
+    assert_eq!(rt; status, 0);
+    for input in [
+        b"D,1,ACME,7,2024-01-23\nM,B,Tin,7\nM,A,Brass,9000\nS,A,lead,4\nS,A,cadmium,3\n".as_slice(),
+        b"D,1,ACME,7,2024-01-23\nM,A,Brass,9000\nS,A,lead,4\nM,B,Tin,7\nS,A,cadmium,3\n",
+    ] {
+        let (status, text) = outcome(&rt, alloc, &words, input, 100_000, &[])?;
+        assert_eq!(rt; status, 0);
+        assert_eq!(rt; text.as_slice(), meant.as_slice(), "of {input:?}");
+    }
+    Ok(())
+}
+
+#[test]
+fn check_takes_256_materials(rt: HostRuntime) -> Result<(), Fail> {
+    let alloc = rt.alloc();
+    let words = ["check", "2024-01-23", "3"];
+    let mut input = b"D,1,ACME,7,2024-01-23\n".to_vec(alloc)?;
+    for number in 0..257 {
+        let row = format!(in alloc; "M,M{number},Steel,1000\n")?;
+        input.extend_from_slice(row.as_bytes())?;
+        if number >= 255 {
+            let (status, _) = outcome(&rt, alloc, &words, input.as_slice(), 100_000, &[])?;
+            assert_eq!(rt; status, if number == 255 { 0 } else { 6 });
+        }
+    }
     Ok(())
 }

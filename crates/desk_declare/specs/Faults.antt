@@ -1,0 +1,11 @@
+-- What an error of a growing declaration means for its reader.
+use Rattle.desk_model.specs.declared.decl_error.DeclError.{DeclError}
+use Rattle.desk_model.specs.declared.decl_error.DeclError.TheVariants as error
+use Rattle.desk_declare.specs.declared.read.DeclareFault.{DeclareFault}
+use Rattle.desk_declare.specs.declared.read.DeclareFault.TheVariants.{NotADeclaration, OutOfMemory}
+
+abbrev pub fault_of : DeclError → DeclareFault
+fault_of error.Repeated = NotADeclaration
+fault_of error.TooMany = NotADeclaration
+fault_of error.Orphan = NotADeclaration
+fault_of error.OutOfMemory = OutOfMemory

@@ -1,0 +1,4 @@
+pub mod BaseShare
+pub mod Content
+pub mod LastLine
+pub mod Lines

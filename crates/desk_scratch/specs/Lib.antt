@@ -1,0 +1,3 @@
+pub mod CheckText
+pub mod Judgement
+pub mod MaterialBlock

@@ -1,0 +1,53 @@
+-- The lines on one material: what was declared of it, and its verdict for each rule.
+use Rattle.std.specs.Prelude.{ℕ, ◌*◌, List, ◌++◌, codes, Option, None, Some, slice_get}
+use Rattle.std.specs.Fmt.{decimal}
+use Rattle.std.specs.List.{flat_map}
+use Rattle.desk_text.specs.Day.{Date}
+use Rattle.desk_law.specs.declared.kind.Kind.{Kind}
+use Rattle.desk_law.specs.declared.rule.Rule.{Rule}
+use Rattle.desk_law.specs.declared.terms.Terms.{Terms}
+use Rattle.desk_law.specs.declared.verdict.Verdict.{Verdict}
+use Rattle.desk_law.specs.declared.verdict.Verdict.TheVariants.{Within, NotInForce, Exempt, Breach}
+use Rattle.desk_law.specs.Limit.{limit_of}
+use Rattle.desk_law.specs.Rule.{all_rules, rule_code}
+use Rattle.desk_model.specs.declared.rows.material.MaterialRow.{MaterialRow}
+use Rattle.desk_model.specs.Lists.{Lists}
+use Rattle.desk_model.specs.Share.{share}
+use Rattle.desk_model.specs.Verdicts.{terms_of, verdict_on}
+
+-- the row that an exemption names; a verdict names no place past the rows
+abbrev pub exempt_words : Option Terms → List ℕ
+exempt_words None = codes "exempt"
+exempt_words (Some row) = codes "exempt " ++ row.number ++ codes " row " ++ row.row
+
+-- a verdict in words
+unfoldable pub verdict_words : List Terms → Verdict → List ℕ
+verdict_words rows Within = codes "within"
+verdict_words rows NotInForce = codes "not-in-force"
+verdict_words rows (Exempt place) = exempt_words (slice_get rows place)
+verdict_words rows Breach = codes "breach"
+
+-- `material CODE supplier SUPPLIER declaration NUMBER mass MASS`
+unfoldable pub material_line_with : List ℕ → List ℕ → ℕ → ℕ → List ℕ
+material_line_with code supplier number mass =
+    codes "material " ++ code ++ codes " supplier " ++ supplier
+    ++ codes " declaration " ++ decimal number ++ codes " mass " ++ decimal mass ++ codes "\n"
+
+abbrev pub material_line : MaterialRow → List ℕ
+material_line material = material_line_with material.code material.supplier material.number material.mass
+
+-- `rule RULE share SHARE limit LIMIT VERDICT`; share and limit are both in millionths of a microgram
+unfoldable pub rule_line_with : Rule → ℕ → ℕ → List ℕ → List ℕ
+rule_line_with rule share limit verdict =
+    codes "rule " ++ rule_code rule ++ codes " share " ++ decimal share ++ codes " limit " ++ decimal limit
+    ++ codes " " ++ verdict ++ codes "\n"
+
+-- the line on a rule of a material
+unfoldable pub rule_line : Lists → Kind → Date → MaterialRow → Rule → List ℕ
+rule_line t kind day material rule =
+    rule_line_with rule (share t rule material) (limit_of rule * material.mass)
+    (verdict_words (terms_of t) (verdict_on t kind day material rule))
+
+-- the material's line, and a line for each rule in order of number
+unfoldable pub material_block : Lists → Kind → Date → MaterialRow → List ℕ
+material_block t kind day material = material_line material ++ flat_map (rule_line t kind day material) all_rules

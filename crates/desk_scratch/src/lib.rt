@@ -1,0 +1,12 @@
+//! Answers from scratch: the texts that the desk writes on what its tables hold.
+#![tactic(auto)]
+
+mod answer;
+mod material_block;
+mod share;
+#[cfg(test)]
+mod tests;
+mod verdict_words;
+
+pub use answer::check_text;
+pub use material_block::Asked;
