@@ -1,5 +1,5 @@
 -- What the program answers: how it ends, and all that it writes.
-use Rattle.std.specs.Prelude.{◌≡◌, ℕ, ◌⊎◌, if◌then◌else◌, ◌==◌, List, codes, Option, None, Some, Result, Ok, Err}
+use Rattle.std.specs.Prelude.{◌≡◌, ℕ, ◌⊎◌, if◌then◌else◌, ◌==◌, List, codes, take, Option, None, Some, Result, Ok, Err}
 use Rattle.std.specs.Io.KnownBytes.{Appends}
 use Rattle.desk_top.specs.Check.{checked}
 use Rattle.desk_top.specs.declared.command.Check.{Check}
@@ -30,10 +30,18 @@ abbrev pub answer_of_check : Result (List ℕ) Refusal → Answer
 answer_of_check (Ok text) = record { status = Done; text = text }
 answer_of_check (Err refusal) = record { status = Refused; text = refusal_line refusal }
 
+-- the answer to words that are no command
+abbrev pub answer_to_other_words : Answer
+answer_to_other_words = record { status = BadWords; text = codes "desk: words\n" }
+
 -- the answer to a command for the bytes that come
 abbrev pub answer_to : Option Check → List ℕ → Answer
-answer_to None bytes = record { status = BadWords; text = codes "desk: words\n" }
+answer_to None bytes = answer_to_other_words
 answer_to (Some check) bytes = answer_of_check (checked check bytes)
+
+-- what is written where the program ends with this status: the answer's text, or the line that memory was wanting
+abbrev pub text_with : ℕ → Answer → List ℕ
+text_with ended answer = if ended == status_code OutOfMemory then codes "desk: memory\n" else answer.text
 
 -- the program ended with this status, and made the old output the new one, as the answer says: or it
 -- met a fault of the console, or had no memory
@@ -42,4 +50,6 @@ pub record Answers (answer : Answer) (ended : ℕ) (old new : Option (List ℕ))
   -- with success the whole text was written, whatever else happened
   pub whole : ended ≡ status_code Done → Appends old new answer.text
   -- where no fault was counted, the whole text or line was written in any case
-  pub steady : (rose → ⊥) → Appends old new (if ended == status_code OutOfMemory then codes "desk: memory\n" else answer.text)
+  pub steady : (rose → ⊥) → Appends old new (text_with ended answer)
+  -- whatever happened, what was written is a beginning of that, and nothing else
+  pub beginning : (n : ℕ) × Appends old new (take n (text_with ended answer))

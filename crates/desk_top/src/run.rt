@@ -1,8 +1,8 @@
-ghost use Rattle.std.specs.Prelude.{◌≡◌, ◌↔◌, ◌⊎◌, ◌+◌, ◌≤◌, List, ℕ, length, map, codes, string_bytes, IfSome, None, Some, true};
+ghost use Rattle.std.specs.Prelude.{◌≡◌, ◌↔◌, ◌⊎◌, ◌+◌, ◌≤◌, List, ℕ, length, map, codes, string_bytes, take, IfSome, None, Some, true};
 ghost use Rattle.std.specs.Io.KnownBytes.{Appends, Consumes, IsAtEnd};
 ghost use Rattle.desk_text.specs.Day.{is_askable};
 ghost use Rattle.desk_edge.specs.Faults.{Rose};
-ghost use Rattle.desk_top.specs.Answer.{Answers, answer_to, status_code};
+ghost use Rattle.desk_top.specs.Answer.{Answers, answer_to, answer_to_other_words, status_code};
 ghost use Rattle.desk_top.specs.Command.{command_of};
 ghost use Rattle.desk_top.specs.declared.check.TheConstants.{INPUT_LIMIT};
 
@@ -35,15 +35,31 @@ pub fn run<R: Wait + Sync + Threads, L: Link>(
         Answers (answer_to (command_of (map string_bytes words.now.items)) bytes) result
         (L.written console.old) (L.written console.new) (Rose (L.faults console.old) (L.faults console.new))) }
 
+    // Where the words are no command line, nothing is read, and this needs no bytes that the console tells.
+    ensures other_words { command_of (map string_bytes words.now.items) ≡ None →
+        Answers answer_to_other_words result (L.written console.old) (L.written console.new) (Rose (L.faults console.old) (L.faults console.new)) }
+    ensures nothing_read { command_of (map string_bytes words.now.items) ≡ None → L.unread console.new ≡ L.unread console.old }
+
     // No byte past the one after the limit is asked for.
     ensures taken { (bytes : List ℕ) × Consumes (L.unread console.old) (L.unread console.new) bytes × (length bytes ≤ INPUT_LIMIT + 1) }
     ensures never_falls { L.faults console.old ≤ L.faults console.new }
 {
     let status = match command(words.as_slice()) {
         Some(check) => answer_check(alloc, &check, console),
-        None => tell(console, Status::BadWords, "desk: words\n"),
+        None => tell_other_words(console),
     };
     status.code()
+}
+
+// Writes the answer to words that are no command.
+fn tell_other_words<L: Link>(console: &mut L) -> Status
+    ensures status { result ≡ Status.BadWords }
+    ensures answer { Answers answer_to_other_words (status_code result)
+        (L.written console.old) (L.written console.new) (Rose (L.faults console.old) (L.faults console.new)) }
+    ensures input_stays { L.unread console.new ≡ L.unread console.old }
+    ensures never_falls { L.faults console.old ≤ L.faults console.new }
+{
+    tell(console, Status::BadWords, "desk: words\n")
 }
 
 // Writes the answer to `check`. It waits for nobody, and so returns.
@@ -74,6 +90,7 @@ fn answer_check<L: Link>(alloc: Global, check: &Check, console: &mut L) -> Statu
 pub fn tell<L: Link>(console: &mut L, status: Status, line: &str) -> Status
     ensures status { result ≡ status }
     ensures steady { (Rose (L.faults console.old) (L.faults console.new) → ⊥) → Appends (L.written console.old) (L.written console.new) line.now }
+    ensures beginning { (n : ℕ) × Appends (L.written console.old) (L.written console.new) (take n line.now) }
     ensures input_stays { L.unread console.new ≡ L.unread console.old }
     ensures never_falls { L.faults console.old ≤ L.faults console.new }
 {
