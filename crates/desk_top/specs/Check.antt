@@ -7,11 +7,15 @@ use Rattle.desk_declare.specs.declared.read.DeclareFault.{DeclareFault}
 use Rattle.desk_scratch.specs.CheckText.{check_text}
 use Rattle.desk_top.specs.declared.check.CheckFault.{CheckFault}
 use Rattle.desk_top.specs.declared.check.CheckFault.TheVariants.{Refused, Failed, OutOfMemory}
-use Rattle.desk_top.specs.declared.check.TheConstants.{INPUT_LIMIT}
 use Rattle.desk_top.specs.declared.command.Check.{Check}
 use Rattle.desk_top.specs.declared.refusal.Refusal.{Refusal}
 use Rattle.desk_top.specs.declared.refusal.Refusal.TheVariants.{InputTooLong, NotADeclaration}
 
+-- the greatest number of bytes in a declaration that is checked
+abbrev pub input_limit : ℕ
+input_limit = 65536
+
+-- the text on a declaration that was read, or that the bytes are none
 abbrev pub text_or_refusal : Check → Result Declared DeclareFault → Result (List ℕ) Refusal
 text_or_refusal check (Ok d) = Ok (check_text start check.kind check.day d)
 text_or_refusal check (Err fault) = Err NotADeclaration
@@ -19,7 +23,7 @@ text_or_refusal check (Err fault) = Err NotADeclaration
 -- the text for the bytes of an input, or why there is none
 unfoldable pub checked : Check → List ℕ → Result (List ℕ) Refusal
 checked check bytes =
-    if nat_lt INPUT_LIMIT (length bytes) then Err InputTooLong
+    if nat_lt input_limit (length bytes) then Err InputTooLong
     else text_or_refusal check (declaration_of bytes)
 
 -- a call's answer is the one that is meant, unless memory was wanting

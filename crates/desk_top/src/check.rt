@@ -2,7 +2,7 @@ ghost use Rattle.std.specs.Prelude.{◌≡◌, ◌≢◌, ◌+◌, ◌≤◌, Li
 ghost use Rattle.std.specs.Io.KnownBytes.{Consumes, IsAtEnd};
 ghost use Rattle.desk_text.specs.Day.{is_askable};
 ghost use Rattle.desk_edge.specs.Faults.{Rose};
-ghost use Rattle.desk_top.specs.Check.{Agrees, checked};
+ghost use Rattle.desk_top.specs.Check.{Agrees, checked, input_limit};
 
 use crate::command::Check;
 use crate::refusal::Refusal;
@@ -75,7 +75,7 @@ pub fn check_input<L: Link>(
     ensures answer { result ≢ Err CheckFault.Failed →
         IfSome (L.unread console.old) (λ bytes. Agrees result (checked check.now bytes)) }
     ensures end { OnOk result (IsAtEnd (L.unread console.new)) }
-    ensures taken { (bytes : List ℕ) × Consumes (L.unread console.old) (L.unread console.new) bytes × (length bytes ≤ INPUT_LIMIT + 1) }
+    ensures taken { (bytes : List ℕ) × Consumes (L.unread console.old) (L.unread console.new) bytes × (length bytes ≤ input_limit + 1) }
     ensures output_stays { L.written console.new ≡ L.written console.old }
     ensures never_falls { L.faults console.old ≤ L.faults console.new }
     ensures failed { IsErrOf result CheckFault.Failed → Rose (L.faults console.old) (L.faults console.new) }
@@ -89,7 +89,7 @@ pub fn check_input<L: Link>(
 pub fn check_bytes(alloc: Global, check: &Check, bytes: &[u8]) -> Result<Bytes, CheckFault>
     requires { is_askable check.now.day ≡ true }
     ensures answer { Agrees result (checked check.now bytes.now) }
-    ensures within { OnOk result (length bytes.now ≤ INPUT_LIMIT) }
+    ensures within { OnOk result (length bytes.now ≤ input_limit) }
 {
     if bytes.len() > INPUT_LIMIT {
         return Err(CheckFault::Refused(Refusal::InputTooLong));

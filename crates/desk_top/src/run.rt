@@ -4,7 +4,7 @@ ghost use Rattle.desk_text.specs.Day.{is_askable};
 ghost use Rattle.desk_edge.specs.Faults.{Rose};
 ghost use Rattle.desk_top.specs.Answer.{Answers, answer_to, answer_to_other_words, status_code};
 ghost use Rattle.desk_top.specs.Command.{command_of};
-ghost use Rattle.desk_top.specs.declared.check.TheConstants.{INPUT_LIMIT};
+ghost use Rattle.desk_top.specs.Check.{input_limit};
 
 use crate::check::{CheckFault, check_input};
 use crate::command::{Check, command};
@@ -41,7 +41,7 @@ pub fn run<R: Wait + Sync + Threads, L: Link>(
     ensures nothing_read { command_of (map string_bytes words.now.items) ≡ None → L.unread console.new ≡ L.unread console.old }
 
     // No byte past the one after the limit is asked for.
-    ensures taken { (bytes : List ℕ) × Consumes (L.unread console.old) (L.unread console.new) bytes × (length bytes ≤ INPUT_LIMIT + 1) }
+    ensures taken { (bytes : List ℕ) × Consumes (L.unread console.old) (L.unread console.new) bytes × (length bytes ≤ input_limit + 1) }
     ensures never_falls { L.faults console.old ≤ L.faults console.new }
 {
     let status = match command(words.as_slice()) {
@@ -71,7 +71,7 @@ fn answer_check<L: Link>(alloc: Global, check: &Check, console: &mut L) -> Statu
     ensures answer { IfSome (L.unread console.old) (λ bytes.
         Answers (answer_to (Some check.now) bytes) (status_code result)
         (L.written console.old) (L.written console.new) (Rose (L.faults console.old) (L.faults console.new))) }
-    ensures taken { (bytes : List ℕ) × Consumes (L.unread console.old) (L.unread console.new) bytes × (length bytes ≤ INPUT_LIMIT + 1) }
+    ensures taken { (bytes : List ℕ) × Consumes (L.unread console.old) (L.unread console.new) bytes × (length bytes ≤ input_limit + 1) }
     ensures never_falls { L.faults console.old ≤ L.faults console.new }
 {
     match check_input(alloc, check, console) {

@@ -3,29 +3,28 @@ use Rattle.std.proofs.Common.{◌≡◌, ◌∙◌, ap, ℕ, IfSome, Result, Boo
 use Rattle.std.proofs.lemmas.Bool.{ltb-true, ltb-false, lt-ltb}
 use Rattle.std.proofs.lemmas.List.{append-nil}
 use Rattle.std.specs.Io.KnownBytes.{Consumes, IsAtEnd}
-use Rattle.desk_top.specs.Check.{Agrees, checked}
+use Rattle.desk_top.specs.Check.{Agrees, checked, input_limit}
 use Rattle.desk_top.specs.declared.check.CheckFault.{CheckFault}
-use Rattle.desk_top.specs.declared.check.TheConstants.{INPUT_LIMIT}
 use Rattle.desk_top.specs.declared.command.Check.{Check}
 use Rattle.desk_top.proofs.check.check_input.Goals as goal
 
 -- all that a link tells was read, or enough of it to know that it is too long
 read-enough : (check : Check) (old new : Option (List ℕ)) (bytes : List ℕ) (result : Result (List ℕ) CheckFault)
-    → Consumes old new bytes → (length bytes ≤ INPUT_LIMIT → IsAtEnd new) → Agrees result (checked check bytes)
+    → Consumes old new bytes → (length bytes ≤ input_limit → IsAtEnd new) → Agrees result (checked check bytes)
     → IfSome old (λ told. Agrees result (checked check told))
 unfolding checked
 read-enough check None new bytes result taken end agrees = tt
 read-enough check (Some told) None bytes result taken end agrees = absurd taken
-read-enough check (Some told) (Some left) bytes result taken end agrees = by (nat_lt INPUT_LIMIT (length bytes)) refl
+read-enough check (Some told) (Some left) bytes result taken end agrees = by (nat_lt input_limit (length bytes)) refl
   where
-    by : (long : Bool) → nat_lt INPUT_LIMIT (length bytes) ≡ long → Agrees result (checked check told)
+    by : (long : Bool) → nat_lt input_limit (length bytes) ≡ long → Agrees result (checked check told)
     by false short =
-        let none : left ≡ [] = end (ltb-false INPUT_LIMIT (length bytes) short) in
+        let none : left ≡ [] = end (ltb-false input_limit (length bytes) short) in
         let same : told ≡ bytes = taken ∙ ap (λ (rest : List ℕ). bytes ++ rest) none ∙ append-nil bytes in
         rw same agrees
     by true long =
         let more : length told ≡ length bytes + length left = ap length taken ∙ length-append bytes left in
-        let longer : nat_lt INPUT_LIMIT (length told) ≡ true = lt-ltb INPUT_LIMIT (length told) (omega (arith, ltb-true INPUT_LIMIT (length bytes) long)) in
+        let longer : nat_lt input_limit (length told) ≡ true = lt-ltb input_limit (length told) (omega (arith, ltb-true input_limit (length bytes) long)) in
         rw longer (rw long at agrees)
 
 pub returns-clause-answer : goal.returns-clause-answer
