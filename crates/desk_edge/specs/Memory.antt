@@ -16,7 +16,9 @@ pub record Memory : Type 0 where
   pub room : ℕ
   -- the numbers of the calls that fail, counted from 1
   pub failing : List ℕ
+  -- how many calls were made, counted up to the last value of the count
   pub calls : ℕ
+  -- how many of them failed, counted in the same way
   pub faults : ℕ
 
 -- whether the next call is one of those that fail
@@ -35,21 +37,31 @@ after_fault m = record m { calls = counted m.calls; faults = counted m.faults }
 abbrev pub read_len : Memory → ℕ → ℕ
 read_len m len = min (min m.piece len) (length m.unread)
 
+-- what a read into a buffer of this length answers
 abbrev pub read_answer : Memory → ℕ → Result ℕ Failed
 read_answer m len = if fails_next m then Err (record {}) else Ok (read_len m len)
 
+-- the link after a read into a buffer of this length
 abbrev pub after_read : Memory → ℕ → Memory
 after_read m len =
     if fails_next m then after_fault m
     else record m { calls = counted m.calls; unread = drop (read_len m len) m.unread }
 
+-- a buffer after a read: the bytes that were given, and behind them what it held
+abbrev pub filled : Memory → List ℕ → List ℕ
+filled m into =
+    if fails_next m then into
+    else take (read_len m (length into)) m.unread ++ drop (read_len m (length into)) into
+
 -- how many of these bytes a write takes
 abbrev pub write_len : Memory → List ℕ → ℕ
 write_len m bytes = min m.room (length bytes)
 
+-- what a write of these bytes answers
 abbrev pub write_answer : Memory → List ℕ → Result ℕ Failed
 write_answer m bytes = if refuses m bytes then Err (record {}) else Ok (write_len m bytes)
 
+-- the link after a write of these bytes
 abbrev pub after_write : Memory → List ℕ → Memory
 after_write m bytes =
     if refuses m bytes then after_fault m

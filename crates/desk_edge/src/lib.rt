@@ -2,6 +2,7 @@
 #![tactic(auto)]
 
 mod failed;
+mod laws;
 mod link;
 mod memory_link;
 mod std_link;
@@ -10,6 +11,7 @@ mod tests;
 mod transfer;
 
 pub use failed::Failed;
+pub use laws::a_count_rises_up_to_its_last_value;
 pub use link::Link;
 pub use memory_link::MemoryLink;
 pub use std_link::StdLink;

@@ -1,4 +1,4 @@
-ghost use Rattle.std.specs.Prelude.{◌≡◌, ℕ, ◌<◌, ◌≤◌, List, length, Option, IfOk, OnErr};
+ghost use Rattle.std.specs.Prelude.{◌≡◌, ℕ, ◌<◌, ◌≤◌, List, length, Option, IfOk, OnOk, OnErr};
 ghost use Rattle.std.specs.Io.KnownBytes.{ReadConsumes, WriteAppends};
 ghost use Rattle.desk_edge.specs.Faults.{Rose};
 
@@ -21,24 +21,27 @@ pub trait Link {
 
     /// Gives the next bytes, at the front of the buffer, and answers how many.
     ///
-    /// 0 for a buffer that isn't empty is the end of the input. `Failed` comes only where a fault
-    /// was counted in this call; nothing was given then.
+    /// 0 for a buffer that isn't empty is the end of the input. `Failed` comes exactly where a
+    /// fault was counted in this call; nothing was given then, and what the buffer holds isn't
+    /// said.
     fn read(&mut self, into: &mut [u8]) -> Result<usize, Failed>
         ensures within { IfOk result (λ n. n ≤ length into.new) }
         ensures gives { ReadConsumes (unread self.old) (unread self.new) result into.new }
         ensures output_stays { written self.new ≡ written self.old }
         ensures never_falls { faults self.old ≤ faults self.new }
+        ensures steady { OnOk result (faults self.new ≡ faults self.old) }
         ensures failed { OnErr result (Rose (faults self.old) (faults self.new)) };
 
     /// Takes bytes from the front of the piece, and answers how many: at least one of a piece that
     /// isn't empty.
     ///
-    /// `Failed` comes only where a fault was counted in this call; nothing was taken then.
+    /// `Failed` comes exactly where a fault was counted in this call; nothing was taken then.
     fn write(&mut self, piece: &[u8]) -> Result<usize, Failed>
         ensures within { IfOk result (λ n. n ≤ length piece.now) }
         ensures some { IfOk result (λ n. 0 < length piece.now → 0 < n) }
         ensures takes { WriteAppends (written self.old) (written self.new) result piece.now }
         ensures input_stays { unread self.new ≡ unread self.old }
         ensures never_falls { faults self.old ≤ faults self.new }
+        ensures steady { OnOk result (faults self.new ≡ faults self.old) }
         ensures failed { OnErr result (Rose (faults self.old) (faults self.new)) };
 }

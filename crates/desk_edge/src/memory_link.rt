@@ -1,7 +1,7 @@
-ghost use Rattle.std.specs.Prelude.{◌≡◌, ℕ, ◌<◌, ◌≤◌, [], length, IfOk, OnErr, Some};
+ghost use Rattle.std.specs.Prelude.{◌≡◌, ℕ, ◌<◌, ◌≤◌, [], length, IfOk, OnOk, OnErr, Some};
 ghost use Rattle.std.specs.Io.KnownBytes.{ReadConsumes, WriteAppends};
 ghost use Rattle.desk_edge.specs.Faults.{Rose};
-ghost use Rattle.desk_edge.specs.Memory.{read_answer, after_read, write_answer, after_write};
+ghost use Rattle.desk_edge.specs.Memory.{read_answer, after_read, filled, write_answer, after_write};
 
 use crate::failed::Failed;
 use crate::link::Link;
@@ -98,9 +98,11 @@ impl Link for MemoryLink {
         ensures gives { ReadConsumes (Some self.old.unread) (Some self.new.unread) result into.new }
         ensures output_stays { Some self.new.written ≡ Some self.old.written }
         ensures never_falls { self.old.faults ≤ self.new.faults }
+        ensures steady { OnOk result (self.new.faults ≡ self.old.faults) }
         ensures failed { OnErr result (Rose self.old.faults self.new.faults) }
         ensures answer { result ≡ read_answer self.old (length into.old) }
         ensures after { self.new ≡ after_read self.old (length into.old) }
+        ensures buffer { into.new ≡ filled self.old into.old }
     {
         self.calls = self.calls.saturating_add(1);
         if self.failing.contains(&self.calls) {
@@ -120,6 +122,7 @@ impl Link for MemoryLink {
         ensures takes { WriteAppends (Some self.old.written) (Some self.new.written) result piece.now }
         ensures input_stays { Some self.new.unread ≡ Some self.old.unread }
         ensures never_falls { self.old.faults ≤ self.new.faults }
+        ensures steady { OnOk result (self.new.faults ≡ self.old.faults) }
         ensures failed { OnErr result (Rose self.old.faults self.new.faults) }
         ensures answer { result ≡ write_answer self.old piece.now }
         ensures after { self.new ≡ after_write self.old piece.now }

@@ -1,7 +1,6 @@
-ghost use Rattle.std.specs.Prelude.{◌≡◌, ℕ, ◌<◌, ◌≤◌, length, IfOk, OnErr};
+ghost use Rattle.std.specs.Prelude.{◌≡◌, ℕ, ◌<◌, ◌≤◌, length, IfOk, OnOk, OnErr};
 ghost use Rattle.std.specs.Io.KnownBytes.{ReadConsumes, WriteAppends};
-ghost use Rattle.desk_edge.specs.Faults.{Rose};
-ghost use Rattle.desk_edge.specs.StdLink.{std_reader, std_writer, std_faults};
+ghost use Rattle.desk_edge.specs.Faults.{Rose, counted};
 
 use crate::failed::Failed;
 use crate::link::Link;
@@ -21,9 +20,9 @@ pub struct StdLink<I, O> {
 impl<I: Read, O: Write> StdLink<I, O> {
     /// A link that reads from `input` and writes to `output`, with no fault counted yet.
     pub fn new(input: I, output: O) -> StdLink<I, O>
-        ensures reader { std_reader result ≡ input }
-        ensures writer { std_writer result ≡ output }
-        ensures count { std_faults result ≡ 0 }
+        ensures input { ⟦<StdLink<I, O> as Link>⟧.unread result ≡ I.remaining input }
+        ensures output { ⟦<StdLink<I, O> as Link>⟧.written result ≡ O.contents output }
+        ensures count { ⟦<StdLink<I, O> as Link>⟧.faults result ≡ 0 }
     {
         StdLink {
             input,
@@ -34,10 +33,10 @@ impl<I: Read, O: Write> StdLink<I, O> {
 
     // Counts a fault, up to the last value of the count.
     fn refused(&mut self) -> Failed
-        ensures input_stays { std_reader self.new ≡ std_reader self.old }
-        ensures output_stays { std_writer self.new ≡ std_writer self.old }
-        ensures never_falls { std_faults self.old ≤ std_faults self.new }
-        ensures counted { Rose (std_faults self.old) (std_faults self.new) }
+        ensures input_stays { self.new.input ≡ self.old.input }
+        ensures output_stays { self.new.output ≡ self.old.output }
+        ensures never_falls { self.old.faults ≤ self.new.faults }
+        ensures counted { self.new.faults ≡ counted self.old.faults }
     {
         self.faults = self.faults.saturating_add(1);
         Failed

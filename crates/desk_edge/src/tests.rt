@@ -1,4 +1,4 @@
-ghost use Rattle.std.specs.Prelude.{◌≤◌};
+ghost use Rattle.std.specs.Prelude.{◌≡◌, ◌<◌, ◌≤◌, ◌++◌, length, IfOk, Some};
 
 use crate::{Failed, Link, MemoryLink, ReadFault, StdLink, read_up_to, write_all};
 use desk_text::Bytes;
@@ -151,11 +151,38 @@ fn a_link_over_std_hands_on_what_its_reader_and_writer_do(rt: HostRuntime) -> Re
     assert_eq!(rt; buffer.as_slice(), b"q\0".as_slice());
     assert_eq!(rt; link.write(b"ab"), Err(Failed));
     assert_eq!(rt; link.write(b"ab"), Ok(1));
-    let mut over_text = StdLink::new(b"text".as_slice(), Vec::new(rt.alloc()));
-    let bytes = read_up_to(rt.alloc(), &mut over_text, 9)
-        .ok()
-        .ok_or("a fault")?;
-    assert_eq!(rt; bytes.as_slice(), b"text".as_slice());
-    assert_eq!(rt; write_all(&mut over_text, b"answer"), Ok(()));
+    assert_eq!(rt; link.write(b""), Ok(0));
+    Ok(())
+}
+
+// A link over a slice tells the slice as unread, so this contract holds.
+fn read_slice(alloc: Global, text: &[u8]) -> Result<Bytes, ReadFault>
+    requires { length text.now < usize.MAX }
+    ensures { IfOk result (λ bytes. bytes ≡ text.now) }
+{
+    let mut link = StdLink::new(text, io::sink());
+    read_up_to(alloc, &mut link, text.len())
+}
+
+// A link over a vector tells the vector as written, so this contract holds.
+fn write_vector(output: Vec<u8>, text: &[u8]) -> Result<StdLink<io::Empty, Vec<u8>>, Failed>
+    ensures { IfOk result (λ link.
+        ⟦<StdLink<io::Empty, Vec<u8>> as Link>⟧.written link ≡ Some (output.items ++ text.now)) }
+{
+    let mut link = StdLink::new(io::empty(), output);
+    write_all(&mut link, text)?;
+    Ok(link)
+}
+
+#[test]
+fn a_link_over_std_tells_what_its_reader_and_writer_tell(rt: HostRuntime) -> Result<(), Fail> {
+    let text = read_slice(rt.alloc(), b"text").ok().ok_or("a fault")?;
+    assert_eq!(rt; text.as_slice(), b"text".as_slice());
+    let output = b"an ".as_slice().to_vec(rt.alloc())?;
+    assert!(rt; write_vector(output, b"answer").is_ok());
+    let mut held = Vec::new(rt.alloc());
+    let mut link = StdLink::new(io::empty(), &mut held);
+    assert_eq!(rt; write_all(&mut link, b"answer"), Ok(()));
+    assert_eq!(rt; held.as_slice(), b"answer".as_slice());
     Ok(())
 }

@@ -1,6 +1,7 @@
-ghost use Rattle.std.specs.Prelude.{◌≡◌, ℕ, ◌+◌, ◌<◌, ◌≤◌, List, length, take, IfOk, OnOk, OnErr, IsErrOf};
+ghost use Rattle.std.specs.Prelude.{◌≡◌, ◌≢◌, ℕ, ◌+◌, ◌<◌, ◌≤◌, List, length, IfOk, OnOk, OnErr, IsErrOf, Err};
 ghost use Rattle.std.specs.Io.KnownBytes.{Consumes, Appends, IsAtEnd};
 ghost use Rattle.desk_edge.specs.Faults.{Rose};
+ghost use Rattle.desk_edge.specs.Transfer.{AppendsBeginning};
 
 use crate::failed::Failed;
 use crate::link::Link;
@@ -55,6 +56,7 @@ pub fn read_up_to<L: Link>(alloc: Global, link: &mut L, limit: usize) -> Result<
     ensures taken { (bytes : List ℕ) × Consumes (L.unread link.old) (L.unread link.new) bytes × (length bytes ≤ limit + 1) }
     ensures output_stays { L.written link.new ≡ L.written link.old }
     ensures never_falls { L.faults link.old ≤ L.faults link.new }
+    ensures steady { result ≢ Err ReadFault.Failed → L.faults link.new ≡ L.faults link.old }
     ensures failed { IsErrOf result ReadFault.Failed → Rose (L.faults link.old) (L.faults link.new) }
 {
     let mut bytes = Bytes::start(alloc);
@@ -72,12 +74,13 @@ pub fn read_up_to<L: Link>(alloc: Global, link: &mut L, limit: usize) -> Result<
 
 /// Writes all the bytes, in as many calls as the link wants.
 ///
-/// After an error a beginning of the bytes is written.
+/// After an error a beginning of the bytes is written, and not all of them.
 pub fn write_all<L: Link>(link: &mut L, bytes: &[u8]) -> Result<(), Failed>
     ensures ok { OnOk result (Appends (L.written link.old) (L.written link.new) bytes.now) }
-    ensures beginning { (n : ℕ) × Appends (L.written link.old) (L.written link.new) (take n bytes.now) }
+    ensures err { OnErr result (AppendsBeginning (L.written link.old) (L.written link.new) bytes.now) }
     ensures input_stays { L.unread link.new ≡ L.unread link.old }
     ensures never_falls { L.faults link.old ≤ L.faults link.new }
+    ensures steady { OnOk result (L.faults link.new ≡ L.faults link.old) }
     ensures failed { OnErr result (Rose (L.faults link.old) (L.faults link.new)) }
 {
     let mut rest = bytes;

@@ -7,8 +7,6 @@ use Rattle.std.specs.Bool.{Decides}
 use Rattle.std.specs.List.{AllPass}
 use Rattle.desk_text.specs.Code.{word_of, unless_bad, is_code_byte, code_of, is_exemption_number_byte, exemption_number_of, same_code}
 use Rattle.desk_text.specs.declared.code.CodeFault.TheVariants.{Empty, TooLong}
-use Rattle.desk_text.specs.declared.code.TheConstants.{CODE_LIMIT}
-use Rattle.desk_text.specs.declared.exemption_number.TheConstants.{EXEMPTION_NUMBER_LIMIT}
 use Rattle.desk_text.proofs.WordLemmas.{AllPass-none_bad}
 
 -- 1 to `limit` bytes of the alphabet
@@ -39,14 +37,14 @@ word_of-Ok alphabet limit bytes word e =
     )
 
 -- the bytes of a code
-pub code_of-Ok : (bytes code : List ℕ) → code_of bytes ≡ Ok code → (code ≡ bytes) × IsWord is_code_byte CODE_LIMIT bytes
+pub code_of-Ok : (bytes code : List ℕ) → code_of bytes ≡ Ok code → (code ≡ bytes) × IsWord is_code_byte 40 bytes
 unfolding code_of
-code_of-Ok = word_of-Ok is_code_byte CODE_LIMIT
+code_of-Ok = word_of-Ok is_code_byte 40
 
 -- the bytes of an exemption number
-pub exemption_number_of-Ok : (bytes number : List ℕ) → exemption_number_of bytes ≡ Ok number → (number ≡ bytes) × IsWord is_exemption_number_byte EXEMPTION_NUMBER_LIMIT bytes
+pub exemption_number_of-Ok : (bytes number : List ℕ) → exemption_number_of bytes ≡ Ok number → (number ≡ bytes) × IsWord is_exemption_number_byte 20 bytes
 unfolding exemption_number_of
-exemption_number_of-Ok = word_of-Ok is_exemption_number_byte EXEMPTION_NUMBER_LIMIT
+exemption_number_of-Ok = word_of-Ok is_exemption_number_byte 20
 
 -- codes are the same exactly where their bytes are equal
 pub same_code-Decides : (a b : List ℕ) → Decides (same_code a b) (a ≡ b)

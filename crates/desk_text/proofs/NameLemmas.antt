@@ -7,7 +7,6 @@ use Rattle.std.specs.List.{list_any}
 use Rattle.std.specs.Str.{chars, is_utf8}
 use Rattle.desk_text.specs.Name.{is_name_text, name_of}
 use Rattle.desk_text.specs.declared.name.NameFault.TheVariants.{Empty, TooLong, BadText}
-use Rattle.desk_text.specs.declared.name.TheConstants.{NAME_LIMIT}
 
 -- of a text, only a control character can spoil a name
 pub name_text-found : (bytes text : List ℕ) (control : Bool) → text ≡ bytes → IsUtf8 bytes → control ≡ list_any is_control (chars text) → is_name_text bytes ≡ not control
@@ -32,4 +31,4 @@ no_fault bytes name false false true e = (cc, refl)
 
 pub name_of-Ok : (bytes name : List ℕ) → name_of bytes ≡ Ok name → (name ≡ bytes) × (is_name_text bytes ≡ true)
 unfolding name_of
-name_of-Ok bytes name e = no_fault bytes name (length bytes == 0) (nat_lt NAME_LIMIT (length bytes)) (is_name_text bytes) e
+name_of-Ok bytes name e = no_fault bytes name (length bytes == 0) (nat_lt 200 (length bytes)) (is_name_text bytes) e

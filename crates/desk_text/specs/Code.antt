@@ -7,8 +7,6 @@ use Rattle.std.specs.Ordering.{nat_cmp, eq_by_cmp}
 use Rattle.std.specs.declared.cmp.Ordering.{Ordering}
 use Rattle.desk_text.specs.declared.code.CodeFault.{CodeFault}
 use Rattle.desk_text.specs.declared.code.CodeFault.TheVariants.{Empty, TooLong, BadByte}
-use Rattle.desk_text.specs.declared.code.TheConstants.{CODE_LIMIT}
-use Rattle.desk_text.specs.declared.exemption_number.TheConstants.{EXEMPTION_NUMBER_LIMIT}
 
 -- the bytes, unless one place of them is bad
 abbrev pub unless_bad : Option ℕ → List ℕ → Result (List ℕ) CodeFault
@@ -26,17 +24,17 @@ word_of alphabet limit bytes =
 abbrev pub is_code_byte : ℕ → Bool
 is_code_byte b = is_ascii_alphanumeric b || list_any (λ c. b == c) (codes "._-")
 
--- the code that the bytes spell
+-- the code that the bytes spell: 1 to 40 bytes
 unfoldable pub code_of : List ℕ → Result (List ℕ) CodeFault
-code_of = word_of is_code_byte CODE_LIMIT
+code_of = word_of is_code_byte 40
 
 -- the alphabet of exemption numbers: that of codes, and brackets
 abbrev pub is_exemption_number_byte : ℕ → Bool
 is_exemption_number_byte b = is_code_byte b || list_any (λ c. b == c) (codes "()")
 
--- the number of an exemption that the bytes spell
+-- the number of an exemption that the bytes spell: 1 to 20 bytes
 unfoldable pub exemption_number_of : List ℕ → Result (List ℕ) CodeFault
-exemption_number_of = word_of is_exemption_number_byte EXEMPTION_NUMBER_LIMIT
+exemption_number_of = word_of is_exemption_number_byte 20
 
 -- codes and exemption numbers are ordered by their bytes
 abbrev pub code_cmp : List ℕ → List ℕ → Ordering

@@ -7,7 +7,6 @@ use Rattle.jiff_core.specs.Calendar.{days_in_month}
 use Rattle.desk_text.specs.Picture.{fits}
 use Rattle.desk_text.specs.declared.day.DayFault.{DayFault}
 use Rattle.desk_text.specs.declared.day.DayFault.TheVariants.{Shape, NoSuchDay, OutOfProfile}
-use Rattle.desk_text.specs.declared.day.TheConstants.{FIRST_YEAR, LAST_YEAR}
 
 -- the year, the month from 1 and the day of the month from 1
 pub record Date : Type 0 where
@@ -20,9 +19,9 @@ abbrev pub is_calendar_date : Date → Bool
 is_calendar_date d =
     nat_le 1 d.month && nat_le d.month 12 && nat_le 1 d.day && nat_le d.day (days_in_month (pos d.year) d.month)
 
--- the date is one that the desk takes
+-- the date is one of the years 2000 to 2099, which the desk takes
 abbrev pub is_in_profile : Date → Bool
-is_in_profile d = nat_le FIRST_YEAR d.year && nat_le d.year LAST_YEAR
+is_in_profile d = nat_le 2000 d.year && nat_le d.year 2099
 
 -- the date is a day
 abbrev pub is_day : Date → Bool
@@ -55,6 +54,7 @@ is_not_after a b = is_le (date_cmp a b)
 abbrev pub first_askable : Date
 first_askable = record { year = 2014; month = 7; day = 22 }
 
+-- a question may be asked for the date
 abbrev pub is_askable : Date → Bool
 is_askable d = is_not_after first_askable d
 

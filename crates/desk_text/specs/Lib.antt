@@ -4,5 +4,6 @@ pub mod Code
 pub mod Day
 pub mod Name
 pub mod Number
+pub mod Padding
 pub mod Picture
 pub mod Word

@@ -8,8 +8,8 @@ use std::error::Error;
 use std::fmt;
 use std::marker::Model;
 
-/// The greatest number of bytes in a CAS registry number.
-pub const CAS_LIMIT: usize = 12;
+// The greatest number of bytes in a CAS registry number.
+const CAS_LIMIT: usize = 12;
 
 /// A CAS registry number, such as `117-81-7`: two to seven digits, two digits and the check digit.
 ///

@@ -13,7 +13,7 @@ mod picture;
 mod word;
 
 pub use bytes::Bytes;
-pub use cas::{CAS_LIMIT, Cas, CasFault};
+pub use cas::{Cas, CasFault};
 pub use code::{CODE_LIMIT, Code, CodeFault};
 pub use day::{Day, DayFault, FIRST_YEAR, LAST_YEAR};
 pub use exemption_number::{EXEMPTION_NUMBER_LIMIT, ExemptionNumber};

@@ -26,10 +26,8 @@ pub enum NumberFault {
 pub fn read_u32(bytes: &[u8]) -> Result<u32, NumberFault>
     ensures { result ≡ number_below (2 ^ 32) bytes.now }
 {
-    if !is_numeral(bytes) {
-        return Err(NumberFault::Shape);
-    }
-    digits_text(bytes).parse().map_err(|_| NumberFault::TooBig)
+    let number = read_u64(bytes)?;
+    u32::try_from(number).map_err(|_| NumberFault::TooBig)
 }
 
 /// The number that decimal digits write, below 2^64. There is no sign, and no zero before another digit.

@@ -21,7 +21,8 @@ pub struct Word<const N: usize> {
 
 impl<const N: usize> Model for Word<N> {
     ghost use Rattle.std.specs.Prelude.{ℕ, ◌-◌, ◌++◌, List, length, take, replicate};
-    ghost use Rattle.desk_text.specs.Word.{IsPadded, length-text, padded-text};
+    ghost use Rattle.desk_text.specs.Word.{IsPadded};
+    ghost use Rattle.desk_text.specs.Padding.{length-text, padded-text};
 
     ghost Value = { List ℕ };
 

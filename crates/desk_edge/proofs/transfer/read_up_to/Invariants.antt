@@ -8,7 +8,7 @@ invariant-loop-chunk g l = record {
   given : Consumes (g.L.Link.unread l.fn.link) (g.L.Link.unread l.link) l.bytes;
   within : length l.bytes ≤ l.limit + 1;
   output : g.L.Link.written l.link ≡ g.L.Link.written l.fn.link;
-  count : g.L.Link.faults l.fn.link ≤ g.L.Link.faults l.link;
+  count : g.L.Link.faults l.link ≡ g.L.Link.faults l.fn.link;
 }
 
 abbrev pub decreases-loop-chunk : goal.decreases-loop-chunk
