@@ -1,6 +1,6 @@
 -- How a set of kinds is kept: fourteen marks, one at the place of each kind. No clause speaks of them.
 -- The type's own declaration names the last lemma of this file, so that it and those it rests on can't stand in proofs/.
-use Rattle.std.proofs.Common.{◌≡◌, Bool, true, false, List, ◌∷◌, length, get_or, refl, sym, ◌∙◌, ap}
+use Rattle.std.proofs.Common.{◌≡◌, Bool, true, false, List, length, get_or, refl, sym, ◌∙◌, ap}
 use Rattle.std.specs.Prelude.{◌&&◌, map, filter}
 use Rattle.std.proofs.lemmas.Bool.{eqb-true}
 use Rattle.std.proofs.lemmas.List.FromFn.{fill_by_all}
