@@ -1,5 +1,4 @@
 -- How a set of kinds is kept: fourteen marks, one at the place of each kind. No clause speaks of them.
--- The type's own declaration names the last lemma of this file, so that it and those it rests on can't stand in proofs/.
 use Rattle.std.proofs.Common.{◌≡◌, Bool, true, false, List, length, get_or, refl, sym, ◌∙◌, ap}
 use Rattle.std.specs.Prelude.{◌&&◌, map, filter}
 use Rattle.std.proofs.lemmas.Bool.{eqb-true}
@@ -14,6 +13,9 @@ use Rattle.desk_law.specs.KindSet.{has_kind}
 -- the kinds that have a mark at their place
 unfoldable pub marked_kinds : List Bool → List Kind
 marked_kinds marks = filter (λ kind. get_or marks (kind_place kind) false) all_kinds
+
+-- What follows is proved and defines nothing. The type's declaration names the last of these lemmas, and a declaration names
+-- nothing in proofs/.
 
 -- the list of all kinds has each kind at its place
 all_kinds-at : (kind : Kind) → get_or all_kinds (kind_place kind) Other ≡ kind
