@@ -104,9 +104,10 @@ impl<R: Keyed> Table<R> {
         }
     }
 
-    /// The same table once more.
+    /// The same table once more. Of an empty table that takes no memory.
     pub fn copied(&self, alloc: Global) -> Result<Table<R>, OutOfMemory>
-        ensures { IfOk result (λ table. table ≡ self.now) }
+        ensures copy { IfOk result (λ table. table ≡ self.now) }
+        ensures nothing { self.now ≡ [] → IsOk result }
     {
         let mut rows = Vec::with_capacity(alloc, self.rows.len())?;
         for row in self.rows.as_slice() {
