@@ -52,13 +52,13 @@ rule_of-rule_code Dbp = refl
 rule_of-rule_code Dibp = refl
 
 -- a kind that was read has that code
-pub kind_code-kind_of : (code : List ℕ) (kind : Kind) → kind_of code ≡ Some kind → kind_code kind ≡ code
+pub kind_is_spelled : (code : List ℕ) (kind : Kind) → kind_of code ≡ Some kind → kind_code kind ≡ code
 unfolding kind_of
-kind_code-kind_of code kind h =
+kind_is_spelled code kind h =
     (bytes_eq-Decides (kind_code kind) code).0 (find_passes (λ k. bytes_eq (kind_code k) code) all_kinds kind h)
 
 -- a rule that was read has that code
-pub rule_code-rule_of : (code : List ℕ) (rule : Rule) → rule_of code ≡ Some rule → rule_code rule ≡ code
+pub rule_is_spelled : (code : List ℕ) (rule : Rule) → rule_of code ≡ Some rule → rule_code rule ≡ code
 unfolding rule_of
-rule_code-rule_of code rule h =
+rule_is_spelled code rule h =
     (bytes_eq-Decides (rule_code rule) code).0 (find_passes (λ r. bytes_eq (rule_code r) code) all_rules rule h)

@@ -12,7 +12,8 @@ use Rattle.std.proofs.lemmas.Slice.Eq.{slice_eq-Decides}
 use Rattle.desk_law.specs.declared.kind.Kind.{Kind}
 use Rattle.desk_law.specs.Kind.{all_kinds, same_kind}
 use Rattle.desk_law.specs.KindSet.{has_kind, is_subset, set_of}
-use Rattle.desk_law.specs.KindMarks.{has_kind-set_of, marked_kinds, marked_kinds-none, marks-marked_kinds, same_filter}
+use Rattle.desk_law.specs.KindMarks.{marked_kinds, marks-marked_kinds}
+use Rattle.desk_law.proofs.KindMarks.{has_kind-set_of, marked_kinds-none, same_filter}
 
 has_kind-more : (kinds : List Kind) (i : ℕ) (d other : Kind) → i < length kinds → has_kind (get_or kinds i d ∷ set_of (take i kinds)) other ≡ has_kind (take (i + 1) kinds) other
 unfolding has_kind

@@ -1,5 +1,6 @@
 pub mod Codes
 pub mod FirstDays
+pub mod KindMarks
 pub mod KindSets
 pub mod KindTexts
 pub mod Verdicts

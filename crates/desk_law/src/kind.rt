@@ -1,4 +1,4 @@
-ghost use Rattle.std.specs.Prelude.{◌≡◌, ◌<◌, Option, Some};
+ghost use Rattle.std.specs.Prelude.{◌≡◌, ◌<◌, IfSome, Option, Some};
 ghost use Rattle.desk_law.specs.Kind.{kind_code, kind_of, kind_place};
 
 use std::fmt;
@@ -95,9 +95,10 @@ impl Kind {
     }
 
     /// The kind whose code these bytes are, `None` exactly where they are no kind's code.
-    #[tactic(auto, unfolding(crate::specs::Kind::kind_of))]
+    #[tactic(auto, using(crate::proofs::Codes::kind_is_spelled), unfolding(crate::specs::Kind::kind_of))]
     pub fn read(bytes: &[u8]) -> Option<Kind>
-        ensures { result ≡ kind_of bytes.now }
+        ensures kind { result ≡ kind_of bytes.now }
+        ensures spelled { IfSome result (λ kind. kind_code kind ≡ bytes.now) }
     {
         Kind::ALL
             .iter()

@@ -1,4 +1,4 @@
-ghost use Rattle.std.specs.Prelude.{◌≡◌, Option, Some};
+ghost use Rattle.std.specs.Prelude.{◌≡◌, IfSome, Option, Some};
 ghost use Rattle.desk_law.specs.Rule.{rule_code, rule_number, rule_of};
 
 use std::fmt;
@@ -85,9 +85,10 @@ impl Rule {
     }
 
     /// The rule whose code these bytes are, `None` exactly where they are no rule's code.
-    #[tactic(auto, unfolding(crate::specs::Rule::rule_of))]
+    #[tactic(auto, using(crate::proofs::Codes::rule_is_spelled), unfolding(crate::specs::Rule::rule_of))]
     pub fn read(bytes: &[u8]) -> Option<Rule>
-        ensures { result ≡ rule_of bytes.now }
+        ensures rule { result ≡ rule_of bytes.now }
+        ensures spelled { IfSome result (λ rule. rule_code rule ≡ bytes.now) }
     {
         Rule::ALL
             .iter()

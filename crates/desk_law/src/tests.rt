@@ -26,12 +26,16 @@ fn reads_and_writes_the_fourteen_kinds(rt: HostRuntime) -> Result<(), Fail> {
         (Kind::Dispenser, "10"),
         (Kind::Other, "11"),
     ];
-    for (kind, code) in rows {
+    for ((kind, code), in_order) in rows.into_iter().zip(Kind::ALL) {
+        assert_eq!(rt; in_order, kind);
         assert_eq!(rt; Kind::read(code.as_bytes()), Some(kind));
         assert_eq!(rt; kind.to_string(rt.alloc())?.as_bytes(), code.as_bytes());
     }
     for stranger in ["", "0", "12", "7T", "07", "8i "] {
         assert_eq!(rt; Kind::read(stranger.as_bytes()), None);
+    }
+    for pair in Kind::ALL.windows(2) {
+        assert!(rt; pair[0] < pair[1]);
     }
     Ok(())
 }
@@ -50,7 +54,8 @@ fn reads_and_writes_the_ten_rules(rt: HostRuntime) -> Result<(), Fail> {
         (Rule::Dbp, 9, "dbp", 1000),
         (Rule::Dibp, 10, "dibp", 1000),
     ];
-    for (rule, number, code, limit) in rows {
+    for ((rule, number, code, limit), in_order) in rows.into_iter().zip(Rule::ALL) {
+        assert_eq!(rt; in_order, rule);
         assert_eq!(rt; Rule::read(code.as_bytes()), Some(rule));
         assert_eq!(rt; rule.number(), number);
         assert_eq!(rt; rule.to_string(rt.alloc())?.as_bytes(), code.as_bytes());
@@ -58,6 +63,9 @@ fn reads_and_writes_the_ten_rules(rt: HostRuntime) -> Result<(), Fail> {
     }
     for stranger in ["", "Lead", "r11", "lead "] {
         assert_eq!(rt; Rule::read(stranger.as_bytes()), None);
+    }
+    for pair in Rule::ALL.windows(2) {
+        assert!(rt; pair[0] < pair[1]);
     }
     Ok(())
 }
@@ -101,6 +109,9 @@ fn annex_four_is_for_medical_devices_and_instruments(rt: HostRuntime) -> Result<
     Ok(())
 }
 
+/// 4294967295 ppm of 18446744073709551615 micrograms, in millionths of a microgram.
+const GREATEST_LIMIT: u128 = 79_228_162_495_817_593_515_539_431_425;
+
 #[test]
 fn a_share_is_over_only_above_the_limit(rt: HostRuntime) {
     let rows = [
@@ -108,6 +119,8 @@ fn a_share_is_over_only_above_the_limit(rt: HostRuntime) {
         (1_000_000_001, 1_000_000, 1000, true),
         (0, 0, 1000, false),
         (1, 0, 1000, true),
+        (GREATEST_LIMIT, u64::MAX, u32::MAX, false),
+        (GREATEST_LIMIT + 1, u64::MAX, u32::MAX, true),
         (u128::MAX, u64::MAX, u32::MAX, true),
     ];
     for (share, mass, ppm, want) in rows {
@@ -216,28 +229,56 @@ fn a_row_covers_on_its_days_for_its_kinds(rt: HostRuntime) -> Result<(), Fail> {
 }
 
 #[test]
+fn a_row_of_one_day_covers_on_that_day(rt: HostRuntime) -> Result<(), Fail> {
+    let it = Kind::Telecommunications;
+    let mut row = copper_alloys(b"R6C", None, None)?;
+    row.first = Day::new(2024, 1, 23);
+    row.last = Day::new(2024, 1, 23);
+    let claims = [claim(b"6(c)")?];
+    let cases = [
+        (Day::new(2024, 1, 22), false),
+        (Day::new(2024, 1, 23), true),
+        (Day::new(2024, 1, 24), false),
+    ];
+    for (day, want) in cases {
+        let is_covered = covers(&row, &claims, Rule::Lead, it, day, 1, 1);
+        assert_eq!(rt; is_covered, want, "{day}");
+    }
+    row.kinds = KindSet::new();
+    assert!(rt; !covers(&row, &claims, Rule::Lead, it, Day::new(2024, 1, 23), 1, 1));
+    Ok(())
+}
+
+#[test]
 fn a_row_covers_from_its_floor_to_its_cap(rt: HostRuntime) -> Result<(), Fail> {
+    let it = Kind::Telecommunications;
     let claims = [claim(b"6(c)")?];
     let day = Day::new(2024, 1, 23);
     let cases = [
-        (None, Some(40000), 40_000_000_000, true),
-        (None, Some(40000), 40_000_000_001, false),
-        (Some(1500), Some(40000), 1_499_999_999, false),
-        (Some(1500), Some(40000), 1_500_000_000, true),
-        (None, None, u128::MAX, true),
+        (None, Some(40000), 40_000_000_000, 1_000_000, true),
+        (None, Some(40000), 40_000_000_001, 1_000_000, false),
+        (Some(1500), Some(40000), 1_499_999_999, 1_000_000, false),
+        (Some(1500), Some(40000), 1_500_000_000, 1_000_000, true),
+        (None, None, u128::MAX, 1_000_000, true),
+        (Some(1000), Some(1000), 999_999_999, 1_000_000, false),
+        (Some(1000), Some(1000), 1_000_000_000, 1_000_000, true),
+        (Some(1000), Some(1000), 1_000_000_001, 1_000_000, false),
+        (Some(1000), Some(1000), 0, 0, true),
+        (Some(1000), Some(1000), 1, 0, false),
+        (Some(u32::MAX), None, GREATEST_LIMIT - 1, u64::MAX, false),
+        (
+            Some(u32::MAX),
+            Some(u32::MAX),
+            GREATEST_LIMIT,
+            u64::MAX,
+            true,
+        ),
+        (None, Some(u32::MAX), GREATEST_LIMIT + 1, u64::MAX, false),
     ];
-    for (floor, cap, share, want) in cases {
+    for (floor, cap, share, mass, want) in cases {
         let row = copper_alloys(b"R6C", floor, cap)?;
-        let is_covered = covers(
-            &row,
-            &claims,
-            Rule::Lead,
-            Kind::Telecommunications,
-            day,
-            share,
-            1_000_000,
-        );
-        assert_eq!(rt; is_covered, want, "{share}");
+        let is_covered = covers(&row, &claims, Rule::Lead, it, day, share, mass);
+        assert_eq!(rt; is_covered, want, "{share} of {mass}");
     }
     Ok(())
 }
@@ -249,8 +290,34 @@ fn a_row_covers_only_what_is_claimed_by_its_rule_and_number(rt: HostRuntime) -> 
     let it = Kind::Telecommunications;
     let other = [claim(b"6(a)")?];
     let same = [claim(b"6(c)")?];
+    let from_cadmium = [Claim {
+        rule: Rule::Cadmium,
+        number: ExemptionNumber::read(b"6(c)")?,
+    }];
     assert!(rt; !covers(&row, &[], Rule::Lead, it, day, 2_000_000_000, 1_000_000));
     assert!(rt; !covers(&row, &other, Rule::Lead, it, day, 2_000_000_000, 1_000_000));
+    assert!(rt;
+        !covers(
+            &row,
+            &from_cadmium,
+            Rule::Lead,
+            it,
+            day,
+            2_000_000_000,
+            1_000_000
+        )
+    );
+    assert!(rt;
+        !covers(
+            &row,
+            &from_cadmium,
+            Rule::Cadmium,
+            it,
+            day,
+            2_000_000_000,
+            1_000_000
+        )
+    );
     assert!(rt;
         !covers(
             &row,
@@ -393,28 +460,49 @@ fn a_rule_that_is_not_in_force_needs_no_exemption(rt: HostRuntime) -> Result<(),
 fn in_order(rt: &impl Abort, first: Terms, second: Terms) -> [Terms; 2]
     ensures { IsSortedByKey (λ row. row.row) code_cmp result }
 {
-    assert!(rt; first.row < second.row);
+    assert!(rt; first.row <= second.row);
     [first, second]
 }
 
 #[test]
 fn of_the_rows_that_cover_the_least_code_is_named(rt: HostRuntime) -> Result<(), Fail> {
+    let it = Kind::Telecommunications;
     let narrow = copper_alloys(b"R6C-1", None, Some(2000))?;
     let wide = copper_alloys(b"R6C-2", None, Some(40000))?;
     let rows = in_order(&rt, narrow, wide);
     let claims = [claim(b"6(c)")?];
     let day = Day::new(2024, 1, 23);
     for (share, place) in [(2_000_000_000, 0), (2_000_000_001, 1)] {
-        let verdict = judge(
-            share,
-            1_000_000,
-            &claims,
-            Rule::Lead,
-            Kind::Telecommunications,
-            day,
-            &rows,
-        );
+        let verdict = judge(share, 1_000_000, &claims, Rule::Lead, it, day, &rows);
         assert_eq!(rt; verdict, Verdict::Exempt { place });
     }
+    let twice = in_order(&rt, wide, wide);
+    let verdict = judge(
+        2_000_000_001,
+        1_000_000,
+        &claims,
+        Rule::Lead,
+        it,
+        day,
+        &twice,
+    );
+    assert_eq!(rt; verdict, Verdict::Exempt { place: 0 });
     Ok(())
+}
+
+#[test]
+fn a_verdict_at_the_ends_of_share_and_mass(rt: HostRuntime) {
+    let it = Kind::Telecommunications;
+    let day = Day::new(2024, 1, 23);
+    let cases = [
+        (0, 0, Verdict::Within),
+        (1, 0, Verdict::Breach),
+        (18_446_744_073_709_551_615_000, u64::MAX, Verdict::Within),
+        (18_446_744_073_709_551_615_001, u64::MAX, Verdict::Breach),
+        (u128::MAX, u64::MAX, Verdict::Breach),
+    ];
+    for (share, mass, want) in cases {
+        let verdict = judge(share, mass, &[], Rule::Lead, it, day, &[]);
+        assert_eq!(rt; verdict, want, "{share} of {mass}");
+    }
 }

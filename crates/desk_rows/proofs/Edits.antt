@@ -125,6 +125,9 @@ module _ {R K : Type 0} (key : R → K) (cmp : K → K → Ordering) where
     set_at : (new : R) (rows : List R) (k : K) (i : ℕ) → place_of key cmp k rows ≡ Ok i → key new ≡ k → with_row key cmp new rows ≡ set rows i new
     set_at new rows k i at e = (subst (λ p. MatchResult p (Set new rows) (Inserted new rows)) (ap (λ j. place_of key cmp j rows) e ∙ at) (put_in new rows)).put
 
+    inserted_at : (new : R) (rows : List R) (k : K) (i : ℕ) → place_of key cmp k rows ≡ Err i → key new ≡ k → with_row key cmp new rows ≡ insert rows i new
+    inserted_at new rows k i at e = (subst (λ p. MatchResult p (Set new rows) (Inserted new rows)) (ap (λ j. place_of key cmp j rows) e ∙ at) (put_in new rows)).put
+
     stands : (k : K) (rows : List R) (p : Result ℕ ℕ) → p ≡ place_of key cmp k rows → IsByKey key cmp rows → MatchResult p (Here k rows) (Gone k rows) → MatchResult p (StandsAt key cmp k rows) (StandsNowhere key cmp k rows)
     stands k rows (Ok i) at h m =
         record {
@@ -134,7 +137,7 @@ module _ {R K : Type 0} (key : R → K) (cmp : K → K → Ordering) where
           by_key = subst (IsByKey key cmp) m.taken (IsByKey-without_row k rows h);
           put = λ new e. set_at new rows k i (sym at) e;
         }
-    stands k rows (Err i) at h m = record { absent = m.absent; same = m.same }
+    stands k rows (Err i) at h m = record { within = m.within; absent = m.absent; same = m.same; put = λ new e. inserted_at new rows k i (sym at) e }
 
     -- what a search by a key tells
     pub place_of_key : (k : K) (rows : List R) (r : Result ℕ ℕ) → IsByKey key cmp rows → IsSearchInRange r (length rows) → IsBinarySearchResult (λ row. cmp (key row) k) rows r → MatchResult r (StandsAt key cmp k rows) (StandsNowhere key cmp k rows)

@@ -13,10 +13,12 @@ module _ {R K : Type 0} (key : R → K) (cmp : K → K → Ordering) where
     pub by_key : IsByKey key cmp (remove rows place)
     pub put : (new : R) → key new ≡ k → with_row key cmp new rows ≡ slice_set rows place new
 
-  -- no row has this key
+  -- no row has this key, and a new row of the key belongs before the row that stands at the place
   pub record StandsNowhere (k : K) (rows : List R) (place : ℕ) : Type 0 where
+    pub within : place ≤ length rows
     pub absent : row_of key cmp k rows ≡ None
     pub same : without_row key cmp k rows ≡ rows
+    pub put : (new : R) → key new ≡ k → with_row key cmp new rows ≡ insert rows place new
 
   -- the new row belongs in the place of the row that stands there
   pub record Replaces (new : R) (rows : List R) (place : ℕ) : Type 0 where

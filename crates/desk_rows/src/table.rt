@@ -80,10 +80,11 @@ impl<R: Keyed> Table<R> {
         Ok(())
     }
 
-    /// Puts in each of the rows, one after the other, or none of them.
+    /// Puts in each of the rows, one after the other, or none of them. No rows take no memory.
     pub fn put_all(&mut self, more: Vec<R>) -> Result<(), OutOfMemory>
         ensures ok { OnOk result (self.new ≡ with_rows R.key R.Key.cmp more.items self.old) }
         ensures err { OnErr result (self.new ≡ self.old) }
+        ensures nothing { more.items ≡ [] → IsOk result }
     {
         self.rows.reserve(more.len())?;
         for row in more {
@@ -103,9 +104,10 @@ impl<R: Keyed> Table<R> {
         }
     }
 
-    /// The same table once more.
+    /// The same table once more. Of an empty table that takes no memory.
     pub fn copied(&self, alloc: Global) -> Result<Table<R>, OutOfMemory>
-        ensures { IfOk result (λ table. table ≡ self.now) }
+        ensures copy { IfOk result (λ table. table ≡ self.now) }
+        ensures nothing { self.now ≡ [] → IsOk result }
     {
         let mut rows = Vec::with_capacity(alloc, self.rows.len())?;
         for row in self.rows.as_slice() {

@@ -1,4 +1,4 @@
-use crate::{Keyed, Table};
+use crate::{Keyed, Table, place_of_key, place_of_row};
 use desk_text::OutOfMemory;
 use std::alloc::Global;
 use std::cmp::Ordering;
@@ -103,5 +103,37 @@ fn a_copy_has_the_same_rows(rt: HostRuntime) -> Result<(), Fail> {
     let table = three_prices(alloc)?;
     let copy = table.copied(alloc)?;
     assert_eq!(rt; copy.as_slice(), table.as_slice());
+    Ok(())
+}
+
+#[test]
+fn an_empty_table_takes_a_row_and_gives_it_back(rt: HostRuntime) -> Result<(), Fail> {
+    let alloc = rt.alloc();
+    let mut table = Table::new(alloc);
+    assert_eq!(rt; table.take(&4), None);
+    assert_eq!(rt; table.len_with(&cost(4, 40)), 1);
+    table.put_all(Vec::new(alloc))?;
+    assert!(rt; table.copied(alloc)?.as_slice().is_empty());
+    table.put(cost(4, 40))?;
+    assert_eq!(rt; table.take(&4), Some(cost(4, 40)));
+    assert!(rt; table.get(&4).is_none());
+    assert!(rt; table.as_slice().is_empty());
+    Ok(())
+}
+
+#[test]
+fn a_search_tells_where_a_row_stands_or_would_go(rt: HostRuntime) -> Result<(), Fail> {
+    let table = three_prices(rt.alloc())?;
+    let rows = table.as_slice();
+    for (item, place) in [
+        (1, Err(0)),
+        (2, Ok(0)),
+        (3, Err(1)),
+        (6, Ok(2)),
+        (7, Err(3)),
+    ] {
+        assert_eq!(rt; place_of_key(rows, &item), place, "key {item}");
+        assert_eq!(rt; place_of_row(rows, &cost(item, 1)), place, "row {item}");
+    }
     Ok(())
 }

@@ -1,5 +1,5 @@
 use Rattle.std.proofs.Common.{sym}
-use Rattle.desk_law.specs.KindMarks.{has_kind-marked_kinds, set_of-marked_kinds}
+use Rattle.desk_law.proofs.KindMarks.{has_kind-marked_kinds, set_of-marked_kinds}
 use Rattle.desk_law.proofs.kind_set.KindSet.contains.Goals as goal
 
 pub returns-clause-value : goal.returns-clause-value

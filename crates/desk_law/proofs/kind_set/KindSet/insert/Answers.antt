@@ -1,7 +1,7 @@
 use Rattle.std.proofs.Common.{sym, ap, arith, ◌<◌, length}
 use Rattle.std.specs.Prelude.{not}
 use Rattle.desk_law.specs.Kind.{kind_place}
-use Rattle.desk_law.specs.KindMarks.{has_kind-marked_kinds, marked_kinds-set}
+use Rattle.desk_law.proofs.KindMarks.{has_kind-marked_kinds, marked_kinds-set}
 use Rattle.desk_law.proofs.kind_set.KindSet.insert.Goals as goal
 
 pub returns-clause-new : goal.returns-clause-new

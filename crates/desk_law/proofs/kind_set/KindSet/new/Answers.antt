@@ -1,4 +1,4 @@
-use Rattle.desk_law.specs.KindMarks.{marked_kinds-none}
+use Rattle.desk_law.proofs.KindMarks.{marked_kinds-none}
 use Rattle.desk_law.proofs.kind_set.KindSet.new.Goals as goal
 
 pub returns : goal.returns

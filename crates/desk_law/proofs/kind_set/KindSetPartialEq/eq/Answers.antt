@@ -1,5 +1,5 @@
 use Rattle.std.proofs.Common.{rules}
-use Rattle.desk_law.specs.KindMarks.{pointwise-marks}
+use Rattle.desk_law.proofs.KindMarks.{pointwise-marks}
 use Rattle.desk_law.proofs.kind_set.KindSetPartialEq.eq.Goals as goal
 
 pub returns : goal.returns
