@@ -71,6 +71,7 @@ IsTakenFrom_later buffer more r x =
       used = omega (arith, x.used, length-append buffer more);
       target = x.target;
       body = x.body;
+      ends = x.ends;
       begins = rw (same_message buffer more r x, drop-append-le r.used buffer more x.used)
           (BeginsWith_later buffer (drop r.used buffer) more (message_of buffer r) x.begins);
     }

@@ -59,6 +59,7 @@ taken_from buffer found n h after reads lines is known whole =
       used = whole;
       target = (is.within.0, omega (arith, is.within.1));
       body = (omega arith, omega arith);
+      ends = refl;
       begins = record {
         h = h;
         head = record {

@@ -1,6 +1,7 @@
 -- A stream has one list of requests, and a reader takes these from it.
 use Rattle.std.proofs.Common.{◌≡◌, ◌≢◌, ℕ, ◌+◌, ◌<◌, ◌⊎◌, Bool, true, false, ◌||◌, cond, ltb, List, [], ◌∷◌, ◌++◌, length, refl, sym, ap, ◌∙◌, subst, inl, inr, arith, rules, append_assoc, length-append}
 use Rattle.std.specs.Prelude.{MatchBool, IsTrue, codes}
+use Rattle.std.specs.List.{flat_map}
 use Rattle.std.proofs.lemmas.Bool.{cond-true, cond-false, lt-ltb, le-ltb}
 use Rattle.std.proofs.lemmas.List.{append-nil}
 use Rattle.std.proofs.lemmas.List.Elements.{All-nil, All-from_recursion}
@@ -16,7 +17,7 @@ use Rattle.desk_http.specs.Stream as stream
 use Rattle.desk_http.specs.Stream.{End, EndsAs, IsStream, HasRequests, may_count_as, IsSameEnd, is_refusal, is_over}
 use Rattle.desk_http.specs.Taken as answers
 use Rattle.desk_http.specs.Taken.{Answer, Takes, answer_of}
-use Rattle.desk_http.specs.Reader.{Event, came, took, bytes_of, requests_of, Reads, IsReadAs}
+use Rattle.desk_http.specs.Reader.{Event, came, took, bytes_of, pieces_of, requests_of, Reads, IsReadAs}
 use Rattle.desk_http.proofs.AnswerLemmas.{head_answer, headed, answer_whole, in_doubt, no_head, same_request}
 use Rattle.desk_http.proofs.HeadLemmas.{print_request_len}
 use Rattle.desk_http.proofs.LaterLemmas.{HasHeadWith_later, BeginsWith_later, IsHopeless_later, IsTooLong_later}
@@ -242,3 +243,59 @@ pub read_stream : (bytes : List ℕ) (events : List Event) (end : End) → IsRea
 read_stream bytes events end x =
     subst (λ l. IsStream l (requests_of events) end) x.bytes
     (unread_behind events x.unread end x.whole (read_held [] events end x.reads))
+
+-- a reader that waits for all pieces, and then takes all requests
+abbrev taking : List Message → List Event
+taking [] = []
+taking (m ∷ ms) = took m ∷ taking ms
+
+abbrev waiting : List (List ℕ) → List Event → List Event
+waiting [] events = events
+waiting (piece ∷ pieces) events = came piece ∷ waiting pieces events
+
+abbrev whole : List (List ℕ) → List ℕ
+whole pieces = flat_map (λ piece. piece) pieces
+
+taking_bytes : (ms : List Message) → bytes_of (taking ms) ≡ []
+taking_bytes [] = refl
+taking_bytes (m ∷ ms) = taking_bytes ms
+
+taking_pieces : (ms : List Message) → pieces_of (taking ms) ≡ []
+taking_pieces [] = refl
+taking_pieces (m ∷ ms) = taking_pieces ms
+
+waiting_bytes : (pieces : List (List ℕ)) (ms : List Message) → bytes_of (waiting pieces (taking ms)) ≡ whole pieces
+waiting_bytes [] ms = taking_bytes ms
+waiting_bytes (piece ∷ pieces) ms = ap (λ l. piece ++ l) (waiting_bytes pieces ms)
+
+waiting_pieces : (pieces : List (List ℕ)) (ms : List Message) → pieces_of (waiting pieces (taking ms)) ≡ pieces
+waiting_pieces [] ms = taking_pieces ms
+waiting_pieces (piece ∷ pieces) ms = ap (λ l. piece ∷ l) (waiting_pieces pieces ms)
+
+taken_behind : (rest : List ℕ) (ms : List Message) (e : End) (close : Bool) → (IsStream rest ms e → Reads rest (taking ms) e)
+    → MatchBool close ((ms ≡ []) × (e ≡ stream.clean)) (IsStream rest ms e)
+    → MatchBool close ((taking ms ≡ []) × (e ≡ stream.clean)) (Reads rest (taking ms) e)
+taken_behind rest ms e true goes x = (ap taking x.0, x.1)
+taken_behind rest ms e false goes x = goes x
+
+taken_in_turn : (bytes : List ℕ) (ms : List Message) (e : End) → IsStream bytes ms e → Reads bytes (taking ms) e
+taken_in_turn bytes [] e x = x
+taken_in_turn bytes (m ∷ ms) e x = (x.0, x.1, taken_behind x.0 ms e m.close (taken_in_turn x.0 ms e) x.2)
+
+waited : (held : List ℕ) (pieces : List (List ℕ)) (events : List Event) (e : End) → Reads (held ++ whole pieces) events e
+    → Reads held (waiting pieces events) e
+waited held [] events e x = rw append-nil at x
+waited held (piece ∷ pieces) events e x = waited (held ++ piece) pieces events e (rw append_assoc x)
+
+pub read_in_pieces : (pieces : List (List ℕ)) (ms : List Message) (e : End) → IsStream (whole pieces) ms e
+    → (events : List Event) × (pieces_of events ≡ pieces) × IsReadAs (whole pieces) events e
+read_in_pieces pieces ms e x = (
+  waiting pieces (taking ms),
+  waiting_pieces pieces ms,
+  record {
+    unread = [];
+    bytes = append-nil (bytes_of (waiting pieces (taking ms))) ∙ waiting_bytes pieces ms;
+    reads = waited [] pieces (taking ms) e (taken_in_turn (whole pieces) ms e x);
+    whole = inl refl;
+  },
+)

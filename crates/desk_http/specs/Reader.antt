@@ -14,6 +14,12 @@ bytes_of [] = []
 bytes_of (came piece ∷ events) = piece ++ bytes_of events
 bytes_of (took m ∷ events) = bytes_of events
 
+-- the pieces that came, in order
+abbrev pub pieces_of : List Event → List (List ℕ)
+pieces_of [] = []
+pieces_of (came piece ∷ events) = piece ∷ pieces_of events
+pieces_of (took m ∷ events) = pieces_of events
+
 -- the requests that were taken, in order
 abbrev pub requests_of : List Event → List Message
 requests_of [] = []

@@ -1,11 +1,12 @@
 //! What holds of requests and streams whatever they are. Each function is called for its clause alone.
 
 ghost use Rattle.std.specs.Prelude.{◌≡◌, ◌≢◌, ℕ, ◌+◌, ◌<◌, ◌≤◌, ◌⊎◌, false, List, [], ◌++◌, length, IsTrue, IfSome, IfNone};
+ghost use Rattle.std.specs.List.{flat_map};
 ghost use Rattle.httparse.specs.Grammar.{RequestHead, IsRequestHead, print_request};
 ghost use Rattle.desk_http.specs.Limits.{head_limit, body_limit};
 ghost use Rattle.desk_http.specs.declared.request.Request.{Request};
 ghost use Rattle.desk_http.specs.declared.taken.Taken.{Taken};
-ghost use Rattle.desk_http.specs.Reader.{Event, requests_of, IsReadAs};
+ghost use Rattle.desk_http.specs.Reader.{Event, pieces_of, requests_of, IsReadAs};
 ghost use Rattle.desk_http.specs.Rest.{Message, BeginsWith, IsInDoubt};
 ghost use Rattle.desk_http.specs.Stream.{End, IsStream, HasRequests, IsSameEnd};
 ghost use Rattle.desk_http.specs.Taken.{Takes, answer_of, may_replace};
@@ -69,10 +70,13 @@ fn behind_request(bytes: &[u8]) -> Option<&[u8]>
     }
 }
 
-/// The requests of a stream are the same however it is read: a stream has one list of requests, and a
-/// reader takes these, in whatever pieces the stream comes to it, and however much it leaves unread
-/// behind the stream's end.
+/// The requests of a stream are the same however it is read: it can be read in any pieces, it has one
+/// list of requests, and a reader takes these, in whatever pieces the stream comes to it, and however
+/// much it leaves unread behind the stream's end.
 pub fn pieces_make_no_difference()
+    ensures any { (pieces : List (List ℕ)) (ms : List Message) (end : End)
+        → IsStream (flat_map (λ piece. piece) pieces) ms end → (events : List Event)
+        × (pieces_of events ≡ pieces) × IsReadAs (flat_map (λ piece. piece) pieces) events end }
     ensures one { (bytes : List ℕ) (ms ns : List Message) (e f : End) → IsStream bytes ms e
         → IsStream bytes ns f → (ms ≡ ns) × IsSameEnd bytes ms e f }
     ensures read { (bytes : List ℕ) (events : List Event) (end : End) → IsReadAs bytes events end

@@ -1,6 +1,9 @@
 use Rattle.desk_http.specs.Reader.{requests_of}
-use Rattle.desk_http.proofs.StreamLemmas.{same_stream, read_stream}
+use Rattle.desk_http.proofs.StreamLemmas.{same_stream, read_stream, read_in_pieces}
 use Rattle.desk_http.proofs.laws.pieces_make_no_difference.Goals as goal
+
+pub returns-clause-any : goal.returns-clause-any
+returns-clause-any c = read_in_pieces
 
 pub returns-clause-one : goal.returns-clause-one
 returns-clause-one c = same_stream
