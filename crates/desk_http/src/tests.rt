@@ -2,7 +2,7 @@ ghost use Rattle.std.specs.Prelude.{◌≢◌, IsTrue};
 ghost use Rattle.desk_http.specs.Reply.{allow_of, fits_status, is_reply_status};
 
 use super::*;
-use desk_text::{Bytes, OutOfMemory};
+use desk_text::Bytes;
 use http::StatusCode;
 use std::alloc::{AllocError, Global};
 use std::test::Fail;
@@ -243,70 +243,80 @@ fn replies_are_written_so(rt: HostRuntime) -> Result<(), Fail> {
     Ok(())
 }
 
-/// The reply with this status to a body of two bytes.
-fn written(
+/// Whether the reply with this status has this first line, and these lines behind its length.
+fn is_written_so(
     alloc: Global,
     status: StatusCode,
     allow: Option<Method>,
     close: bool,
-) -> Result<Bytes, OutOfMemory>
+    first: &str,
+    lines: &str,
+) -> Result<bool, Fail>
     requires status { IsTrue (is_reply_status status) }
     requires allow { IsTrue (fits_status status allow) }
 {
     let mut out = Bytes::start(alloc);
     write_reply(alloc, status, b"x\n", allow, close, &mut out)?;
-    Ok(out)
+    let wanted = format!(in alloc;
+        "HTTP/1.1 {first}\r\nContent-Type: text/plain; charset=utf-8\r\nContent-Length: 2\r\n{lines}\r\nx\n"
+    )?;
+    Ok(out.as_slice() == wanted.as_bytes())
 }
+
+const CLOSE: &str = "Connection: close\r\n";
 
 #[rattlefmt::skip]
 #[test]
 fn each_status_has_its_phrase(rt: HostRuntime) -> Result<(), Fail> {
     let alloc = rt.alloc();
-    let rows = [
-        (written(alloc, StatusCode::OK, None, true)?, "200 OK", "Connection: close\r\n"),
-        (written(alloc, StatusCode::BAD_REQUEST, None, false)?, "400 Bad Request", ""),
-        (written(alloc, StatusCode::NOT_FOUND, None, false)?, "404 Not Found", ""),
-        (written(alloc, StatusCode::METHOD_NOT_ALLOWED, Some(GET), false)?, "405 Method Not Allowed", "Allow: GET\r\n"),
-        (written(alloc, StatusCode::CONFLICT, None, false)?, "409 Conflict", ""),
-        (written(alloc, StatusCode::LENGTH_REQUIRED, None, true)?, "411 Length Required", "Connection: close\r\n"),
-        (written(alloc, StatusCode::PAYLOAD_TOO_LARGE, None, true)?, "413 Payload Too Large", "Connection: close\r\n"),
-        (written(alloc, StatusCode::REQUEST_HEADER_FIELDS_TOO_LARGE, None, true)?, "431 Request Header Fields Too Large", "Connection: close\r\n"),
-        (written(alloc, StatusCode::SERVICE_UNAVAILABLE, None, false)?, "503 Service Unavailable", ""),
-        (written(alloc, StatusCode::INSUFFICIENT_STORAGE, None, false)?, "507 Insufficient Storage", ""),
-    ];
-    for (reply, status, lines) in &rows {
-        let wanted = format!(in alloc; "HTTP/1.1 {status}\r\nContent-Type: text/plain; charset=utf-8\r\nContent-Length: 2\r\n{lines}\r\nx\n")?;
-        assert_eq!(rt; reply.as_slice(), wanted.as_bytes());
-    }
+    assert!(rt; is_written_so(alloc, StatusCode::OK, None, true, "200 OK", CLOSE)?);
+    assert!(rt; is_written_so(alloc, StatusCode::BAD_REQUEST, None, false, "400 Bad Request", "")?);
+    assert!(rt; is_written_so(alloc, StatusCode::NOT_FOUND, None, false, "404 Not Found", "")?);
+    assert!(rt; is_written_so(alloc, StatusCode::METHOD_NOT_ALLOWED, Some(GET), false, "405 Method Not Allowed", "Allow: GET\r\n")?);
+    assert!(rt; is_written_so(alloc, StatusCode::CONFLICT, None, false, "409 Conflict", "")?);
+    assert!(rt; is_written_so(alloc, StatusCode::LENGTH_REQUIRED, None, true, "411 Length Required", CLOSE)?);
+    assert!(rt; is_written_so(alloc, StatusCode::PAYLOAD_TOO_LARGE, None, true, "413 Payload Too Large", CLOSE)?);
+    assert!(rt; is_written_so(alloc, StatusCode::REQUEST_HEADER_FIELDS_TOO_LARGE, None, true, "431 Request Header Fields Too Large", CLOSE)?);
+    assert!(rt; is_written_so(alloc, StatusCode::SERVICE_UNAVAILABLE, None, false, "503 Service Unavailable", "")?);
+    assert!(rt; is_written_so(alloc, StatusCode::INSUFFICIENT_STORAGE, None, false, "507 Insufficient Storage", "")?);
     Ok(())
 }
 
-/// A fixed reply that leaves the connection open, and the same that ends it.
-fn both(reply: Fixed) -> [&'static [u8]; 2]
+/// Whether the fixed reply has this first line, length and body, with and without the line that closes.
+fn is_fixed_so(
+    alloc: Global,
+    reply: Fixed,
+    first: &str,
+    length: usize,
+    allow: &str,
+    word: &str,
+) -> Result<bool, Fail>
     requires { allow_of reply ≢ Some Method.Other }
 {
-    [fixed_reply(reply, false), fixed_reply(reply, true)]
+    let stays = format!(in alloc;
+        "HTTP/1.1 {first}\r\nContent-Type: text/plain; charset=utf-8\r\nContent-Length: {length}\r\n{allow}\r\n{word}\n"
+    )?;
+    let closes = format!(in alloc;
+        "HTTP/1.1 {first}\r\nContent-Type: text/plain; charset=utf-8\r\nContent-Length: {length}\r\n{allow}Connection: close\r\n\r\n{word}\n"
+    )?;
+    Ok(
+        fixed_reply(reply, false) == stays.as_bytes()
+            && fixed_reply(reply, true) == closes.as_bytes(),
+    )
 }
 
 #[rattlefmt::skip]
 #[test]
 fn fixed_replies_are_so(rt: HostRuntime) -> Result<(), Fail> {
-    let rows = [
-        (both(Fixed::BadHead), "400 Bad Request", 9, "", "bad-head"),
-        (both(Fixed::LengthRequired), "411 Length Required", 16, "", "length-required"),
-        (both(Fixed::BodyTooLong), "413 Payload Too Large", 14, "", "body-too-long"),
-        (both(Fixed::HeadTooLong), "431 Request Header Fields Too Large", 14, "", "head-too-long"),
-        (both(Fixed::NoRoute), "404 Not Found", 9, "", "no-route"),
-        (both(Fixed::WrongMethod { allow: GET }), "405 Method Not Allowed", 13, "Allow: GET\r\n", "wrong-method"),
-        (both(Fixed::WrongMethod { allow: POST }), "405 Method Not Allowed", 13, "Allow: POST\r\n", "wrong-method"),
-        (both(Fixed::StoreFault), "503 Service Unavailable", 12, "", "store-fault"),
-        (both(Fixed::Memory), "507 Insufficient Storage", 7, "", "memory"),
-    ];
-    for ([open, closing], status, length, allow, word) in rows {
-        for (reply, close) in [(open, ""), (closing, "Connection: close\r\n")] {
-            let wanted = format!(in rt.alloc(); "HTTP/1.1 {status}\r\nContent-Type: text/plain; charset=utf-8\r\nContent-Length: {length}\r\n{allow}{close}\r\n{word}\n")?;
-            assert_eq!(rt; reply, wanted.as_bytes());
-        }
-    }
+    let alloc = rt.alloc();
+    assert!(rt; is_fixed_so(alloc, Fixed::BadHead, "400 Bad Request", 9, "", "bad-head")?);
+    assert!(rt; is_fixed_so(alloc, Fixed::LengthRequired, "411 Length Required", 16, "", "length-required")?);
+    assert!(rt; is_fixed_so(alloc, Fixed::BodyTooLong, "413 Payload Too Large", 14, "", "body-too-long")?);
+    assert!(rt; is_fixed_so(alloc, Fixed::HeadTooLong, "431 Request Header Fields Too Large", 14, "", "head-too-long")?);
+    assert!(rt; is_fixed_so(alloc, Fixed::NoRoute, "404 Not Found", 9, "", "no-route")?);
+    assert!(rt; is_fixed_so(alloc, Fixed::WrongMethod { allow: GET }, "405 Method Not Allowed", 13, "Allow: GET\r\n", "wrong-method")?);
+    assert!(rt; is_fixed_so(alloc, Fixed::WrongMethod { allow: POST }, "405 Method Not Allowed", 13, "Allow: POST\r\n", "wrong-method")?);
+    assert!(rt; is_fixed_so(alloc, Fixed::StoreFault, "503 Service Unavailable", 12, "", "store-fault")?);
+    assert!(rt; is_fixed_so(alloc, Fixed::Memory, "507 Insufficient Storage", 7, "", "memory")?);
     Ok(())
 }
