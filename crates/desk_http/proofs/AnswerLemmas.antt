@@ -1,12 +1,12 @@
 -- A rest has one answer, and at most one request at its front.
 use Rattle.std.proofs.Common.{◌≡◌, ℕ, ◌+◌, ◌-◌, ◌<◌, ◌≤◌, ◌⊎◌, Bool, true, false, cond, ltb, leb, Option, Some, None, List, [], ◌++◌, length, take, drop, refl, sym, ap, ◌∙◌, inl, inr, arith, append_assoc, length-append, length-drop}
-use Rattle.std.specs.Prelude.{slice_range, codes}
+use Rattle.std.specs.Prelude.{IsTrue, slice_range, codes}
 use Rattle.std.specs.List.{list_any}
 use Rattle.std.proofs.lemmas.Bool.{cond-true, cond-false, lt-ltb, le-ltb, leb-true}
 use Rattle.std.proofs.lemmas.List.{take_at, drop_at}
-use Rattle.httparse.specs.Grammar.{RequestHead, print_request, EndsInTarget}
+use Rattle.httparse.specs.Grammar.{RequestHead, print_request}
 use Rattle.httparse.proofs.GrammarLemmas.{ReadsRequest-append, request_unique}
-use Rattle.desk_http.specs.declared.limits.TheConstants.{HEAD_BYTES, HEAD_LINES, BODY_BYTES}
+use Rattle.desk_http.specs.Limits.{head_limit, line_limit, body_limit}
 use Rattle.desk_http.specs.declared.method.Method.{Method}
 use Rattle.desk_http.specs.declared.lines.BodyLength.{BodyLength}
 use Rattle.desk_http.specs.declared.lines.BodyLength.TheVariants.{Missing, TooLong, Known}
@@ -14,8 +14,8 @@ use Rattle.desk_http.specs.declared.request.Request.{Request}
 use Rattle.desk_http.specs.declared.taken.Taken.{Taken}
 use Rattle.desk_http.specs.declared.taken.Taken.TheVariants.{Whole, NotYet, BadHead, HeadTooLong, NoLength, BodyTooLong}
 use Rattle.desk_http.specs.Lines.{Line, lines_of, is_named, values_of, stated_length, bounded_length, method_of, body_length, is_closing}
-use Rattle.desk_http.specs.Rest.{front, HasHead, HasHeadWith, IsHopeless, IsUnfinished, Message, BeginsWith}
-use Rattle.desk_http.specs.Taken.{message_of, IsTakenFrom, Takes, Answer, whole, not_yet, bad_head, head_too_long, no_length, body_too_long, answer_of}
+use Rattle.desk_http.specs.Rest.{front, HasHead, HasHeadWith, IsHopeless, IsUnfinished, IsInDoubt, IsNotYet, Message, BeginsWith}
+use Rattle.desk_http.specs.Taken.{message_of, IsTakenFrom, Takes, Answer, whole, not_yet, bad_head, head_too_long, no_length, body_too_long, answer_of, may_replace}
 use Rattle.desk_http.proofs.HeadLemmas.{print_request_len}
 use Rattle.desk_http.proofs.RestLemmas.{head_begins}
 
@@ -82,7 +82,7 @@ body_answer rest h (Known n) =
 
 abbrev pub head_answer : List ℕ → RequestHead → Answer
 head_answer rest h =
-    cond (ltb HEAD_LINES (length h.fields)) head_too_long
+    cond (ltb line_limit (length h.fields)) head_too_long
     (body_answer rest h (body_length (method_of h.method) (lines_of h)))
 
 answer_with : (rest : List ℕ) (h : RequestHead) (body : BodyLength) → HasHeadWith rest h body → head_answer rest h ≡ body_answer rest h body
@@ -123,19 +123,19 @@ headed rest h NoLength at x = sym (answer_with rest x.0 _ x.1) ∙ ap (head_answ
 headed rest h BodyTooLong at x = sym (answer_with rest x.0 _ x.1) ∙ ap (head_answer rest) (same_head rest x.0 h x.1.head at)
 
 -- a rest that is hopeless is unfinished too only where it ends inside its target
-pub ends_in_target : (rest : List ℕ) → IsHopeless rest → IsUnfinished rest → EndsInTarget (front rest)
-ends_in_target rest never (none, inl x) = absurd (never x.0 x.1 [] x.2)
-ends_in_target rest never (none, inr target) = target
+pub in_doubt : (rest : List ℕ) → IsHopeless rest → IsUnfinished rest → IsInDoubt rest
+in_doubt rest never (none, inl x) = absurd (never x.0 x.1 [] x.2)
+in_doubt rest never (none, inr target) = (never, target)
 
 abbrev open_answer : List ℕ → Answer
-open_answer rest = cond (ltb (length rest) HEAD_BYTES) not_yet head_too_long
+open_answer rest = cond (ltb (length rest) head_limit) not_yet head_too_long
 
-pub unfinished : (rest : List ℕ) (taken : Taken) → IsUnfinished rest → Takes rest taken
-    → (answer_of rest taken ≡ open_answer rest) ⊎ EndsInTarget (front rest)
+unfinished : (rest : List ℕ) (taken : Taken) → IsUnfinished rest → Takes rest taken
+    → (answer_of rest taken ≡ open_answer rest) ⊎ ((taken ≡ BadHead) × IsInDoubt rest)
 unfinished rest (Whole r) unread x = absurd (unread.0 x.begins.h x.begins.head.head.0 x.begins.head.head.1)
 unfinished rest NotYet unread (inl x) = inl (sym (cond-true _ _ _ (lt-ltb _ _ x.0)))
 unfinished rest NotYet unread (inr x) = absurd (unread.0 x.0 x.2.head.0 x.2.head.1)
-unfinished rest BadHead unread never = inr (ends_in_target rest never unread)
+unfinished rest BadHead unread never = inr (refl, in_doubt rest never unread)
 unfinished rest HeadTooLong unread (inl x) = inl (sym (cond-false _ _ _ (le-ltb _ _ x.0)))
 unfinished rest HeadTooLong unread (inr x) = absurd (unread.0 x.0 x.1.0 x.1.1)
 unfinished rest NoLength unread x = absurd (unread.0 x.0 x.1.head.0 x.1.head.1)
@@ -144,32 +144,36 @@ unfinished rest BodyTooLong unread x = absurd (unread.0 x.0 x.1.head.0 x.1.head.
 pub no_head : (rest : List ℕ) (h : RequestHead) → IsHopeless rest → HasHead rest h → ⊥
 no_head rest h never x = never [] h _ (ReadsRequest-append (front rest) h x.0 [] x.1)
 
-pub hopeless : (rest : List ℕ) (taken : Taken) → IsHopeless rest → Takes rest taken
-    → (answer_of rest taken ≡ bad_head) ⊎ EndsInTarget (front rest)
+hopeless : (rest : List ℕ) (taken : Taken) → IsHopeless rest → Takes rest taken
+    → (bad_head ≡ answer_of rest taken) ⊎ (IsInDoubt rest × IsTrue (may_replace BadHead taken))
 hopeless rest (Whole r) never x = absurd (no_head rest x.begins.h never x.begins.head.head)
-hopeless rest NotYet never (inl x) = inr (ends_in_target rest never x.1)
+hopeless rest NotYet never (inl x) = inr (in_doubt rest never x.1, refl)
 hopeless rest NotYet never (inr x) = absurd (no_head rest x.0 never x.2.head)
 hopeless rest BadHead never x = inl refl
-hopeless rest HeadTooLong never (inl x) = inr (ends_in_target rest never x.1)
+hopeless rest HeadTooLong never (inl x) = inr (in_doubt rest never x.1, refl)
 hopeless rest HeadTooLong never (inr x) = absurd (no_head rest x.0 never x.1)
 hopeless rest NoLength never x = absurd (no_head rest x.0 never x.1.head)
 hopeless rest BodyTooLong never x = absurd (no_head rest x.0 never x.1.head)
 
-both : {E : Type 0} (a b c : Answer) → (a ≡ c) ⊎ E → (b ≡ c) ⊎ E → (a ≡ b) ⊎ E
-both a b c (inl x) (inl y) = inl (x ∙ sym y)
-both a b c (inl x) (inr e) = inr e
-both a b c (inr e) y = inr e
+abbrev IsSameAnswer : List ℕ → Taken → Taken → Type 0
+IsSameAnswer rest taken other =
+    (answer_of rest taken ≡ answer_of rest other) ⊎ (IsInDoubt rest × IsTrue (may_replace taken other))
 
-pub same_answer : (rest : List ℕ) (taken other : Taken) → Takes rest taken → Takes rest other
-    → (answer_of rest taken ≡ answer_of rest other) ⊎ EndsInTarget (front rest)
+-- an answer of an unfinished head, beside any other
+beside : (rest : List ℕ) (taken other : Taken) → IsTrue (may_replace taken BadHead) → answer_of rest taken ≡ open_answer rest
+    → (answer_of rest other ≡ open_answer rest) ⊎ ((other ≡ BadHead) × IsInDoubt rest) → IsSameAnswer rest taken other
+beside rest taken other may is (inl x) = inl (is ∙ sym x)
+beside rest taken other may is (inr x) = inr (x.1, rw x.0 may)
+
+pub same_answer : (rest : List ℕ) (taken other : Taken) → Takes rest taken → Takes rest other → IsSameAnswer rest taken other
 same_answer rest (Whole r) other x y =
     let at = x.begins.head.head in inl (headed rest x.begins.h (Whole r) at x ∙ sym (headed rest x.begins.h other at y))
 same_answer rest NotYet other (inl x) y =
-    both not_yet (answer_of rest other) (open_answer rest) (unfinished rest NotYet x.1 (inl x)) (unfinished rest other x.1 y)
+    beside rest NotYet other refl (sym (cond-true _ _ _ (lt-ltb _ _ x.0))) (unfinished rest other x.1 y)
 same_answer rest NotYet other (inr x) y = inl (headed rest x.0 NotYet x.2.head (inr x) ∙ sym (headed rest x.0 other x.2.head y))
-same_answer rest BadHead other x y = both bad_head (answer_of rest other) bad_head (inl refl) (hopeless rest other x y)
+same_answer rest BadHead other x y = hopeless rest other x y
 same_answer rest HeadTooLong other (inl x) y =
-    both head_too_long (answer_of rest other) (open_answer rest) (unfinished rest HeadTooLong x.1 (inl x)) (unfinished rest other x.1 y)
+    beside rest HeadTooLong other refl (sym (cond-false _ _ _ (le-ltb _ _ x.0))) (unfinished rest other x.1 y)
 same_answer rest HeadTooLong other (inr x) y = inl (headed rest x.0 HeadTooLong x.1 (inr x) ∙ sym (headed rest x.0 other x.1 y))
 same_answer rest NoLength other x y = inl (headed rest x.0 NoLength x.1.head x ∙ sym (headed rest x.0 other x.1.head y))
 same_answer rest BodyTooLong other x y = inl (headed rest x.0 BodyTooLong x.1.head x ∙ sym (headed rest x.0 other x.1.head y))
@@ -180,14 +184,14 @@ chosen : {A : Type 0} (b : Bool) (x y z : A) → cond b x y ≡ z → ((b ≡ tr
 chosen true x y z e = inl (refl, e)
 chosen false x y z e = inr (refl, e)
 
-bounded : (stated : Option ℕ) (n : ℕ) → bounded_length stated ≡ Known n → n ≤ BODY_BYTES
+bounded : (stated : Option ℕ) (n : ℕ) → bounded_length stated ≡ Known n → n ≤ body_limit
 bounded None n e = cc
-bounded (Some k) n e = elim (chosen (leb k BODY_BYTES) (Known k) TooLong (Known n) e) [
-  | inl x ↦ let same = ap known_length x.1 in let le = leb-true k BODY_BYTES x.0 in omega (arith, same, le)
+bounded (Some k) n e = elim (chosen (leb k body_limit) (Known k) TooLong (Known n) e) [
+  | inl x ↦ let same = ap known_length x.1 in let le = leb-true k body_limit x.0 in omega (arith, same, le)
   | inr x ↦ cc
 ]
 
-body_bound : (method : Method) (lines : List Line) (n : ℕ) → body_length method lines ≡ Known n → n ≤ BODY_BYTES
+body_bound : (method : Method) (lines : List Line) (n : ℕ) → body_length method lines ≡ Known n → n ≤ body_limit
 body_bound method lines n e =
     let stated = stated_length method (values_of (codes "content-length") lines) in
     elim (chosen (list_any (is_named (codes "transfer-encoding")) lines) Missing (bounded_length stated) (Known n) e) [
@@ -195,7 +199,7 @@ body_bound method lines n e =
       | inr x ↦ bounded stated n x.1
     ]
 
-pub request_len : (rest : List ℕ) (r : Request) → IsTakenFrom rest r → (0 < r.used) × (r.used ≤ HEAD_BYTES + BODY_BYTES)
+pub request_len : (rest : List ℕ) (r : Request) → IsTakenFrom rest r → (0 < r.used) × (r.used ≤ head_limit + body_limit)
 request_len rest r x =
     let b = x.begins in
     let head = head_begins rest b.h b.head.head.0 b.head.head.1 in
@@ -203,3 +207,11 @@ request_len rest r x =
     let some = print_request_len b.h b.head.head.1.0.fields in
     let used = used_is rest r x in
     (omega (arith, some, used), omega (arith, head.bound, body, used))
+
+-- a head and a body of the longest aren't all there
+pub not_yet_len : (rest : List ℕ) → IsNotYet rest → length rest < head_limit + body_limit
+not_yet_len rest (inl x) = omega (arith, x.0)
+not_yet_len rest (inr x) =
+    let head = head_begins rest x.0 x.2.head.0 x.2.head.1 in
+    let body = body_bound (method_of x.0.method) (lines_of x.0) x.1 x.2.body_length in
+    omega (arith, head.bound, body, x.3)

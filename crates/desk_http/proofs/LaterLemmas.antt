@@ -5,7 +5,7 @@ use Rattle.std.proofs.lemmas.List.{append-nil, take_all, take-append-le, drop-ap
 use Rattle.std.proofs.Math.Seq.{take-append-add}
 use Rattle.httparse.specs.Grammar.{RequestHead, print_request}
 use Rattle.httparse.proofs.GrammarLemmas.{ReadsRequest-append}
-use Rattle.desk_http.specs.declared.limits.TheConstants.{HEAD_BYTES}
+use Rattle.desk_http.specs.Limits.{head_limit}
 use Rattle.desk_http.specs.declared.lines.BodyLength.{BodyLength}
 use Rattle.desk_http.specs.declared.request.Request.{Request}
 use Rattle.desk_http.specs.declared.taken.Taken.{Taken}
@@ -16,19 +16,19 @@ use Rattle.desk_http.proofs.RestLemmas.{slice_range-append}
 
 -- the front of a longer rest begins with that of the rest, and is the same where that is full
 front_later : (rest more : List ℕ) → (extra : List ℕ) × (front (rest ++ more) ≡ front rest ++ extra)
-front_later rest more = elim (cases_lt (length rest) HEAD_BYTES) [
-  | inr full ↦ ([], take-append-le HEAD_BYTES rest more full ∙ sym (append-nil (front rest)))
+front_later rest more = elim (cases_lt (length rest) head_limit) [
+  | inr full ↦ ([], take-append-le head_limit rest more full ∙ sym (append-nil (front rest)))
   | inl short ↦
-      let n = HEAD_BYTES - length rest in
-      let sum : length rest + n ≡ HEAD_BYTES = omega arith in (
+      let n = head_limit - length rest in
+      let sum : length rest + n ≡ head_limit = omega arith in (
         take n more,
         ap (λ k. take k (rest ++ more)) (sym sum) ∙ take-append-add rest more n
-            ∙ ap (λ l. l ++ take n more) (sym (take_all HEAD_BYTES rest (omega arith))),
+            ∙ ap (λ l. l ++ take n more) (sym (take_all head_limit rest (omega arith))),
       )
 ]
 
-pub full_front_later : (rest more : List ℕ) → HEAD_BYTES ≤ length rest → front (rest ++ more) ≡ front rest
-full_front_later rest more full = take-append-le HEAD_BYTES rest more full
+pub full_front_later : (rest more : List ℕ) → head_limit ≤ length rest → front (rest ++ more) ≡ front rest
+full_front_later rest more full = take-append-le head_limit rest more full
 
 pub HasHead_later : (rest more : List ℕ) (h : RequestHead) → HasHead rest h → HasHead (rest ++ more) h
 HasHead_later rest more h x =
@@ -54,7 +54,7 @@ IsHopeless_later rest more never =
     let f = front_later rest more in
     λ later h after reads. never (f.0 ++ later) h after (rw (← append_assoc (front rest) f.0 later) (rw f.1 at reads))
 
-IsTooLong_later : (rest more : List ℕ) → IsTooLong rest → IsTooLong (rest ++ more)
+pub IsTooLong_later : (rest more : List ℕ) → IsTooLong rest → IsTooLong (rest ++ more)
 IsTooLong_later rest more (inl full) =
     inl (omega (arith, full.0, length-append rest more), rw (full_front_later rest more full.0) full.1)
 IsTooLong_later rest more (inr crowded) = inr (crowded.0, HasHead_later rest more crowded.0 crowded.1, crowded.2)
@@ -71,6 +71,7 @@ IsTakenFrom_later buffer more r x =
       used = omega (arith, x.used, length-append buffer more);
       target = x.target;
       body = x.body;
+      ends = x.ends;
       begins = rw (same_message buffer more r x, drop-append-le r.used buffer more x.used)
           (BeginsWith_later buffer (drop r.used buffer) more (message_of buffer r) x.begins);
     }

@@ -7,7 +7,7 @@ use Rattle.std.proofs.lemmas.Slice.{between_is}
 use Rattle.std.proofs.Math.Seq.{take-append-add}
 use Rattle.httparse.specs.Grammar.{RequestHead, IsRequestHead, print_request, ReadsRequest}
 use Rattle.httparse.proofs.RunLemmas.{length-slice_range}
-use Rattle.desk_http.specs.declared.limits.TheConstants.{HEAD_BYTES, HEAD_LINES}
+use Rattle.desk_http.specs.Limits.{head_limit, line_limit}
 use Rattle.desk_http.specs.declared.lines.BodyLength.TheVariants.{Known}
 use Rattle.desk_http.specs.declared.head.Head.{Head}
 use Rattle.desk_http.specs.Rest.{front, HasHead}
@@ -24,7 +24,7 @@ slice_range-append xs more i j within =
 
 -- the rest begins with the bytes of its head, which lie within the bound
 pub record BeginsWithHead (rest : List ℕ) (h : RequestHead) : Type 0 where
-  pub bound : length (print_request h) ≤ HEAD_BYTES
+  pub bound : length (print_request h) ≤ head_limit
   pub fits : length (print_request h) ≤ length rest
   pub bytes : rest ≡ print_request h ++ drop (length (print_request h)) rest
 
@@ -32,18 +32,18 @@ pub head_begins : (rest : List ℕ) (h : RequestHead) (after : List ℕ) → Rea
 head_begins rest h after reads =
     let n = length (print_request h) in
     let lengths = ap length reads.1 ∙ length-append (print_request h) after in
-    let bound : n ≤ HEAD_BYTES = omega (arith, lengths, length-take HEAD_BYTES rest) in
+    let bound : n ≤ head_limit = omega (arith, lengths, length-take head_limit rest) in
     let same : take n rest ≡ print_request h =
-    sym (take-take n HEAD_BYTES rest bound) ∙ ap (take n) reads.1 ∙ take_at (print_request h) after n refl in
+    sym (take-take n head_limit rest bound) ∙ ap (take n) reads.1 ∙ take_at (print_request h) after n refl in
     record {
       bound = bound;
-      fits = omega (arith, lengths, length-take HEAD_BYTES rest);
+      fits = omega (arith, lengths, length-take head_limit rest);
       bytes = sym (take-append-drop n rest) ∙ ap (λ l. l ++ drop n rest) same;
     }
 
 -- a head whose body is there, as it is found in a buffer
 pub taken_from : (buffer : List ℕ) (found : Head) (n : ℕ) (h : RequestHead) (after : List ℕ) → ReadsRequest (front buffer) h after
-    → length h.fields ≤ HEAD_LINES → IsHeadAt (front buffer) found h → found.body ≡ Known n → found.len + n ≤ length buffer
+    → length h.fields ≤ line_limit → IsHeadAt (front buffer) found h → found.body ≡ Known n → found.len + n ≤ length buffer
     → IsTakenFrom buffer (record {
       method = found.method;
       target = found.target;
@@ -59,6 +59,7 @@ taken_from buffer found n h after reads lines is known whole =
       used = whole;
       target = (is.within.0, omega (arith, is.within.1));
       body = (omega arith, omega arith);
+      ends = refl;
       begins = record {
         h = h;
         head = record {
@@ -71,7 +72,7 @@ taken_from buffer found n h after reads lines is known whole =
             ∙ ap (λ l. print_request h ++ l) (drop_split buffer found.len (found.len + n) (omega arith))
             ∙ sym (append_assoc (print_request h) body (drop (found.len + n) buffer));
         method = is.method;
-        target = sym (slice_range-take buffer found.target.from found.target.to HEAD_BYTES (omega (arith, is.within.1, is.len, begins.bound))) ∙ is.target;
+        target = sym (slice_range-take buffer found.target.from found.target.to head_limit (omega (arith, is.within.1, is.len, begins.bound))) ∙ is.target;
         close = is.close;
       };
     }

@@ -1,7 +1,7 @@
 -- What is found of a head in the front of a rest.
 use Rattle.std.specs.Prelude.{◌≡◌, ℕ, ◌<◌, ◌≤◌, List, length}
 use Rattle.httparse.specs.Grammar.{RequestHead, ReadsRequest, print_request, HasNoRequest, NeverHasRequest, MayBecomeRequest}
-use Rattle.desk_http.specs.declared.limits.TheConstants.{HEAD_LINES}
+use Rattle.desk_http.specs.Limits.{line_limit}
 use Rattle.desk_http.specs.declared.head.Head.{Head}
 use Rattle.desk_http.specs.declared.head.Found.{Found}
 use Rattle.desk_http.specs.declared.head.Found.TheVariants.{Whole, TooManyLines, Unfinished, Hopeless}
@@ -22,8 +22,8 @@ pub record IsHeadAt (buffer : List ℕ) (found : Head) (h : RequestHead) : Type 
 abbrev pub Finds : List ℕ → Found → Type 0
 Finds buffer (Whole found) =
     (h : RequestHead) × (after : List ℕ) × ReadsRequest buffer h after
-    × (length h.fields ≤ HEAD_LINES) × IsHeadAt buffer found h
+    × (length h.fields ≤ line_limit) × IsHeadAt buffer found h
 Finds buffer TooManyLines =
-    (h : RequestHead) × (after : List ℕ) × ReadsRequest buffer h after × (HEAD_LINES < length h.fields)
+    (h : RequestHead) × (after : List ℕ) × ReadsRequest buffer h after × (line_limit < length h.fields)
 Finds buffer Unfinished = HasNoRequest buffer × MayBecomeRequest buffer
 Finds buffer Hopeless = NeverHasRequest buffer

@@ -1,4 +1,5 @@
 pub mod Head
+pub mod Limits
 pub mod Lines
 pub mod Reader
 pub mod Reply

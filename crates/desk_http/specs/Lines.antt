@@ -7,7 +7,7 @@ use Rattle.std.specs.Str.Parse.{digits_value}
 use Rattle.httparse.specs.Ascii.{comma}
 use Rattle.httparse.specs.Grammar.{trim_ows, RequestHead}
 use Rattle.httparse.specs.Spans.{name_and_value}
-use Rattle.desk_http.specs.declared.limits.TheConstants.{BODY_BYTES}
+use Rattle.desk_http.specs.Limits.{body_limit}
 use Rattle.desk_http.specs.declared.method.Method.{Method}
 use Rattle.desk_http.specs.declared.method.Method.TheVariants.{Get, Post, Other}
 use Rattle.desk_http.specs.declared.lines.BodyLength.{BodyLength}
@@ -48,10 +48,10 @@ stated_length Other [] = Some 0
 stated_length method (value ∷ []) = number_of value
 stated_length method (value ∷ second ∷ more) = None
 
--- the length as the desk takes it, at most BODY_BYTES
+-- the length as the desk takes it, at most body_limit bytes
 abbrev pub bounded_length : Option ℕ → BodyLength
 bounded_length None = Missing
-bounded_length (Some n) = if nat_le n BODY_BYTES then Known n else TooLong
+bounded_length (Some n) = if nat_le n body_limit then Known n else TooLong
 
 -- how long the body is. A transfer coding gives no length beforehand
 abbrev pub body_length : Method → List Line → BodyLength

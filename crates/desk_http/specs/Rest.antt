@@ -1,8 +1,8 @@
 -- What the rest of a byte stream begins with: a request, or one of the five reasons why it begins with none.
 -- The grammar of heads is httparse's: ReadsRequest bytes h after says that the bytes are the head h and then after.
 use Rattle.std.specs.Prelude.{◌≡◌, ℕ, ◌+◌, ◌<◌, ◌≤◌, ◌⊎◌, Bool, List, ◌++◌, length, take}
-use Rattle.httparse.specs.Grammar.{RequestHead, ReadsRequest, print_request, HasNoRequest, NeverHasRequest, MayBecomeRequest}
-use Rattle.desk_http.specs.declared.limits.TheConstants.{HEAD_BYTES, HEAD_LINES}
+use Rattle.httparse.specs.Grammar.{RequestHead, ReadsRequest, print_request, HasNoRequest, NeverHasRequest, MayBecomeRequest, EndsInTarget}
+use Rattle.desk_http.specs.Limits.{head_limit, line_limit}
 use Rattle.desk_http.specs.declared.method.Method.{Method}
 use Rattle.desk_http.specs.declared.lines.BodyLength.{BodyLength}
 use Rattle.desk_http.specs.declared.lines.BodyLength.TheVariants.{Missing, TooLong, Known}
@@ -10,7 +10,7 @@ use Rattle.desk_http.specs.Lines.{lines_of, method_of, body_length, is_closing}
 
 -- the bytes that a head has to lie in
 abbrev pub front : List ℕ → List ℕ
-front rest = take HEAD_BYTES rest
+front rest = take head_limit rest
 
 -- a prefix of the front is this head
 abbrev pub HasHead : List ℕ → RequestHead → Type 0
@@ -25,23 +25,28 @@ IsHopeless rest = NeverHasRequest (front rest)
 abbrev pub IsUnfinished : List ℕ → Type 0
 IsUnfinished rest = HasNoRequest (front rest) × MayBecomeRequest (front rest)
 
--- the head isn't finished within HEAD_BYTES, or has more than HEAD_LINES lines
+-- The one exception to "a rest has one answer": it is hopeless, and its front ends inside its target, so that it
+-- counts as unfinished too.
+abbrev pub IsInDoubt : List ℕ → Type 0
+IsInDoubt rest = IsHopeless rest × EndsInTarget (front rest)
+
+-- the head isn't finished within its head_limit bytes, or has more than line_limit lines
 abbrev pub IsTooLong : List ℕ → Type 0
 IsTooLong rest =
-    ((HEAD_BYTES ≤ length rest) × IsUnfinished rest)
-    ⊎ ((h : RequestHead) × HasHead rest h × (HEAD_LINES < length h.fields))
+    ((head_limit ≤ length rest) × IsUnfinished rest)
+    ⊎ ((h : RequestHead) × HasHead rest h × (line_limit < length h.fields))
 
--- the rest begins with a head of no more than HEAD_LINES lines, which says this of its body
+-- the rest begins with a head of no more than line_limit lines, which says this of its body
 pub record HasHeadWith (rest : List ℕ) (h : RequestHead) (body : BodyLength) : Type 0 where
   pub head : HasHead rest h
-  pub lines : length h.fields ≤ HEAD_LINES
+  pub lines : length h.fields ≤ line_limit
   pub body_length : body_length (method_of h.method) (lines_of h) ≡ body
 
 -- the head gives no length of its body
 abbrev pub HasNoLength : List ℕ → Type 0
 HasNoLength rest = (h : RequestHead) × HasHeadWith rest h Missing
 
--- the head gives a length over BODY_BYTES
+-- the head gives a length over body_limit bytes
 abbrev pub HasLongBody : List ℕ → Type 0
 HasLongBody rest = (h : RequestHead) × HasHeadWith rest h TooLong
 
@@ -53,7 +58,7 @@ LacksBody rest =
 
 -- more bytes may make a whole request
 abbrev pub IsNotYet : List ℕ → Type 0
-IsNotYet rest = ((length rest < HEAD_BYTES) × IsUnfinished rest) ⊎ LacksBody rest
+IsNotYet rest = ((length rest < head_limit) × IsUnfinished rest) ⊎ LacksBody rest
 
 -- a request as its reader sees it
 pub record Message : Type 0 where

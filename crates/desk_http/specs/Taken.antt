@@ -1,5 +1,5 @@
 -- What taking a request answers.
-use Rattle.std.specs.Prelude.{ℕ, ◌≤◌, List, length, drop, slice_range}
+use Rattle.std.specs.Prelude.{◌≡◌, ℕ, ◌≤◌, Bool, true, false, List, length, drop, slice_range}
 use Rattle.desk_http.specs.declared.span.Span.{Span}
 use Rattle.desk_http.specs.declared.request.Request.{Request}
 use Rattle.desk_http.specs.declared.taken.Taken.{Taken}
@@ -28,6 +28,7 @@ pub record IsTakenFrom (buffer : List ℕ) (r : Request) : Type 0 where
   pub used : r.used ≤ length buffer
   pub target : IsWithin r.used r.target
   pub body : IsWithin r.used r.body
+  pub ends : r.body.to ≡ r.used
   pub begins : BeginsWith buffer (message_of buffer r) (drop r.used buffer)
 
 -- the answer is right for the buffer
@@ -38,6 +39,14 @@ Takes buffer BadHead = IsHopeless buffer
 Takes buffer HeadTooLong = IsTooLong buffer
 Takes buffer NoLength = HasNoLength buffer
 Takes buffer BodyTooLong = HasLongBody buffer
+
+-- of two answers to a rest in doubt, one is BadHead and the other that of an unfinished head
+abbrev pub may_replace : Taken → Taken → Bool
+may_replace BadHead NotYet = true
+may_replace BadHead HeadTooLong = true
+may_replace NotYet BadHead = true
+may_replace HeadTooLong BadHead = true
+may_replace taken other = false
 
 -- an answer with the request itself in place of where it lies
 pub data Answer : Type 0 where

@@ -12,12 +12,15 @@ pub enum Fixed {
     LengthRequired,
     /// 413: the body is longer than 65,536 bytes.
     BodyTooLong,
-    /// 431: the head is longer than 8,192 bytes, or has more than 64 header lines.
+    /// 431: the head isn't finished within 8,192 bytes, or has more than 64 header lines.
     HeadTooLong,
     /// 404: there is no such path.
     NoRoute,
     /// 405: the path takes another method.
-    WrongMethod { allow: Method },
+    WrongMethod {
+        /// The method that it takes.
+        allow: Method,
+    },
     /// 503: the store failed.
     StoreFault,
     /// 507: memory ran out.

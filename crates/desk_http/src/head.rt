@@ -3,7 +3,7 @@
 ghost use Rattle.std.specs.Prelude.{◌≡◌, ℕ, ◌≤◌, List, length, take, All};
 ghost use Rattle.httparse.specs.Grammar.{RequestHead, ReadsRequest};
 ghost use Rattle.httparse.specs.Spans.{IsRequestWithin, IsRequestAt, RequestOverflows};
-ghost use Rattle.desk_http.specs.declared.limits.TheConstants.{HEAD_BYTES, HEAD_LINES};
+ghost use Rattle.desk_http.specs.Limits.{head_limit, line_limit};
 ghost use Rattle.desk_http.specs.Head.{Finds, IsHeadAt};
 
 use crate::limits::{HEAD_BYTES, HEAD_LINES};
@@ -38,7 +38,7 @@ pub(crate) enum Found {
 
 /// Looks for a head at the front of some bytes.
 pub(crate) fn find_head(bytes: &[u8]) -> Found
-    requires { length bytes.now ≤ HEAD_BYTES }
+    requires { length bytes.now ≤ head_limit }
     ensures { Finds bytes.now result }
 {
     let mut lines = [EMPTY_HEADER_SPAN; HEAD_LINES];
@@ -55,8 +55,8 @@ pub(crate) fn find_head(bytes: &[u8]) -> Found
 #[cold]
 #[inline(never)]
 fn find_crowded_head(bytes: &[u8]) -> Found
-    requires fits { length bytes.now ≤ HEAD_BYTES }
-    requires crowded { RequestOverflows HEAD_LINES bytes.now }
+    requires fits { length bytes.now ≤ head_limit }
+    requires crowded { RequestOverflows line_limit bytes.now }
     ensures { Finds bytes.now result }
 {
     let mut lines = [EMPTY_HEADER_SPAN; MOST_LINES];

@@ -1,15 +1,18 @@
-//! What holds of requests and streams whatever they are. The functions do nothing: each is called for
-//! its clause alone.
+//! What holds of requests and streams whatever they are. Each function is called for its clause alone.
 
-ghost use Rattle.std.specs.Prelude.{◌≡◌, ◌≢◌, ℕ, ◌+◌, ◌<◌, ◌≤◌, ◌⊎◌, List, [], ◌++◌};
-ghost use Rattle.httparse.specs.Grammar.{RequestHead, IsRequestHead, print_request, EndsInTarget};
-ghost use Rattle.desk_http.specs.declared.limits.TheConstants.{HEAD_BYTES, BODY_BYTES};
+ghost use Rattle.std.specs.Prelude.{◌≡◌, ◌≢◌, ℕ, ◌+◌, ◌<◌, ◌≤◌, ◌⊎◌, false, List, [], ◌++◌, length, IsTrue, IfSome, IfNone};
+ghost use Rattle.std.specs.List.{flat_map};
+ghost use Rattle.httparse.specs.Grammar.{RequestHead, IsRequestHead, print_request};
+ghost use Rattle.desk_http.specs.Limits.{head_limit, body_limit};
 ghost use Rattle.desk_http.specs.declared.request.Request.{Request};
 ghost use Rattle.desk_http.specs.declared.taken.Taken.{Taken};
-ghost use Rattle.desk_http.specs.Reader.{Event, bytes_of, requests_of, Reads};
-ghost use Rattle.desk_http.specs.Rest.{front, Message, BeginsWith};
-ghost use Rattle.desk_http.specs.Stream.{End, IsStream, IsSameEnd};
-ghost use Rattle.desk_http.specs.Taken.{Takes, answer_of};
+ghost use Rattle.desk_http.specs.Reader.{Event, pieces_of, requests_of, IsReadAs};
+ghost use Rattle.desk_http.specs.Rest.{Message, BeginsWith, IsInDoubt};
+ghost use Rattle.desk_http.specs.Stream.{End, IsStream, HasRequests, IsSameEnd};
+ghost use Rattle.desk_http.specs.Taken.{Takes, answer_of, may_replace};
+
+use crate::take::take_request;
+use crate::taken::Taken;
 
 /// No head of a request is a prefix of another.
 pub fn no_head_begins_another()
@@ -17,11 +20,12 @@ pub fn no_head_begins_another()
         → print_request k ≡ print_request h ++ more → (h ≡ k) × (more ≡ []) }
 {}
 
-/// A buffer has one answer. Only where it ends inside its target, and can't become a head, may
+/// A buffer has one answer. Only where it can't become a head and its front ends inside its target may
 /// `NotYet` or `HeadTooLong` come in place of `BadHead`.
 pub fn one_answer()
     ensures { (buffer : List ℕ) (taken other : Taken) → Takes buffer taken → Takes buffer other
-        → (answer_of buffer taken ≡ answer_of buffer other) ⊎ EndsInTarget (front buffer) }
+        → (answer_of buffer taken ≡ answer_of buffer other)
+        ⊎ (IsInDoubt buffer × IsTrue (may_replace taken other)) }
 {}
 
 /// What `take_request` says of a buffer it says of every longer one that begins so, but for `NotYet`.
@@ -30,20 +34,54 @@ pub fn answers_last()
         → Takes (buffer ++ more) taken × (answer_of (buffer ++ more) taken ≡ answer_of buffer taken) }
 {}
 
-/// A whole request takes at least one byte, and at most those of the longest head and body.
+/// A whole request takes at least one byte, and at most those of the longest head and body. A buffer
+/// that holds so many isn't `NotYet`.
 pub fn request_is_bounded()
-    ensures { (buffer : List ℕ) (r : Request) → Takes buffer (Taken.Whole r)
-        → (0 < r.used) × (r.used ≤ HEAD_BYTES + BODY_BYTES) }
+    ensures whole { (buffer : List ℕ) (r : Request) → Takes buffer (Taken.Whole r)
+        → (0 < r.used) × (r.used ≤ head_limit + body_limit) }
+    ensures not_yet { (buffer : List ℕ) → Takes buffer Taken.NotYet
+        → length buffer < head_limit + body_limit }
 {}
 
-/// The requests of a stream are the same however it is read: a stream has one list of requests, and a
-/// reader takes these, in whatever pieces the stream comes to it.
+/// Each stream has a list of requests and an end: the body takes one request after another.
+pub fn each_stream_has_requests(bytes: &[u8])
+    ensures { HasRequests bytes.now }
+{
+    let mut rest = bytes;
+    while let Some(more) = behind_request(rest) {
+        rest = more;
+    }
+}
+
+/// What follows the request at the front of the bytes, unless a stream ends there.
+fn behind_request(bytes: &[u8]) -> Option<&[u8]>
+    ensures goes_on { IfSome result (λ rest. (m : Message) × (m.close ≡ false) × BeginsWith bytes.now m rest.now) }
+    ensures ends { IfNone result (HasRequests bytes.now) }
+{
+    match take_request(bytes) {
+        Taken::Whole(request) => {
+            if request.close {
+                None
+            } else {
+                Some(&bytes[request.used..])
+            }
+        }
+        _ => None,
+    }
+}
+
+/// The requests of a stream are the same however it is read: it can be read in any pieces, it has one
+/// list of requests, and a reader takes these, in whatever pieces the stream comes to it, and however
+/// much it leaves unread behind the stream's end.
 pub fn pieces_make_no_difference()
+    ensures any { (pieces : List (List ℕ)) (ms : List Message) (end : End)
+        → IsStream (flat_map (λ piece. piece) pieces) ms end → (events : List Event)
+        × (pieces_of events ≡ pieces) × IsReadAs (flat_map (λ piece. piece) pieces) events end }
     ensures one { (bytes : List ℕ) (ms ns : List Message) (e f : End) → IsStream bytes ms e
-        → IsStream bytes ns f → (ms ≡ ns) × IsSameEnd e f }
-    ensures read { (events : List Event) (end : End) → Reads [] events end
-        → IsStream (bytes_of events) (requests_of events) end }
-    ensures same { (events others : List Event) (e f : End) → Reads [] events e → Reads [] others f
-        → bytes_of events ≡ bytes_of others
-        → (requests_of events ≡ requests_of others) × IsSameEnd e f }
+        → IsStream bytes ns f → (ms ≡ ns) × IsSameEnd bytes ms e f }
+    ensures read { (bytes : List ℕ) (events : List Event) (end : End) → IsReadAs bytes events end
+        → IsStream bytes (requests_of events) end }
+    ensures same { (bytes : List ℕ) (events others : List Event) (e f : End)
+        → IsReadAs bytes events e → IsReadAs bytes others f
+        → (requests_of events ≡ requests_of others) × IsSameEnd bytes (requests_of events) e f }
 {}

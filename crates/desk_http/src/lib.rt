@@ -15,7 +15,8 @@ mod taken;
 
 pub use fixed::{Fixed, fixed_reply};
 pub use laws::{
-    answers_last, no_head_begins_another, one_answer, pieces_make_no_difference, request_is_bounded,
+    answers_last, each_stream_has_requests, no_head_begins_another, one_answer,
+    pieces_make_no_difference, request_is_bounded,
 };
 pub use limits::{BODY_BYTES, HEAD_BYTES, HEAD_LINES};
 pub use method::Method;

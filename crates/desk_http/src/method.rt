@@ -4,8 +4,11 @@ ghost use Rattle.desk_http.specs.Lines.{method_of};
 /// What a request asks to be done. The desk knows two methods, and no body answers another.
 #[derive(Clone, Copy, Debug, PartialEq, Eq)]
 pub enum Method {
+    /// `GET`, in just these letters.
     Get,
+    /// `POST`, in just these letters.
     Post,
+    /// Any other token, `get` and `HEAD` among them.
     Other,
 }
 

@@ -4,7 +4,9 @@ ghost use Rattle.desk_http.specs.Taken.{span_bytes};
 /// The bytes of a buffer from `from` up to `to`.
 #[derive(Clone, Copy, Debug, PartialEq, Eq)]
 pub struct Span {
+    /// The place of the first byte.
     pub from: usize,
+    /// The place behind the last byte.
     pub to: usize,
 }
 

@@ -1,6 +1,6 @@
 ghost use Rattle.std.specs.Prelude.{◌≡◌, ℕ, ◌≤◌, List, length};
 ghost use Rattle.httparse.specs.Grammar.{RequestHead, ReadsRequest};
-ghost use Rattle.desk_http.specs.declared.limits.TheConstants.{HEAD_BYTES, HEAD_LINES};
+ghost use Rattle.desk_http.specs.Limits.{head_limit, line_limit};
 ghost use Rattle.desk_http.specs.Head.{IsHeadAt};
 ghost use Rattle.desk_http.specs.Rest.{front};
 ghost use Rattle.desk_http.specs.Taken.{Takes};
@@ -32,7 +32,7 @@ pub fn take_request(buffer: &[u8]) -> Taken
 /// The bytes that a head has to lie in.
 fn front_of(buffer: &[u8]) -> &[u8]
     ensures front { result.now ≡ front buffer.now }
-    ensures bound { length result.now ≤ HEAD_BYTES }
+    ensures bound { length result.now ≤ head_limit }
 {
     &buffer[..HEAD_BYTES.min(buffer.len())]
 }
@@ -40,7 +40,7 @@ fn front_of(buffer: &[u8]) -> &[u8]
 /// The request that a head at the front of the buffer begins, or what it lacks.
 fn take_body(buffer: &[u8], head: Head) -> Taken
     requires { (h : RequestHead) × (after : List ℕ) × ReadsRequest (front buffer.now) h after
-        × (length h.fields ≤ HEAD_LINES) × IsHeadAt (front buffer.now) head h }
+        × (length h.fields ≤ line_limit) × IsHeadAt (front buffer.now) head h }
     ensures { Takes buffer.now result }
 {
     let length = match head.body {

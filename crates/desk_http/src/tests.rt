@@ -1,3 +1,6 @@
+ghost use Rattle.std.specs.Prelude.{◌≢◌, IsTrue};
+ghost use Rattle.desk_http.specs.Reply.{allow_of, fits_status, is_reply_status};
+
 use super::*;
 use desk_text::Bytes;
 use http::StatusCode;
@@ -39,7 +42,7 @@ fn repeated(alloc: Global, parts: &[(&[u8], usize)]) -> Result<Vec<u8>, AllocErr
 }
 
 #[rattlefmt::skip]
-fn heads() -> [Row; 15] {
+fn heads() -> [Row; 18] {
     [
         ("nothing", &[], Taken::NotYet),
         ("a request line", &[(b"GET /version HTTP/1.1\r\n", 1)], Taken::NotYet),
@@ -53,6 +56,9 @@ fn heads() -> [Row; 15] {
         ("no method", &[(b" / HTTP/1.1\r\n", 1)], Taken::BadHead),
         ("two spaces", &[(b"GET  / HTTP/1.1\r\n", 1)], Taken::BadHead),
         ("another version", &[(b"GET / HTTP/2.0\r\n", 1)], Taken::BadHead),
+        ("another minor version", &[(b"GET / HTTP/1.2\r\n", 1)], Taken::BadHead),
+        ("an empty line that lacks its LF", &[(b"GET / HTTP/1.1\r\n\r", 1)], Taken::NotYet),
+        ("a CR that no LF follows", &[(b"GET / HTTP/1.1\r\n\rA", 1)], Taken::BadHead),
         ("a fold", &[(b"GET / HTTP/1.1\r\nA: b\r\n c", 1)], Taken::BadHead),
         ("a target that is no text so far", &[(b"GET /\xff", 1)], Taken::NotYet),
         ("a target that is no text", &[(b"GET /\xff HTTP/1.1\r\n", 1)], Taken::BadHead),
@@ -60,9 +66,10 @@ fn heads() -> [Row; 15] {
 }
 
 #[rattlefmt::skip]
-fn bounds() -> [Row; 15] {
+fn bounds() -> [Row; 18] {
     [
         ("8,192 bytes with an end", &[(b"GET / HTTP/1.1\r\nX: ", 1), (b"a", 8169), (b"\r\n\r\n", 1)], whole(GET, (4, 5), (8192, 8192), false)),
+        ("8,192 bytes with an end, and a body", &[(b"POST / HTTP/1.1\r\nContent-Length: 2\r\nX: ", 1), (b"a", 8149), (b"\r\n\r\nbc", 1)], whole(POST, (5, 6), (8192, 8194), false)),
         ("8,193 bytes with an end", &[(b"GET / HTTP/1.1\r\nX: ", 1), (b"a", 8170), (b"\r\n\r\n", 1)], Taken::HeadTooLong),
         ("8,192 bytes without an end", &[(b"GET / HTTP/1.1\r\nX: ", 1), (b"a", 8173)], Taken::HeadTooLong),
         ("8,191 bytes without an end", &[(b"GET / HTTP/1.1\r\nX: ", 1), (b"a", 8172)], Taken::NotYet),
@@ -70,8 +77,10 @@ fn bounds() -> [Row; 15] {
         ("too long and hopeless", &[(b"GET / HTTP/1.1\r\nX y: ", 1), (b"a", 8192)], Taken::BadHead),
         ("too long inside a target that is no text so far", &[(b"GET /\xff", 1), (b"a", 8186)], Taken::HeadTooLong),
         ("64 lines with an end", &[(b"GET / HTTP/1.1\r\n", 1), (b"a:\r\n", 64), (b"\r\n", 1)], whole(GET, (4, 5), (274, 274), false)),
+        ("64 lines, and what the last one says", &[(b"POST / HTTP/1.1\r\n", 1), (b"a:\r\n", 63), (b"Content-Length: 1\r\n\r\nb", 1)], whole(POST, (5, 6), (290, 291), false)),
         ("64 lines without an end", &[(b"GET / HTTP/1.1\r\n", 1), (b"a:\r\n", 64)], Taken::NotYet),
         ("65 lines with an end", &[(b"GET / HTTP/1.1\r\n", 1), (b"a:\r\n", 65), (b"\r\n", 1)], Taken::HeadTooLong),
+        ("65 lines with an end, and no length", &[(b"POST / HTTP/1.1\r\n", 1), (b"a:\r\n", 65), (b"\r\n", 1)], Taken::HeadTooLong),
         ("65 lines without an end", &[(b"GET / HTTP/1.1\r\n", 1), (b"a:\r\n", 65)], Taken::NotYet),
         ("65 lines and no more", &[(b"GET / HTTP/1.1\r\n", 1), (b"a:\r\n", 65), (b":", 1)], Taken::BadHead),
         ("the most lines with an end", &[(b"GET / HTTP/1.1\n", 1), (b"a:\n", 2725), (b"\n", 1)], Taken::HeadTooLong),
@@ -81,7 +90,7 @@ fn bounds() -> [Row; 15] {
 }
 
 #[rattlefmt::skip]
-fn lengths() -> [Row; 18] {
+fn lengths() -> [Row; 24] {
     [
         ("no length on GET", &[(b"GET / HTTP/1.1\r\n\r\n", 1)], whole(GET, (4, 5), (18, 18), false)),
         ("a body on GET", &[(b"GET / HTTP/1.1\r\nContent-Length: 2\r\n\r\nab", 1)], whole(GET, (4, 5), (37, 39), false)),
@@ -91,12 +100,18 @@ fn lengths() -> [Row; 18] {
         ("two lengths", &[(b"POST / HTTP/1.1\r\nContent-Length: 1\r\nContent-Length: 1\r\n\r\na", 1)], Taken::NoLength),
         ("two lengths on GET", &[(b"GET / HTTP/1.1\r\nContent-Length: 0\r\ncontent-length: 0\r\n\r\n", 1)], Taken::NoLength),
         ("a sign", &[(b"POST / HTTP/1.1\r\nContent-Length: +7\r\n\r\nabcdefg", 1)], Taken::NoLength),
+        ("a minus", &[(b"POST / HTTP/1.1\r\nContent-Length: -0\r\n\r\n", 1)], Taken::NoLength),
+        ("a blank between digits", &[(b"POST / HTTP/1.1\r\nContent-Length: 1 1\r\n\r\nabcdefghijk", 1)], Taken::NoLength),
+        ("blanks around digits", &[(b"POST / HTTP/1.1\r\nContent-Length: \t3 \t\r\n\r\nabc", 1)], whole(POST, (5, 6), (41, 44), false)),
         ("no digits", &[(b"POST / HTTP/1.1\r\nContent-Length:\r\n\r\n", 1)], Taken::NoLength),
         ("a list", &[(b"POST / HTTP/1.1\r\nContent-Length: 1, 1\r\n\r\na", 1)], Taken::NoLength),
         ("leading zeros", &[(b"POST / HTTP/1.1\r\nContent-Length: 007\r\n\r\nabcdefg", 1)], whole(POST, (5, 6), (40, 47), false)),
         ("65536", &[(b"POST / HTTP/1.1\r\nContent-Length: 65536\r\n\r\n", 1), (b"a", 65536)], whole(POST, (5, 6), (42, 65578), false)),
         ("65536 and no body", &[(b"POST / HTTP/1.1\r\nContent-Length: 65536\r\n\r\n", 1)], Taken::NotYet),
         ("65537", &[(b"POST / HTTP/1.1\r\nContent-Length: 65537\r\n\r\n", 1)], Taken::BodyTooLong),
+        ("65537 with leading zeros", &[(b"POST / HTTP/1.1\r\nContent-Length: 00065537\r\n\r\n", 1)], Taken::BodyTooLong),
+        ("65537 on GET", &[(b"GET / HTTP/1.1\r\nContent-Length: 65537\r\n\r\n", 1)], Taken::BodyTooLong),
+        ("three more than 64 bits hold", &[(b"POST / HTTP/1.1\r\nContent-Length: 18446744073709551619\r\n\r\nabc", 1)], Taken::BodyTooLong),
         ("a thousand digits", &[(b"POST / HTTP/1.1\r\nContent-Length: ", 1), (b"9", 1000), (b"\r\n\r\n", 1)], Taken::BodyTooLong),
         ("a thousand zeros", &[(b"POST / HTTP/1.1\r\nContent-Length: ", 1), (b"0", 1000), (b"\r\n\r\n", 1)], whole(POST, (5, 6), (1037, 1037), false)),
         ("a coding and a length", &[(b"POST / HTTP/1.1\r\nTransfer-Encoding: chunked\r\nContent-Length: 0\r\n\r\n", 1)], Taken::NoLength),
@@ -105,12 +120,16 @@ fn lengths() -> [Row; 18] {
 }
 
 #[rattlefmt::skip]
-fn closings() -> [Row; 7] {
+fn closings() -> [Row; 11] {
     [
         ("a name in odd case", &[(b"POST / HTTP/1.1\r\ncONTENT-lENGTH: 3\r\n\r\nabc", 1)], whole(POST, (5, 6), (38, 41), false)),
         ("HTTP/1.0", &[(b"GET / HTTP/1.0\r\n\r\n", 1)], whole(GET, (4, 5), (18, 18), true)),
         ("HTTP/1.0 that would stay", &[(b"GET / HTTP/1.0\r\nConnection: keep-alive\r\n\r\n", 1)], whole(GET, (4, 5), (42, 42), true)),
         ("close in a list, in other case", &[(b"GET / HTTP/1.1\r\nConnection: keep-alive ,\tClOsE , x\r\n\r\n", 1)], whole(GET, (4, 5), (54, 54), true)),
+        ("close first, with a capital", &[(b"GET / HTTP/1.1\r\nConnection: Close, keep-alive\r\n\r\n", 1)], whole(GET, (4, 5), (49, 49), true)),
+        ("close between empty items", &[(b"GET / HTTP/1.1\r\nConnection: ,, close ,\r\n\r\n", 1)], whole(GET, (4, 5), (42, 42), true)),
+        ("empty items alone", &[(b"GET / HTTP/1.1\r\nConnection: ,\r\n\r\n", 1)], whole(GET, (4, 5), (33, 33), false)),
+        ("keep-alive alone", &[(b"GET / HTTP/1.1\r\nConnection: keep-alive\r\n\r\n", 1)], whole(GET, (4, 5), (42, 42), false)),
         ("close in a second line", &[(b"GET / HTTP/1.1\r\nConnection: x\r\nconnection:close\r\n\r\n", 1)], whole(GET, (4, 5), (51, 51), true)),
         ("items that begin or end with close", &[(b"GET / HTTP/1.1\r\nConnection: closed, close-x, not close\r\n\r\n", 1)], whole(GET, (4, 5), (58, 58), false)),
         ("close in another line", &[(b"GET / HTTP/1.1\r\nX-Connection: close\r\n\r\n", 1)], whole(GET, (4, 5), (39, 39), false)),
@@ -224,23 +243,80 @@ fn replies_are_written_so(rt: HostRuntime) -> Result<(), Fail> {
     Ok(())
 }
 
+/// Whether the reply with this status has this first line, and these lines behind its length.
+fn is_written_so(
+    alloc: Global,
+    status: StatusCode,
+    allow: Option<Method>,
+    close: bool,
+    first: &str,
+    lines: &str,
+) -> Result<bool, Fail>
+    requires status { IsTrue (is_reply_status status) }
+    requires allow { IsTrue (fits_status status allow) }
+{
+    let mut out = Bytes::start(alloc);
+    write_reply(alloc, status, b"x\n", allow, close, &mut out)?;
+    let wanted = format!(in alloc;
+        "HTTP/1.1 {first}\r\nContent-Type: text/plain; charset=utf-8\r\nContent-Length: 2\r\n{lines}\r\nx\n"
+    )?;
+    Ok(out.as_slice() == wanted.as_bytes())
+}
+
+const CLOSE: &str = "Connection: close\r\n";
+
+#[rattlefmt::skip]
+#[test]
+fn each_status_has_its_phrase(rt: HostRuntime) -> Result<(), Fail> {
+    let alloc = rt.alloc();
+    assert!(rt; is_written_so(alloc, StatusCode::OK, None, true, "200 OK", CLOSE)?);
+    assert!(rt; is_written_so(alloc, StatusCode::BAD_REQUEST, None, false, "400 Bad Request", "")?);
+    assert!(rt; is_written_so(alloc, StatusCode::NOT_FOUND, None, false, "404 Not Found", "")?);
+    assert!(rt; is_written_so(alloc, StatusCode::METHOD_NOT_ALLOWED, Some(GET), false, "405 Method Not Allowed", "Allow: GET\r\n")?);
+    assert!(rt; is_written_so(alloc, StatusCode::CONFLICT, None, false, "409 Conflict", "")?);
+    assert!(rt; is_written_so(alloc, StatusCode::LENGTH_REQUIRED, None, true, "411 Length Required", CLOSE)?);
+    assert!(rt; is_written_so(alloc, StatusCode::PAYLOAD_TOO_LARGE, None, true, "413 Payload Too Large", CLOSE)?);
+    assert!(rt; is_written_so(alloc, StatusCode::REQUEST_HEADER_FIELDS_TOO_LARGE, None, true, "431 Request Header Fields Too Large", CLOSE)?);
+    assert!(rt; is_written_so(alloc, StatusCode::SERVICE_UNAVAILABLE, None, false, "503 Service Unavailable", "")?);
+    assert!(rt; is_written_so(alloc, StatusCode::INSUFFICIENT_STORAGE, None, false, "507 Insufficient Storage", "")?);
+    Ok(())
+}
+
+/// Whether the fixed reply has this first line, length and body, with and without the line that closes.
+fn is_fixed_so(
+    alloc: Global,
+    reply: Fixed,
+    first: &str,
+    length: usize,
+    allow: &str,
+    word: &str,
+) -> Result<bool, Fail>
+    requires { allow_of reply ≢ Some Method.Other }
+{
+    let stays = format!(in alloc;
+        "HTTP/1.1 {first}\r\nContent-Type: text/plain; charset=utf-8\r\nContent-Length: {length}\r\n{allow}\r\n{word}\n"
+    )?;
+    let closes = format!(in alloc;
+        "HTTP/1.1 {first}\r\nContent-Type: text/plain; charset=utf-8\r\nContent-Length: {length}\r\n{allow}Connection: close\r\n\r\n{word}\n"
+    )?;
+    Ok(
+        fixed_reply(reply, false) == stays.as_bytes()
+            && fixed_reply(reply, true) == closes.as_bytes(),
+    )
+}
+
 #[rattlefmt::skip]
 #[test]
 fn fixed_replies_are_so(rt: HostRuntime) -> Result<(), Fail> {
-    let rows = [
-        (fixed_reply(Fixed::BadHead, true), "400 Bad Request", 9, "Connection: close\r\n", "bad-head"),
-        (fixed_reply(Fixed::LengthRequired, true), "411 Length Required", 16, "Connection: close\r\n", "length-required"),
-        (fixed_reply(Fixed::BodyTooLong, true), "413 Payload Too Large", 14, "Connection: close\r\n", "body-too-long"),
-        (fixed_reply(Fixed::HeadTooLong, true), "431 Request Header Fields Too Large", 14, "Connection: close\r\n", "head-too-long"),
-        (fixed_reply(Fixed::NoRoute, false), "404 Not Found", 9, "", "no-route"),
-        (fixed_reply(Fixed::WrongMethod { allow: GET }, false), "405 Method Not Allowed", 13, "Allow: GET\r\n", "wrong-method"),
-        (fixed_reply(Fixed::WrongMethod { allow: POST }, true), "405 Method Not Allowed", 13, "Allow: POST\r\nConnection: close\r\n", "wrong-method"),
-        (fixed_reply(Fixed::StoreFault, false), "503 Service Unavailable", 12, "", "store-fault"),
-        (fixed_reply(Fixed::Memory, false), "507 Insufficient Storage", 7, "", "memory"),
-    ];
-    for (reply, status, length, lines, word) in rows {
-        let wanted = format!(in rt.alloc(); "HTTP/1.1 {status}\r\nContent-Type: text/plain; charset=utf-8\r\nContent-Length: {length}\r\n{lines}\r\n{word}\n")?;
-        assert_eq!(rt; reply, wanted.as_bytes());
-    }
+    let alloc = rt.alloc();
+    assert!(rt; is_fixed_so(alloc, Fixed::BadHead, "400 Bad Request", 9, "", "bad-head")?);
+    assert!(rt; is_fixed_so(alloc, Fixed::LengthRequired, "411 Length Required", 16, "", "length-required")?);
+    assert!(rt; is_fixed_so(alloc, Fixed::BodyTooLong, "413 Payload Too Large", 14, "", "body-too-long")?);
+    assert!(rt; is_fixed_so(alloc, Fixed::HeadTooLong, "431 Request Header Fields Too Large", 14, "", "head-too-long")?);
+    assert!(rt; is_fixed_so(alloc, Fixed::NoRoute, "404 Not Found", 9, "", "no-route")?);
+    assert!(rt; is_fixed_so(alloc, Fixed::WrongMethod { allow: GET }, "405 Method Not Allowed", 13, "Allow: GET\r\n", "wrong-method")?);
+    assert!(rt; is_fixed_so(alloc, Fixed::WrongMethod { allow: POST }, "405 Method Not Allowed", 13, "Allow: POST\r\n", "wrong-method")?);
+    assert!(rt; is_fixed_so(alloc, Fixed::StoreFault, "503 Service Unavailable", 12, "", "store-fault")?);
+    assert!(rt; is_fixed_so(alloc, Fixed::Memory, "507 Insufficient Storage", 7, "", "memory")?);
     Ok(())
 }
