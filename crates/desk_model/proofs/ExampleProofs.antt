@@ -1,7 +1,8 @@
 -- The examples hold by computation.
-use Rattle.std.proofs.Common.{refl}
+use Rattle.std.proofs.Common.{◌≡◌, [], refl, Bool, true, false}
 use Rattle.std.specs.Fmt.{digits}
 use Rattle.desk_text.specs.Day.{date_text, six_months_after}
+use Rattle.desk_law.specs.Annex.{annex_kinds, annex_number}
 use Rattle.desk_law.specs.Kind.{kind_code, kind_place}
 use Rattle.desk_law.specs.KindSet.{kinds_text, has_kind}
 use Rattle.desk_law.specs.Exemption.{covers, is_valid_on}
@@ -10,6 +11,11 @@ use Rattle.desk_law.specs.Limit.{is_over, limit_of}
 use Rattle.desk_law.specs.Verdict.{verdict}
 use Rattle.desk_model.specs.Verdicts.{verdict_on}
 use Rattle.desk_law.specs.Rule.{rule_code, rule_number}
+use Rattle.desk_text.specs.Code.{code_of, exemption_number_of}
+use Rattle.desk_text.specs.Cas.{cas_of}
+use Rattle.desk_model.specs.Forms.{is_name, is_declaration_in_form, is_edit_in_form, is_exemption_row, is_material_row}
+use Rattle.desk_model.specs.Sound.{are_names_kept, are_rows_in_form}
+use Rattle.desk_text.specs.Name.{name_of}
 use Rattle.desk_model.specs.Above.{content, is_above}
 use Rattle.desk_model.specs.Affected.{is_affected, seeds_of_new}
 use Rattle.desk_model.specs.Chain.{chain_within}
@@ -18,23 +24,38 @@ use Rattle.desk_model.specs.Effect.{entered, made}
 use Rattle.desk_model.specs.EditText.{edit_text, ticket_code}
 use Rattle.desk_model.specs.Findings.{finding_count, findings}
 use Rattle.desk_model.specs.Reaches.{reaches_within}
-use Rattle.desk_model.specs.Refused.{refused, ticket_reused, unknown_substance, unknown_material, unknown_part, unknown_product, unknown_exemption, name_taken, kind_changed, wrong_child, no_such_line, foreign_material, stale_declaration, masses_exceed, exemption_span, annex_kinds, ship_below_zero, units_too_large, table_full, text_full, closes_cycle, total_too_large, findings_full, year_too_large}
+use Rattle.desk_model.specs.Refused.{refused, ticket_reused, unknown_substance, unknown_material, unknown_part, unknown_product, unknown_exemption, name_taken, kind_changed, wrong_child, no_such_line, foreign_material, stale_declaration, masses_exceed, exemption_span, outside_annex, ship_below_zero, units_too_large, table_full, text_full, closes_cycle, total_too_large, findings_full, year_too_large}
 use Rattle.desk_model.specs.Rolled.{rolled_within}
 use Rattle.desk_model.specs.Share.{share}
 use Rattle.desk_model.specs.Start.{start}
 use Rattle.desk_model.specs.Step.{kept_number, step}
 use Rattle.desk_model.specs.Tonnage.{due_day, notices, tonnage}
 use Rattle.desk_model.specs.Totals.{has_too_many_findings, has_too_much_text, tables_over, too_heavy_part, too_heavy_year}
+use Rattle.desk_model.proofs.StartForms.{name_from}
 use Rattle.desk_model.specs.Examples.Articles.{DutyExamples, NoticeExamples}
 use Rattle.desk_model.specs.Examples.Chains.{ChainExamples}
+use Rattle.desk_model.specs.Examples.Effects.{EntryExamples, ReplacementExamples}
+use Rattle.desk_model.specs.Examples.Forms.{ContentExamples, EditExamples, RangeExamples, RowExamples, good_name}
 use Rattle.desk_model.specs.Examples.Gateway.{GatewayExamples}
 use Rattle.desk_model.specs.Examples.Limits.{LimitExamples}
-use Rattle.desk_model.specs.Examples.Refusals.{RefusalExamples, AcceptanceExamples, OrderExamples}
+use Rattle.desk_model.specs.Examples.Refusals.{AcceptanceExamples, OrderExamples, RefusalExamples}
 use Rattle.desk_model.specs.Examples.Shares.{ShareExamples}
 use Rattle.desk_model.specs.Examples.Texts.{TextExamples}
 
+is_named : is_name good_name ≡ true
+is_named = name_from good_name refl refl refl refl
+
+is_unnamed : is_name [] ≡ false
+unfolding name_of
+is_unnamed = refl
+
+-- what the examples compute with
+unfoldable pub examples : Bool
+unfolding annex_kinds annex_number are_names_kept are_rows_in_form cas_of chain_within closes_cycle code_of content covers date_text digits due_day duties edit_text entered exemption_number_of exemption_span finding_count findings findings_full first_day foreign_material has_kind has_too_many_findings has_too_much_text is_above is_affected is_declaration_in_form is_edit_in_form is_exemption_row is_in_force is_material_row is_over is_valid_on kept_number kind_changed kind_code kind_place kinds_text limit_of made masses_exceed name_taken no_such_line notices outside_annex reaches_within refused rolled_within rule_code rule_number seeds_of_new share ship_below_zero six_months_after stale_declaration start step table_full tables_over text_full ticket_code ticket_reused tonnage too_heavy_part too_heavy_year total_too_large units_too_large unknown_exemption unknown_material unknown_part unknown_product unknown_substance verdict verdict_on wrong_child year_too_large
+examples = true
+
 pub duty_examples : DutyExamples
-unfolding digits covers is_valid_on first_day is_in_force verdict date_text six_months_after kind_code kind_place kinds_text has_kind is_over limit_of rule_code rule_number content is_above is_affected seeds_of_new chain_within duties entered made edit_text ticket_code finding_count findings reaches_within refused ticket_reused unknown_substance unknown_material unknown_part unknown_product unknown_exemption name_taken kind_changed wrong_child no_such_line foreign_material stale_declaration masses_exceed exemption_span annex_kinds ship_below_zero units_too_large table_full text_full closes_cycle total_too_large findings_full year_too_large rolled_within share start kept_number step due_day notices tonnage has_too_many_findings has_too_much_text tables_over too_heavy_part too_heavy_year
+unfolding examples
 duty_examples = record {
   content_of_article = refl;
   article_mass = refl;
@@ -51,7 +72,7 @@ duty_examples = record {
 }
 
 pub notice_examples : NoticeExamples
-unfolding digits covers is_valid_on first_day is_in_force verdict date_text six_months_after kind_code kind_place kinds_text has_kind is_over limit_of rule_code rule_number content is_above is_affected seeds_of_new chain_within duties entered made edit_text ticket_code finding_count findings reaches_within refused ticket_reused unknown_substance unknown_material unknown_part unknown_product unknown_exemption name_taken kind_changed wrong_child no_such_line foreign_material stale_declaration masses_exceed exemption_span annex_kinds ship_below_zero units_too_large table_full text_full closes_cycle total_too_large findings_full year_too_large rolled_within share start kept_number step due_day notices tonnage has_too_many_findings has_too_much_text tables_over too_heavy_part too_heavy_year
+unfolding examples
 notice_examples = record {
   one_tonne = refl;
   no_notice = refl;
@@ -69,7 +90,7 @@ notice_examples = record {
 }
 
 pub chain_examples : ChainExamples
-unfolding digits covers is_valid_on first_day is_in_force verdict date_text six_months_after kind_code kind_place kinds_text has_kind is_over limit_of rule_code rule_number content is_above is_affected seeds_of_new chain_within duties entered made edit_text ticket_code finding_count findings reaches_within refused ticket_reused unknown_substance unknown_material unknown_part unknown_product unknown_exemption name_taken kind_changed wrong_child no_such_line foreign_material stale_declaration masses_exceed exemption_span annex_kinds ship_below_zero units_too_large table_full text_full closes_cycle total_too_large findings_full year_too_large rolled_within share start kept_number step due_day notices tonnage has_too_many_findings has_too_much_text tables_over too_heavy_part too_heavy_year
+unfolding examples
 chain_examples = record {
   eleven_edits = refl;
   both_ways_count = refl;
@@ -90,8 +111,93 @@ chain_examples = record {
   five_edits = refl;
 }
 
+pub entry_examples : EntryExamples
+unfolding examples
+entry_examples = record {
+  twenty_edits = refl;
+  substances = refl;
+  members = refl;
+  materials = refl;
+  parts = refl;
+  lines = refl;
+  products = refl;
+  exemptions = refl;
+  candidates = refl;
+  shipments = refl;
+  tickets = refl;
+  ticket = refl;
+}
+
+pub replacement_examples : ReplacementExamples
+unfolding examples
+replacement_examples = record {
+  all_edits = refl;
+  substances = refl;
+  members = refl;
+  materials = refl;
+  parts = refl;
+  lines = refl;
+  products = refl;
+  exemptions = refl;
+  candidates = refl;
+  shipments = refl;
+}
+
+pub range_examples : RangeExamples
+unfolding examples
+range_examples = record {
+  limits = refl;
+  ranges = refl;
+  years = refl;
+  counts = refl;
+  shipment_years = refl;
+  units = refl;
+  numbers = refl;
+  kept_factors = refl;
+  sent_factors = refl;
+  floors_and_caps = refl;
+  masses = refl;
+  held_masses = refl;
+}
+
+pub content_examples : ContentExamples
+unfolding examples
+content_examples = record {
+  counts_of_substances = refl;
+  counts_of_claims = refl;
+  counts_of_materials = refl;
+  orders_of_substances = refl;
+  orders_of_claims = refl;
+  orders_of_materials = refl;
+  sets_of_kinds = refl;
+  sums = refl;
+}
+
+pub row_examples : RowExamples
+unfolding examples
+row_examples = record {
+  substances = rw (is_named, is_unnamed) refl;
+  members = refl;
+  material = rw is_named refl;
+  materials = rw (is_named, is_unnamed) refl;
+  parts = rw (is_named, is_unnamed) refl;
+  lines = refl;
+  products = refl;
+  exemption = rw is_named refl;
+  exemptions = rw is_unnamed refl;
+  candidates = refl;
+  shipments = refl;
+}
+
+pub edit_examples : EditExamples
+unfolding examples
+edit_examples = record {
+  good = rw is_named refl;
+  not_good = rw (is_named, is_unnamed) refl;
+}
+
 pub gateway_examples : GatewayExamples
-unfolding verdict_on digits covers is_valid_on first_day is_in_force verdict date_text six_months_after kind_code kind_place kinds_text has_kind is_over limit_of rule_code rule_number content is_above is_affected seeds_of_new chain_within duties entered made edit_text ticket_code finding_count findings reaches_within refused ticket_reused unknown_substance unknown_material unknown_part unknown_product unknown_exemption name_taken kind_changed wrong_child no_such_line foreign_material stale_declaration masses_exceed exemption_span annex_kinds ship_below_zero units_too_large table_full text_full closes_cycle total_too_large findings_full year_too_large rolled_within share start kept_number step due_day notices tonnage has_too_many_findings has_too_much_text tables_over too_heavy_part too_heavy_year
+unfolding examples
 gateway_examples = record {
   nineteen_edits = refl;
   whole_mass = refl;
@@ -114,7 +220,7 @@ gateway_examples = record {
 }
 
 pub limit_examples : LimitExamples
-unfolding digits covers is_valid_on first_day is_in_force verdict date_text six_months_after kind_code kind_place kinds_text has_kind is_over limit_of rule_code rule_number content is_above is_affected seeds_of_new chain_within duties entered made edit_text ticket_code finding_count findings reaches_within refused ticket_reused unknown_substance unknown_material unknown_part unknown_product unknown_exemption name_taken kind_changed wrong_child no_such_line foreign_material stale_declaration masses_exceed exemption_span annex_kinds ship_below_zero units_too_large table_full text_full closes_cycle total_too_large findings_full year_too_large rolled_within share start kept_number step due_day notices tonnage has_too_many_findings has_too_much_text tables_over too_heavy_part too_heavy_year
+unfolding examples
 limit_examples = record {
   rule_21 = refl;
   below = refl;
@@ -130,7 +236,7 @@ limit_examples = record {
 }
 
 pub refusal_examples : RefusalExamples
-unfolding digits covers is_valid_on first_day is_in_force verdict date_text six_months_after kind_code kind_place kinds_text has_kind is_over limit_of rule_code rule_number content is_above is_affected seeds_of_new chain_within duties entered made edit_text ticket_code finding_count findings reaches_within refused ticket_reused unknown_substance unknown_material unknown_part unknown_product unknown_exemption name_taken kind_changed wrong_child no_such_line foreign_material stale_declaration masses_exceed exemption_span annex_kinds ship_below_zero units_too_large table_full text_full closes_cycle total_too_large findings_full year_too_large rolled_within share start kept_number step due_day notices tonnage has_too_many_findings has_too_much_text tables_over too_heavy_part too_heavy_year
+unfolding examples
 refusal_examples = record {
   rule_1 = refl;
   rule_1_declare = refl;
@@ -165,7 +271,7 @@ refusal_examples = record {
 }
 
 pub acceptance_examples : AcceptanceExamples
-unfolding digits covers is_valid_on first_day is_in_force verdict date_text six_months_after kind_code kind_place kinds_text has_kind is_over limit_of rule_code rule_number content is_above is_affected seeds_of_new chain_within duties entered made edit_text ticket_code finding_count findings reaches_within refused ticket_reused unknown_substance unknown_material unknown_part unknown_product unknown_exemption name_taken kind_changed wrong_child no_such_line foreign_material stale_declaration masses_exceed exemption_span annex_kinds ship_below_zero units_too_large table_full text_full closes_cycle total_too_large findings_full year_too_large rolled_within share start kept_number step due_day notices tonnage has_too_many_findings has_too_much_text tables_over too_heavy_part too_heavy_year
+unfolding examples
 acceptance_examples = record {
   annex_four = refl;
   most_units = refl;
@@ -177,7 +283,7 @@ acceptance_examples = record {
 }
 
 pub order_examples : OrderExamples
-unfolding digits covers is_valid_on first_day is_in_force verdict date_text six_months_after kind_code kind_place kinds_text has_kind is_over limit_of rule_code rule_number content is_above is_affected seeds_of_new chain_within duties entered made edit_text ticket_code finding_count findings reaches_within refused ticket_reused unknown_substance unknown_material unknown_part unknown_product unknown_exemption name_taken kind_changed wrong_child no_such_line foreign_material stale_declaration masses_exceed exemption_span annex_kinds ship_below_zero units_too_large table_full text_full closes_cycle total_too_large findings_full year_too_large rolled_within share start kept_number step due_day notices tonnage has_too_many_findings has_too_much_text tables_over too_heavy_part too_heavy_year
+unfolding examples
 order_examples = record {
   reused_and_unknown = refl;
   unknown_and_taken = refl;
@@ -189,7 +295,7 @@ order_examples = record {
 }
 
 pub share_examples : ShareExamples
-unfolding digits covers is_valid_on first_day is_in_force verdict date_text six_months_after kind_code kind_place kinds_text has_kind is_over limit_of rule_code rule_number content is_above is_affected seeds_of_new chain_within duties entered made edit_text ticket_code finding_count findings reaches_within refused ticket_reused unknown_substance unknown_material unknown_part unknown_product unknown_exemption name_taken kind_changed wrong_child no_such_line foreign_material stale_declaration masses_exceed exemption_span annex_kinds ship_below_zero units_too_large table_full text_full closes_cycle total_too_large findings_full year_too_large rolled_within share start kept_number step due_day notices tonnage has_too_many_findings has_too_much_text tables_over too_heavy_part too_heavy_year
+unfolding examples
 share_examples = record {
   oxide_over = refl;
   oxide_over_limit = refl;
@@ -207,7 +313,7 @@ share_examples = record {
 }
 
 pub text_examples : TextExamples
-unfolding digits covers is_valid_on first_day is_in_force verdict date_text six_months_after kind_code kind_place kinds_text has_kind is_over limit_of rule_code rule_number content is_above is_affected seeds_of_new chain_within duties entered made edit_text ticket_code finding_count findings reaches_within refused ticket_reused unknown_substance unknown_material unknown_part unknown_product unknown_exemption name_taken kind_changed wrong_child no_such_line foreign_material stale_declaration masses_exceed exemption_span annex_kinds ship_below_zero units_too_large table_full text_full closes_cycle total_too_large findings_full year_too_large rolled_within share start kept_number step due_day notices tonnage has_too_many_findings has_too_much_text tables_over too_heavy_part too_heavy_year
+unfolding examples
 text_examples = record {
   declaration = refl;
   declaration_code = refl;

@@ -26,7 +26,7 @@ use Rattle.desk_model.specs.declared.rule_fault.RuleFault.{RuleFault}
 use Rattle.desk_model.specs.Effect.{made, units_of, with_factor, with_units}
 use Rattle.desk_model.specs.Forms.{are_units, is_code, is_count, is_exemption_row, is_member_row, is_name, is_optional_cas, is_shipment_row, is_substance_row, is_candidate_row, is_product_row, is_edit_in_form, is_year}
 use Rattle.desk_model.specs.Lists.{Lists, is_material, is_part, is_product, is_substance, line_key, line_key_cmp, member_key, member_key_cmp, shipment_key, shipment_key_cmp, shipment_row}
-use Rattle.desk_model.specs.Refused.{annex_kinds, exemption_span, refuse_if, ship_below_zero, units_too_large, unknown_part, unknown_product, unknown_substance}
+use Rattle.desk_model.specs.Refused.{outside_annex, exemption_span, refuse_if, ship_below_zero, units_too_large, unknown_part, unknown_product, unknown_substance}
 use Rattle.desk_model.specs.Terms.{breaks_annex, breaks_span}
 use Rattle.desk_model.specs.declared.limits.TheConstants.{UNITS_LIMIT, WHOLE_FACTOR}
 use Rattle.desk_model.proofs.Changes.{good-candidates, good-exemptions, good-members, good-products, good-shipments, good-substances}
@@ -113,11 +113,11 @@ module _ (t : Lists) (g : IsGood t) where
       })
 
   pub good-exemption : (ticket : List ℕ) (exemption : ExemptionRow) → is_edit_in_form (Exemption ticket exemption) ≡ true → IsUnrefused t (Exemption ticket exemption) → IsGood (made t (Exemption ticket exemption))
-  unfolding made is_edit_in_form exemption_span annex_kinds
+  unfolding made is_edit_in_form exemption_span outside_annex
   good-exemption ticket exemption form u =
       let f1 = and_split (is_code ticket) (is_exemption_row exemption) form in
       let span = refuse_if-none (breaks_span exemption.terms) _ u.exemption_span in
-      let annex = refuse_if-none (breaks_annex exemption.terms) _ u.annex_kinds in
+      let annex = refuse_if-none (breaks_annex exemption.terms) _ u.outside_annex in
       good-exemptions t (with_row (λ row. row.terms.row) code_cmp exemption t.exemptions) g
       (IsByKey-with_row (λ row. row.terms.row) code_cmp code_cmp_total exemption t.exemptions g.ordered.exemptions)
       (all_with_row (λ row. row.terms.row) code_cmp is_exemption_row exemption t.exemptions f1.1 g.forms.exemptions)

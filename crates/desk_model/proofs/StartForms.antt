@@ -28,7 +28,7 @@ ascii_from (b ∷ bytes) e =
     IsAscii-cons b bytes (ltb-true b 128 parts.0) (ascii_from bytes parts.1)
 
 -- an ASCII text without control characters, not empty and not too long, is a name
-name_from : (bytes : List ℕ) → list_all (λ b. nat_lt b 128) bytes ≡ true → list_any is_control bytes ≡ false → (length bytes == 0) ≡ false → nat_lt NAME_LIMIT (length bytes) ≡ false → is_name bytes ≡ true
+pub name_from : (bytes : List ℕ) → list_all (λ b. nat_lt b 128) bytes ≡ true → list_any is_control bytes ≡ false → (length bytes == 0) ≡ false → nat_lt NAME_LIMIT (length bytes) ≡ false → is_name bytes ≡ true
 unfolding name_of
 name_from bytes ascii plain some short =
     let is_ascii = ascii_from bytes ascii in

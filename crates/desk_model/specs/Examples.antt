@@ -2,6 +2,8 @@
 pub mod Articles
 pub mod Chains
 pub mod Desks
+pub mod Effects
+pub mod Forms
 pub mod Gateway
 pub mod Limits
 pub mod Refusals

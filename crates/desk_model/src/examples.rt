@@ -1,0 +1,32 @@
+//! Examples of the definitions in `specs/`: small desks beside values that were worked out by hand. The check computes them,
+//! as the contract of a function that does nothing.
+
+ghost use Rattle.desk_model.specs.Examples.Articles.{DutyExamples, NoticeExamples};
+ghost use Rattle.desk_model.specs.Examples.Chains.{ChainExamples};
+ghost use Rattle.desk_model.specs.Examples.Effects.{EntryExamples, ReplacementExamples};
+ghost use Rattle.desk_model.specs.Examples.Forms.{ContentExamples, EditExamples, RangeExamples, RowExamples};
+ghost use Rattle.desk_model.specs.Examples.Gateway.{GatewayExamples};
+ghost use Rattle.desk_model.specs.Examples.Limits.{LimitExamples};
+ghost use Rattle.desk_model.specs.Examples.Refusals.{AcceptanceExamples, OrderExamples, RefusalExamples};
+ghost use Rattle.desk_model.specs.Examples.Shares.{ShareExamples};
+ghost use Rattle.desk_model.specs.Examples.Texts.{TextExamples};
+
+/// Each example holds.
+pub fn examples_hold()
+    ensures duties { DutyExamples }
+    ensures notices { NoticeExamples }
+    ensures chains { ChainExamples }
+    ensures entries { EntryExamples }
+    ensures replacements { ReplacementExamples }
+    ensures ranges { RangeExamples }
+    ensures contents { ContentExamples }
+    ensures rows { RowExamples }
+    ensures edits { EditExamples }
+    ensures gateway { GatewayExamples }
+    ensures limits { LimitExamples }
+    ensures refusals { RefusalExamples }
+    ensures acceptances { AcceptanceExamples }
+    ensures orders { OrderExamples }
+    ensures shares { ShareExamples }
+    ensures texts { TextExamples }
+{}
