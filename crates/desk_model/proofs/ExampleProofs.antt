@@ -1,5 +1,5 @@
 -- The examples hold by computation.
-use Rattle.std.proofs.Common.{◌≡◌, [], refl, Bool, true, false}
+use Rattle.std.proofs.Common.{◌≡◌, ℕ, List, [], ◌∷◌, length, refl, ap, Bool, true, false, Err}
 use Rattle.std.specs.Fmt.{digits}
 use Rattle.desk_text.specs.Day.{date_text, six_months_after}
 use Rattle.desk_law.specs.Annex.{annex_kinds, annex_number}
@@ -16,6 +16,7 @@ use Rattle.desk_text.specs.Cas.{cas_of}
 use Rattle.desk_model.specs.Forms.{is_name, is_declaration_in_form, is_edit_in_form, is_exemption_row, is_material_row}
 use Rattle.desk_model.specs.Sound.{are_names_kept, are_rows_in_form}
 use Rattle.desk_text.specs.Name.{name_of}
+use Rattle.desk_model.specs.declared.rule_fault.RuleFault.TheVariants.{TextFull}
 use Rattle.desk_model.specs.Above.{content, is_above}
 use Rattle.desk_model.specs.Affected.{is_affected, seeds_of_new}
 use Rattle.desk_model.specs.Chain.{chain_within}
@@ -24,23 +25,24 @@ use Rattle.desk_model.specs.Effect.{entered, made}
 use Rattle.desk_model.specs.EditText.{edit_text, ticket_code}
 use Rattle.desk_model.specs.Findings.{finding_count, findings}
 use Rattle.desk_model.specs.Reaches.{reaches_within}
-use Rattle.desk_model.specs.Refused.{refused, ticket_reused, unknown_substance, unknown_material, unknown_part, unknown_product, unknown_exemption, name_taken, kind_changed, wrong_child, no_such_line, foreign_material, stale_declaration, masses_exceed, exemption_span, outside_annex, ship_below_zero, units_too_large, table_full, text_full, closes_cycle, total_too_large, findings_full, year_too_large}
+use Rattle.desk_model.specs.Refused.{first_some, refuse_if, refused, ticket_reused, unknown_substance, unknown_material, unknown_part, unknown_product, unknown_exemption, name_taken, kind_changed, wrong_child, no_such_line, foreign_material, stale_declaration, masses_exceed, exemption_span, outside_annex, ship_below_zero, units_too_large, table_full, text_full, closes_cycle, total_too_large, findings_full, year_too_large}
 use Rattle.desk_model.specs.Rolled.{rolled_within}
 use Rattle.desk_model.specs.Share.{share}
 use Rattle.desk_model.specs.Start.{start}
-use Rattle.desk_model.specs.Step.{kept_number, step}
+use Rattle.desk_model.specs.Step.{kept_number, step, step_new}
 use Rattle.desk_model.specs.Tonnage.{due_day, notices, tonnage}
 use Rattle.desk_model.specs.Totals.{has_too_many_findings, has_too_much_text, tables_over, too_heavy_part, too_heavy_year}
 use Rattle.desk_model.proofs.StartForms.{name_from}
-use Rattle.desk_model.specs.Examples.Articles.{DutyExamples, NoticeExamples}
+use Rattle.desk_model.specs.Examples.Articles.{CandidateExamples, DutyExamples, NoticeExamples}
+use Rattle.desk_model.specs.Examples.Desks.{answer_at}
 use Rattle.desk_model.specs.Examples.Chains.{ChainExamples}
 use Rattle.desk_model.specs.Examples.Effects.{EntryExamples, ReplacementExamples}
 use Rattle.desk_model.specs.Examples.Forms.{ContentExamples, EditExamples, RangeExamples, RowExamples, good_name}
 use Rattle.desk_model.specs.Examples.Gateway.{GatewayExamples}
-use Rattle.desk_model.specs.Examples.Limits.{LimitExamples}
-use Rattle.desk_model.specs.Examples.Refusals.{AcceptanceExamples, OrderExamples, RefusalExamples}
+use Rattle.desk_model.specs.Examples.Limits.{LimitExamples, TableLimitExamples}
+use Rattle.desk_model.specs.Examples.Refusals.{AcceptanceExamples, FirstExamples, OrderExamples, RefusalExamples, lone, lone_cycle, with_text}
 use Rattle.desk_model.specs.Examples.Shares.{ShareExamples}
-use Rattle.desk_model.specs.Examples.Texts.{TextExamples}
+use Rattle.desk_model.specs.Examples.Texts.{StartExamples, TextExamples}
 
 is_named : is_name good_name ≡ true
 is_named = name_from good_name refl refl refl refl
@@ -53,6 +55,14 @@ is_unnamed = refl
 unfoldable pub examples : Bool
 unfolding annex_kinds annex_number are_names_kept are_rows_in_form cas_of chain_within closes_cycle code_of content covers date_text digits due_day duties edit_text entered exemption_number_of exemption_span finding_count findings findings_full first_day foreign_material has_kind has_too_many_findings has_too_much_text is_above is_affected is_declaration_in_form is_edit_in_form is_exemption_row is_in_force is_material_row is_over is_valid_on kept_number kind_changed kind_code kind_place kinds_text limit_of made masses_exceed name_taken no_such_line notices outside_annex reaches_within refused rolled_within rule_code rule_number seeds_of_new share ship_below_zero six_months_after stale_declaration start step table_full tables_over text_full ticket_code ticket_reused tonnage too_heavy_part too_heavy_year total_too_large units_too_large unknown_exemption unknown_material unknown_part unknown_product unknown_substance verdict verdict_on wrong_child year_too_large
 examples = true
+
+-- rule 19 is tried before rule 20
+texts_before_cycles : (text : List ℕ) → length text ≡ 67108864 → answer_at (with_text lone text) lone_cycle ≡ Err TextFull
+unfolding examples
+texts_before_cycles text e =
+    let t = with_text lone text in
+    let over : has_too_much_text (entered t lone_cycle) ≡ true = rw e refl in
+    ap (λ b. (step_new t lone_cycle (first_some (refuse_if b TextFull ∷ closes_cycle t lone_cycle ∷ total_too_large t lone_cycle ∷ findings_full t lone_cycle ∷ year_too_large t lone_cycle ∷ []))).0) over
 
 pub duty_examples : DutyExamples
 unfolding examples
@@ -78,14 +88,33 @@ notice_examples = record {
   no_notice = refl;
   over_one_tonne = refl;
   a_notice = refl;
+  day_before = refl;
+  day_of_inclusion = refl;
   other_year = refl;
   units_add_up = refl;
   all_taken_off = refl;
   first_due_day = refl;
+  last_first_due_day = refl;
+  next_due_day = refl;
   later_due_day = refl;
   end_of_february = refl;
   past_last_day = refl;
-  candidate_affects = refl;
+}
+
+pub candidate_examples : CandidateExamples
+unfolding examples
+candidate_examples = record {
+  content_of_two = refl;
+  no_content = refl;
+  no_candidate = refl;
+  none_carried = refl;
+  candidate = refl;
+  assembly_not_above = refl;
+  thousandth = refl;
+  three_cables = refl;
+  article_findings = refl;
+  new_candidate = refl;
+  unheld_candidate = refl;
   candidate_again = refl;
 }
 
@@ -225,6 +254,12 @@ limit_examples = record {
   rule_21 = refl;
   below = refl;
   mass_below = refl;
+  least_part = refl;
+  whole_power = refl;
+  less_power = refl;
+  whole_year = refl;
+  less_year = refl;
+  least_year = refl;
   rule_23 = refl;
   three_units = refl;
   rule_18 = refl;
@@ -233,6 +268,39 @@ limit_examples = record {
   too_much_text = λ text e. rw e refl;
   rule_19 = λ t edit e. rw e refl;
   rule_22 = λ t edit e. rw e refl;
+}
+
+pub table_limit_examples : TableLimitExamples
+unfolding examples
+table_limit_examples = record {
+  limits = refl;
+  other_limits = refl;
+  substances = λ rows e. rw e refl;
+  substances_over = λ rows e. rw e refl;
+  members = λ rows e. rw e refl;
+  members_over = λ rows e. rw e refl;
+  materials = λ rows e. rw e refl;
+  materials_over = λ rows e. rw e refl;
+  parts = λ rows e f. rw (e, f) refl;
+  parts_over = λ rows e f. rw (e, f) refl;
+  lines = λ rows e. rw e refl;
+  lines_over = λ rows e. rw e refl;
+  products = λ rows e. rw e refl;
+  products_over = λ rows e. rw e refl;
+  exemptions = λ rows e. rw e refl;
+  exemptions_over = λ rows e. rw e refl;
+  candidates = λ rows e. rw e refl;
+  candidates_over = λ rows e. rw e refl;
+  shipments = λ rows e. rw e refl;
+  shipments_over = λ rows e. rw e refl;
+  tickets = λ rows e. rw e refl;
+  tickets_over = λ rows e. rw e refl;
+  lines_of_parent = λ lines e f. rw (e, f) refl;
+  lines_of_parent_over = λ lines e f. rw (e, f) refl;
+  first_table = λ t edit e. rw e refl;
+  two_tables = λ rows others e f. rw (e, f) refl;
+  most_findings = λ t e. rw e refl;
+  too_many_findings = λ t e. rw e refl;
 }
 
 pub refusal_examples : RefusalExamples
@@ -263,6 +331,8 @@ refusal_examples = record {
   rule_14_days = refl;
   rule_14_ppm = refl;
   rule_15 = refl;
+  rule_15_second = refl;
+  rule_15_kinds = refl;
   rule_16 = refl;
   rule_16_no_entry = refl;
   rule_17 = refl;
@@ -270,10 +340,32 @@ refusal_examples = record {
   rule_20 = refl;
 }
 
+pub first_examples : FirstExamples
+unfolding examples
+first_examples = record {
+  rule_2 = refl;
+  rule_7 = refl;
+  rule_11 = refl;
+  rule_11_second = refl;
+  rule_12 = refl;
+  rule_13 = refl;
+}
+
 pub acceptance_examples : AcceptanceExamples
 unfolding examples
 acceptance_examples = record {
   annex_four = refl;
+  all_annex_four = refl;
+  annex_three = refl;
+  floor_alone = refl;
+  cap_alone = refl;
+  all_units = refl;
+  equal_masses = refl;
+  equal_number = refl;
+  part_again = refl;
+  line_again = refl;
+  product_again = refl;
+  like_declaration = refl;
   most_units = refl;
   repeated = refl;
   repeated_declaration = refl;
@@ -292,6 +384,20 @@ order_examples = record {
   wrong_and_cycle = refl;
   foreign_and_stale = refl;
   span_and_kinds = refl;
+  taken_and_foreign = refl;
+  foreign_and_taken = refl;
+  stale_and_foreign = refl;
+  stale_and_heavy = refl;
+  unknown_and_full = refl;
+  changed_and_full = refl;
+  no_line_and_full = refl;
+  heavy_and_full = refl;
+  kinds_and_full = refl;
+  below_and_full = refl;
+  large_and_full = refl;
+  full_and_texts = λ text. refl;
+  texts_and_cycle = texts_before_cycles;
+  cycle_and_heavy = refl;
 }
 
 pub share_examples : ShareExamples
@@ -322,6 +428,24 @@ text_examples = record {
   no_cas = refl;
   exemption = refl;
   ship = refl;
-  ten_substances = refl;
-  ten_members = refl;
+  exemption_from_floor = refl;
+  declaration_of_two = refl;
+  substance = refl;
+  member = refl;
+  article = refl;
+  line = refl;
+  unline = refl;
+  product = refl;
+  unexempt = refl;
+  candidate = refl;
+  unship = refl;
+  ticket_codes = refl;
+}
+
+pub start_examples : StartExamples
+unfolding examples
+start_examples = record {
+  substances = refl;
+  members = refl;
+  nothing_else = refl;
 }
