@@ -1,5 +1,6 @@
 -- The examples hold by computation.
-use Rattle.std.proofs.Common.{◌≡◌, ℕ, List, [], ◌∷◌, length, refl, ap, Bool, true, false, Err}
+use Rattle.std.proofs.Common.{◌≡◌, ℕ, List, [], ◌∷◌, ◌++◌, length, refl, sym, ap, ◌∙◌, is_some, reverse, Bool, true, false, Err}
+use Rattle.std.specs.Prelude.{◌==◌, codes, map}
 use Rattle.std.specs.Fmt.{digits}
 use Rattle.desk_text.specs.Day.{date_text, six_months_after}
 use Rattle.desk_law.specs.Annex.{annex_kinds, annex_number}
@@ -11,11 +12,13 @@ use Rattle.desk_law.specs.Limit.{is_over, limit_of}
 use Rattle.desk_law.specs.Verdict.{verdict}
 use Rattle.desk_model.specs.Verdicts.{verdict_on}
 use Rattle.desk_law.specs.Rule.{rule_code, rule_number}
-use Rattle.desk_text.specs.Code.{code_of, exemption_number_of}
+use Rattle.desk_text.specs.Code.{code_cmp, code_of, exemption_number_of}
 use Rattle.desk_text.specs.Cas.{cas_of}
 use Rattle.desk_model.specs.Forms.{is_name, is_declaration_in_form, is_edit_in_form, is_exemption_row, is_material_row}
 use Rattle.desk_model.specs.Sound.{are_names_kept, are_rows_in_form}
 use Rattle.desk_text.specs.Name.{name_of}
+use Rattle.desk_model.specs.declared.edit.Edit.{Edit}
+use Rattle.desk_model.specs.declared.edit.Edit.TheVariants.{Substance, Member, Declare, Part, Line, Unline, Product, Exemption, Unexempt, Candidate, Ship, Unship}
 use Rattle.desk_model.specs.declared.rule_fault.RuleFault.TheVariants.{TextFull}
 use Rattle.desk_model.specs.Above.{content, is_above}
 use Rattle.desk_model.specs.Affected.{is_affected, seeds_of_new}
@@ -32,9 +35,16 @@ use Rattle.desk_model.specs.Start.{start}
 use Rattle.desk_model.specs.Step.{kept_number, step, step_new}
 use Rattle.desk_model.specs.Tonnage.{due_day, notices, tonnage}
 use Rattle.desk_model.specs.Totals.{has_too_many_findings, has_too_much_text, tables_over, too_heavy_part, too_heavy_year}
-use Rattle.desk_model.proofs.StartForms.{name_from}
+use Rattle.desk_model.specs.Sound.{Sound}
+use Rattle.desk_model.specs.Lists.{line_key, line_key_cmp, member_key, member_key_cmp, shipment_key, shipment_key_cmp}
+use Rattle.desk_model.proofs.Elements.{each_from_all}
+use Rattle.desk_model.proofs.Order.{rises_from_sorted}
+use Rattle.desk_model.proofs.SoundSteps.{Sound-start, Sound-tables_after}
+use Rattle.desk_model.proofs.Names.{name_from}
 use Rattle.desk_model.specs.Examples.Articles.{CandidateExamples, DutyExamples, NoticeExamples}
-use Rattle.desk_model.specs.Examples.Desks.{answer_at}
+use Rattle.desk_model.specs.Examples.Desks.{answer_at, article}
+use Rattle.desk_model.specs.Examples.Effects as effects
+use Rattle.desk_model.specs.Examples.Sound as unsound
 use Rattle.desk_model.specs.Examples.Chains.{ChainExamples}
 use Rattle.desk_model.specs.Examples.Effects.{EntryExamples, ReplacementExamples}
 use Rattle.desk_model.specs.Examples.Forms.{ContentExamples, EditExamples, RangeExamples, RowExamples, good_name}
@@ -42,6 +52,7 @@ use Rattle.desk_model.specs.Examples.Gateway.{GatewayExamples}
 use Rattle.desk_model.specs.Examples.Limits.{LimitExamples, TableLimitExamples}
 use Rattle.desk_model.specs.Examples.Refusals.{AcceptanceExamples, FirstExamples, OrderExamples, RefusalExamples, lone, lone_cycle, with_text}
 use Rattle.desk_model.specs.Examples.Shares.{ShareExamples}
+use Rattle.desk_model.specs.Examples.Sound.{SoundExamples}
 use Rattle.desk_model.specs.Examples.Texts.{StartExamples, TextExamples}
 
 is_named : is_name good_name ≡ true
@@ -55,6 +66,58 @@ is_unnamed = refl
 unfoldable pub examples : Bool
 unfolding annex_kinds annex_number are_names_kept are_rows_in_form cas_of chain_within closes_cycle code_of content covers date_text digits due_day duties edit_text entered exemption_number_of exemption_span finding_count findings findings_full first_day foreign_material has_kind has_too_many_findings has_too_much_text is_above is_affected is_declaration_in_form is_edit_in_form is_exemption_row is_in_force is_material_row is_over is_valid_on kept_number kind_changed kind_code kind_place kinds_text limit_of made masses_exceed name_taken no_such_line notices outside_annex reaches_within refused rolled_within rule_code rule_number seeds_of_new share ship_below_zero six_months_after stale_declaration start step table_full tables_over text_full ticket_code ticket_reused tonnage too_heavy_part too_heavy_year total_too_large units_too_large unknown_exemption unknown_material unknown_part unknown_product unknown_substance verdict verdict_on wrong_child year_too_large
 examples = true
+
+sound_desk : Sound effects.desk
+unfolding examples
+sound_desk =
+    Sound-tables_after start effects.edits Sound-start (each_from_all is_edit_in_form effects.edits
+    (rw (name_from (codes "Tin") refl refl refl refl, name_from (codes "Brass") refl refl refl refl, name_from (codes "Copper") refl refl refl refl, name_from (codes "Set") refl refl refl refl, name_from (codes "Pin") refl refl refl refl, name_from (codes "Cable") refl refl refl refl, name_from (codes "Copper alloy") refl refl refl refl) refl))
+
+sound_later : Sound effects.later
+unfolding examples
+sound_later =
+    Sound-tables_after start (effects.edits ++ effects.changes) Sound-start (each_from_all is_edit_in_form (effects.edits ++ effects.changes)
+    (rw (name_from (codes "Tin") refl refl refl refl, name_from (codes "Brass") refl refl refl refl, name_from (codes "Copper") refl refl refl refl, name_from (codes "Set") refl refl refl refl, name_from (codes "Pin") refl refl refl refl, name_from (codes "Cable") refl refl refl refl, name_from (codes "Copper alloy") refl refl refl refl, name_from (codes "Stannum") refl refl refl refl, name_from (codes "Yellow brass") refl refl refl refl, name_from (codes "Contact pin") refl refl refl refl) refl))
+
+begins : ℕ → List ℕ → Bool
+begins byte [] = false
+begins byte (first ∷ bytes) = first == byte
+
+has_tables : List ℕ → Bool
+has_tables [] = false
+has_tables (table ∷ tables) = true
+
+-- `declare` begins with 100, and no other edit's word does; `E` is 69 and `D` is 68
+not_sent : (edit : Edit) → codes "E:t1" ≡ ticket_code edit → edit_text unsound.solder ≡ edit_text edit → true ≡ false
+unfolding examples begins
+not_sent (Substance ticket code name cas) c t = ap (begins 100) t
+not_sent (Member ticket substance rule factor) c t = ap (begins 100) t
+not_sent (Declare declaration) c t = ap (begins 69) c
+not_sent (Part ticket code sort name) c t = ap (begins 100) t
+not_sent (Line ticket parent child count) c t = ap (begins 100) t
+not_sent (Unline ticket parent child) c t = ap (begins 100) t
+not_sent (Product ticket part kind) c t = ap (begins 100) t
+not_sent (Exemption ticket exemption) c t = ap (begins 100) t
+not_sent (Unexempt ticket row) c t = ap (begins 100) t
+not_sent (Candidate ticket substance day) c t = ap (begins 100) t
+not_sent (Ship ticket product year units) c t = ap (begins 100) t
+not_sent (Unship ticket product year units) c t = ap (begins 100) t
+
+-- `part` begins with 112
+not_declared : (edit : Edit) → codes "D:ACME:7" ≡ ticket_code edit → edit_text (article (codes "t1") (codes "PIN")) ≡ edit_text edit → true ≡ false
+unfolding examples begins
+not_declared (Substance ticket code name cas) c t = ap (begins 68) c
+not_declared (Member ticket substance rule factor) c t = ap (begins 68) c
+not_declared (Declare declaration) c t = ap (begins 112) t
+not_declared (Part ticket code sort name) c t = ap (begins 68) c
+not_declared (Line ticket parent child count) c t = ap (begins 68) c
+not_declared (Unline ticket parent child) c t = ap (begins 68) c
+not_declared (Product ticket part kind) c t = ap (begins 68) c
+not_declared (Exemption ticket exemption) c t = ap (begins 68) c
+not_declared (Unexempt ticket row) c t = ap (begins 68) c
+not_declared (Candidate ticket substance day) c t = ap (begins 68) c
+not_declared (Ship ticket product year units) c t = ap (begins 68) c
+not_declared (Unship ticket product year units) c t = ap (begins 68) c
 
 -- rule 19 is tried before rule 20
 texts_before_cycles : (text : List ℕ) → length text ≡ 67108864 → answer_at (with_text lone text) lone_cycle ≡ Err TextFull
@@ -416,6 +479,42 @@ share_examples = record {
   cleared_share = refl;
   cleared_affects = refl;
   nothing_to_clear = refl;
+}
+
+pub sound_examples : SoundExamples
+unfolding examples has_tables
+sound_examples = record {
+  sound = sound_desk;
+  sound_later = sound_later;
+  substances = λ s. sym (rises_from_sorted code_cmp (map (λ row. row.code) (reverse effects.desk.substances)) s.ordered.substances);
+  members = λ s. sym (rises_from_sorted member_key_cmp (map member_key (reverse effects.desk.members)) s.ordered.members);
+  materials = λ s. sym (rises_from_sorted code_cmp (map (λ row. row.code) (reverse effects.desk.materials)) s.ordered.materials);
+  parts = λ s. sym (rises_from_sorted code_cmp (map (λ row. row.code) (reverse effects.desk.parts)) s.ordered.parts);
+  lines = λ s. sym (rises_from_sorted line_key_cmp (map line_key (reverse effects.desk.lines)) s.ordered.lines);
+  products = λ s. sym (rises_from_sorted code_cmp (map (λ row. row.part) (reverse effects.desk.products)) s.ordered.products);
+  exemptions = λ s. sym (rises_from_sorted code_cmp (map (λ row. row.terms.row) (reverse effects.desk.exemptions)) s.ordered.exemptions);
+  candidates = λ s. sym (rises_from_sorted code_cmp (map (λ row. row.substance) (reverse effects.desk.candidates)) s.ordered.candidates);
+  shipments = λ s. sym (rises_from_sorted shipment_key_cmp (map shipment_key (reverse effects.desk.shipments)) s.ordered.shipments);
+  tickets = λ s. sym (rises_from_sorted code_cmp (map (λ row. row.code) (reverse effects.desk.tickets)) s.ordered.tickets);
+  key_twice = λ s. sym (rises_from_sorted code_cmp (codes "SET" ∷ codes "SET" ∷ []) s.ordered.products);
+  forms = refl;
+  form = λ s. sym s.in_form;
+  names = refl;
+  name = λ s. sym s.names_kept;
+  shared_code = λ s. sym s.codes_apart;
+  heavy_substance = λ s. sym s.masses_fit;
+  ends_before_it_begins = λ s. sym s.exemptions_fit;
+  outside_annex = λ s. sym s.exemptions_fit;
+  too_many_candidates = λ s. ap has_tables s.tables_fit;
+  too_much_text = λ text e s. sym (rw e refl) ∙ s.texts_fit;
+  part_of_itself = λ s. sym s.acyclic;
+  too_heavy = λ s. ap is_some s.parts_fit;
+  too_many_findings = λ t e s. sym (rw e refl) ∙ s.findings_fit;
+  too_heavy_year = λ s. ap is_some s.years_fit;
+  numbers = refl;
+  second_number = λ s. sym s.numbered;
+  declaration_as_sent = λ s. not_sent s.tickets_of_edits.0.0 s.tickets_of_edits.0.2 s.tickets_of_edits.0.3;
+  sent_as_declaration = λ s. not_declared s.tickets_of_edits.0.0 s.tickets_of_edits.0.2 s.tickets_of_edits.0.3;
 }
 
 pub text_examples : TextExamples

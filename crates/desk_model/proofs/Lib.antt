@@ -17,6 +17,7 @@ pub mod Local
 pub mod Made
 pub mod MadeBill
 pub mod MadeDeclared
+pub mod Names
 pub mod Numbers
 pub mod Order
 pub mod Rules

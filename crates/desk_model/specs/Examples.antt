@@ -8,4 +8,5 @@ pub mod Gateway
 pub mod Limits
 pub mod Refusals
 pub mod Shares
+pub mod Sound
 pub mod Texts

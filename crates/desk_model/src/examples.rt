@@ -9,6 +9,7 @@ ghost use Rattle.desk_model.specs.Examples.Gateway.{GatewayExamples};
 ghost use Rattle.desk_model.specs.Examples.Limits.{LimitExamples, TableLimitExamples};
 ghost use Rattle.desk_model.specs.Examples.Refusals.{AcceptanceExamples, FirstExamples, OrderExamples, RefusalExamples};
 ghost use Rattle.desk_model.specs.Examples.Shares.{ShareExamples};
+ghost use Rattle.desk_model.specs.Examples.Sound.{SoundExamples};
 ghost use Rattle.desk_model.specs.Examples.Texts.{StartExamples, TextExamples};
 
 /// Each example holds.
@@ -31,6 +32,7 @@ pub fn examples_hold()
     ensures acceptances { AcceptanceExamples }
     ensures orders { OrderExamples }
     ensures shares { ShareExamples }
+    ensures sound { SoundExamples }
     ensures texts { TextExamples }
     ensures starts { StartExamples }
 {}
