@@ -2,6 +2,7 @@
 use Rattle.std.proofs.Common.{◌≡◌, ℕ, List, [], ◌∷◌, ◌++◌, length, refl, sym, ap, ◌∙◌, is_some, reverse, Bool, true, false, Err}
 use Rattle.std.specs.Prelude.{◌==◌, codes, map}
 use Rattle.std.specs.Fmt.{digits}
+use Rattle.std.proofs.lemmas.Bool.{false≢true, true≢false}
 use Rattle.desk_text.specs.Day.{date_text, six_months_after}
 use Rattle.desk_law.specs.Annex.{annex_kinds, annex_number}
 use Rattle.desk_law.specs.Kind.{kind_code, kind_place}
@@ -176,6 +177,8 @@ candidate_examples = record {
   thousandth = refl;
   three_cables = refl;
   article_findings = refl;
+  articles = refl;
+  own_article = refl;
   new_candidate = refl;
   unheld_candidate = refl;
   candidate_again = refl;
@@ -486,35 +489,35 @@ unfolding examples has_tables
 sound_examples = record {
   sound = sound_desk;
   sound_later = sound_later;
-  substances = λ s. sym (rises_from_sorted code_cmp (map (λ row. row.code) (reverse effects.desk.substances)) s.ordered.substances);
-  members = λ s. sym (rises_from_sorted member_key_cmp (map member_key (reverse effects.desk.members)) s.ordered.members);
-  materials = λ s. sym (rises_from_sorted code_cmp (map (λ row. row.code) (reverse effects.desk.materials)) s.ordered.materials);
-  parts = λ s. sym (rises_from_sorted code_cmp (map (λ row. row.code) (reverse effects.desk.parts)) s.ordered.parts);
-  lines = λ s. sym (rises_from_sorted line_key_cmp (map line_key (reverse effects.desk.lines)) s.ordered.lines);
-  products = λ s. sym (rises_from_sorted code_cmp (map (λ row. row.part) (reverse effects.desk.products)) s.ordered.products);
-  exemptions = λ s. sym (rises_from_sorted code_cmp (map (λ row. row.terms.row) (reverse effects.desk.exemptions)) s.ordered.exemptions);
-  candidates = λ s. sym (rises_from_sorted code_cmp (map (λ row. row.substance) (reverse effects.desk.candidates)) s.ordered.candidates);
-  shipments = λ s. sym (rises_from_sorted shipment_key_cmp (map shipment_key (reverse effects.desk.shipments)) s.ordered.shipments);
-  tickets = λ s. sym (rises_from_sorted code_cmp (map (λ row. row.code) (reverse effects.desk.tickets)) s.ordered.tickets);
-  key_twice = λ s. sym (rises_from_sorted code_cmp (codes "SET" ∷ codes "SET" ∷ []) s.ordered.products);
+  substances = λ s. false≢true (rises_from_sorted code_cmp (map (λ row. row.code) (reverse effects.desk.substances)) s.ordered.substances);
+  members = λ s. false≢true (rises_from_sorted member_key_cmp (map member_key (reverse effects.desk.members)) s.ordered.members);
+  materials = λ s. false≢true (rises_from_sorted code_cmp (map (λ row. row.code) (reverse effects.desk.materials)) s.ordered.materials);
+  parts = λ s. false≢true (rises_from_sorted code_cmp (map (λ row. row.code) (reverse effects.desk.parts)) s.ordered.parts);
+  lines = λ s. false≢true (rises_from_sorted line_key_cmp (map line_key (reverse effects.desk.lines)) s.ordered.lines);
+  products = λ s. false≢true (rises_from_sorted code_cmp (map (λ row. row.part) (reverse effects.desk.products)) s.ordered.products);
+  exemptions = λ s. false≢true (rises_from_sorted code_cmp (map (λ row. row.terms.row) (reverse effects.desk.exemptions)) s.ordered.exemptions);
+  candidates = λ s. false≢true (rises_from_sorted code_cmp (map (λ row. row.substance) (reverse effects.desk.candidates)) s.ordered.candidates);
+  shipments = λ s. false≢true (rises_from_sorted shipment_key_cmp (map shipment_key (reverse effects.desk.shipments)) s.ordered.shipments);
+  tickets = λ s. false≢true (rises_from_sorted code_cmp (map (λ row. row.code) (reverse effects.desk.tickets)) s.ordered.tickets);
+  key_twice = λ s. false≢true (rises_from_sorted code_cmp (codes "SET" ∷ codes "SET" ∷ []) s.ordered.products);
   forms = refl;
-  form = λ s. sym s.in_form;
+  form = λ s. false≢true s.in_form;
   names = refl;
-  name = λ s. sym s.names_kept;
-  shared_code = λ s. sym s.codes_apart;
-  heavy_substance = λ s. sym s.masses_fit;
-  ends_before_it_begins = λ s. sym s.exemptions_fit;
-  outside_annex = λ s. sym s.exemptions_fit;
-  too_many_candidates = λ s. ap has_tables s.tables_fit;
-  too_much_text = λ text e s. sym (rw e refl) ∙ s.texts_fit;
-  part_of_itself = λ s. sym s.acyclic;
-  too_heavy = λ s. ap is_some s.parts_fit;
-  too_many_findings = λ t e s. sym (rw e refl) ∙ s.findings_fit;
-  too_heavy_year = λ s. ap is_some s.years_fit;
+  name = λ s. false≢true s.names_kept;
+  shared_code = λ s. false≢true s.codes_apart;
+  heavy_substance = λ s. false≢true s.masses_fit;
+  ends_before_it_begins = λ s. false≢true s.exemptions_fit;
+  outside_annex = λ s. false≢true s.exemptions_fit;
+  too_many_candidates = λ s. true≢false (ap has_tables s.tables_fit);
+  too_much_text = λ text e s. true≢false (sym (rw e refl) ∙ s.texts_fit);
+  part_of_itself = λ s. false≢true s.acyclic;
+  too_heavy = λ s. true≢false (ap is_some s.parts_fit);
+  too_many_findings = λ t e s. true≢false (sym (rw e refl) ∙ s.findings_fit);
+  too_heavy_year = λ s. true≢false (ap is_some s.years_fit);
   numbers = refl;
-  second_number = λ s. sym s.numbered;
-  declaration_as_sent = λ s. not_sent s.tickets_of_edits.0.0 s.tickets_of_edits.0.2 s.tickets_of_edits.0.3;
-  sent_as_declaration = λ s. not_declared s.tickets_of_edits.0.0 s.tickets_of_edits.0.2 s.tickets_of_edits.0.3;
+  second_number = λ s. false≢true s.numbered;
+  declaration_as_sent = λ s. true≢false (not_sent s.tickets_of_edits.0.0 s.tickets_of_edits.0.2 s.tickets_of_edits.0.3);
+  sent_as_declaration = λ s. true≢false (not_declared s.tickets_of_edits.0.0 s.tickets_of_edits.0.2 s.tickets_of_edits.0.3);
 }
 
 pub text_examples : TextExamples

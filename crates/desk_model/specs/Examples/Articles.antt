@@ -6,6 +6,7 @@ use Rattle.desk_model.specs.declared.edit.Edit.{Edit}
 use Rattle.desk_model.specs.declared.edit.Edit.TheVariants.{Substance, Candidate, Line, Product, Ship, Unship}
 use Rattle.desk_model.specs.Above.{content, is_above}
 use Rattle.desk_model.specs.Affected.{affected}
+use Rattle.desk_model.specs.Articles.{articles_in}
 use Rattle.desk_model.specs.Carried.{carried}
 use Rattle.desk_model.specs.Chain.{chain}
 use Rattle.desk_model.specs.Duties.{duties}
@@ -135,6 +136,9 @@ pub record CandidateExamples : Type 0 where
   pub thousandth : is_above all_listed (codes "CABLE") (codes "dehp") ≡ false
   pub three_cables : carried all_listed (codes "bbp") (codes "SET") ≡ 60
   pub article_findings : findings all_listed (codes "SET") ≡ over (codes "PVC") Bbp ∷ above (codes "CABLE") (codes "bbp") ∷ []
+  -- a part that is asked for itself, and no assembly
+  pub articles : map (λ part. part.code) (articles_in all_listed (codes "SET")) ≡ codes "CABLE" ∷ codes "PLUG" ∷ []
+  pub own_article : map (λ part. part.code) (articles_in all_listed (codes "PLUG")) ≡ codes "PLUG" ∷ []
   -- a substance that is new on the list affects the articles that hold it and what reaches them, and no material
   pub new_candidate : affected pair listed ≡ codes "CABLE" ∷ codes "SET" ∷ []
   pub unheld_candidate : affected pair (Candidate (codes "t8") (codes "lead") (date 2018 6 27)) ≡ []

@@ -19,9 +19,9 @@ use Rattle.desk_model.specs.Examples.Effects.{copper_row, desk, exemption, later
 use Rattle.desk_model.specs.Examples.Forms.{bad}
 use Rattle.desk_model.specs.Examples.Limits.{hundred, tower}
 
--- were these tables sound, true would be false
+-- the tables are not sound
 abbrev pub IsUnsound : Lists → Type 0
-IsUnsound t = Sound t → true ≡ false
+IsUnsound t = Sound t → ⊥
 
 -- tables without any row
 abbrev pub nothing : Lists
