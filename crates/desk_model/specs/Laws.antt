@@ -4,7 +4,9 @@ use Rattle.std.specs.List.{list_all, list_any}
 use Rattle.std.specs.Option.{option_map_or}
 use Rattle.std.specs.Ordering.{is_lt, nat_cmp}
 use Rattle.desk_text.specs.Code.{code_cmp, same_code}
+use Rattle.desk_law.specs.declared.rule.Rule.{Rule}
 use Rattle.desk_model.specs.declared.edit.Edit.{Edit}
+use Rattle.desk_model.specs.declared.rows.material.MaterialRow.{MaterialRow}
 use Rattle.desk_model.specs.declared.rule_fault.RuleFault.{RuleFault}
 use Rattle.desk_model.specs.Affected.{affected, is_affected}
 use Rattle.desk_model.specs.Carried.{carried, own_load}
@@ -13,11 +15,12 @@ use Rattle.desk_model.specs.Effect.{entered, next_number}
 use Rattle.desk_model.specs.History.{Begins, History, IsAccepted, IsHistory, after, number_of, up_to}
 use Rattle.desk_model.specs.Findings.{findings}
 use Rattle.desk_model.specs.Forms.{is_edit_in_form}
-use Rattle.desk_model.specs.Lists.{IsOrdered, Lists, is_kept}
+use Rattle.desk_model.specs.Lists.{IsOrdered, Lists, is_kept, material_row}
 use Rattle.desk_model.specs.Mass.{mass, own_mass}
 use Rattle.desk_model.specs.Reaches.{enough, is_or_reaches, lines_of, reaches, reaches_within}
 use Rattle.desk_model.specs.Refused.{refused}
 use Rattle.desk_model.specs.Rolled.{rolled, rolled_within}
+use Rattle.desk_model.specs.Share.{share}
 use Rattle.desk_model.specs.Sound.{Sound, are_numbers}
 use Rattle.desk_model.specs.Start.{start}
 use Rattle.desk_model.specs.Step.{kept_number, step}
@@ -119,13 +122,16 @@ pub record TablesStaySound : Type 0 where
   pub history : (history : History) → IsHistory history → list_all is_edit_in_form history.edits ≡ true → Sound (after history)
 
 -- a material or part that an accepted edit doesn't affect weighs, reaches, carries and is found to have what it did, and by the
--- same chains
+-- same chains; a part has its lines, and a material is the same, with the same share for each rule
 pub record OthersStay : Type 0 where
   pub masses : (t : Lists) → Sound t → (edit : Edit) → is_edit_in_form edit ≡ true → IsAccepted t edit → (code : List ℕ) → is_affected t edit code ≡ false → mass (entered t edit) code ≡ mass t code
   pub reached : (t : Lists) → Sound t → (edit : Edit) → is_edit_in_form edit ≡ true → IsAccepted t edit → (code : List ℕ) → is_affected t edit code ≡ false → (target : List ℕ) → reaches (entered t edit) code target ≡ reaches t code target
   pub chains : (t : Lists) → Sound t → (edit : Edit) → is_edit_in_form edit ≡ true → IsAccepted t edit → (code : List ℕ) → is_affected t edit code ≡ false → (target : List ℕ) → chain (entered t edit) code target ≡ chain t code target
   pub loads : (t : Lists) → Sound t → (edit : Edit) → is_edit_in_form edit ≡ true → IsAccepted t edit → (code : List ℕ) → is_affected t edit code ≡ false → (substance : List ℕ) → carried (entered t edit) substance code ≡ carried t substance code
   pub findings : (t : Lists) → Sound t → (edit : Edit) → is_edit_in_form edit ≡ true → IsAccepted t edit → (code : List ℕ) → is_affected t edit code ≡ false → findings (entered t edit) code ≡ findings t code
+  pub lines : (t : Lists) → Sound t → (edit : Edit) → is_edit_in_form edit ≡ true → IsAccepted t edit → (code : List ℕ) → is_affected t edit code ≡ false → lines_of (entered t edit).lines code ≡ lines_of t.lines code
+  pub materials : (t : Lists) → Sound t → (edit : Edit) → is_edit_in_form edit ≡ true → IsAccepted t edit → (code : List ℕ) → is_affected t edit code ≡ false → material_row (entered t edit) code ≡ material_row t code
+  pub shares : (t : Lists) → Sound t → (edit : Edit) → is_edit_in_form edit ≡ true → IsAccepted t edit → (code : List ℕ) → is_affected t edit code ≡ false → (material : MaterialRow) → material_row t code ≡ Some material → (rule : Rule) → share (entered t edit) rule material ≡ share t rule material
 
 -- each kept material and part that an accepted edit affects is listed once, and nothing else is
 abbrev pub AffectedAreListed : Type 0

@@ -113,8 +113,8 @@ pub fn tables_stay_sound()
     ensures { TablesStaySound }
 {}
 
-/// A material or part that an accepted edit doesn't affect weighs, reaches, carries and is found to have what it did, and by
-/// the same chains.
+/// A material or part that an accepted edit doesn't affect weighs, reaches, carries and is found to have what it did, by
+/// the same chains; a part has its lines, and a material is the same, with the same share for each rule.
 pub fn others_stay()
     ensures { OthersStay }
 {}
