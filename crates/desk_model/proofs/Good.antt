@@ -2,7 +2,7 @@
 use Rattle.std.proofs.Common.{◌≡◌, ℕ, Bool, true, false, not, ◌&&◌, ◌||◌, List, [], ◌∷◌, Option, Some, None, is_some, refl, sym, ap, ◌∙◌, subst, ◌⊎◌, inl, inr, ⊎_elim}
 use Rattle.std.specs.List.{AllByRecursion, list_all}
 use Rattle.std.specs.Option.{option_map_or}
-use Rattle.std.proofs.lemmas.Bool.{and_from, false≢true, or_left, or_right}
+use Rattle.std.proofs.lemmas.Bool.{and_from, and_parts, false≢true, or_left, or_right}
 use Rattle.desk_text.specs.Code.{code_cmp}
 use Rattle.desk_rows.specs.Rows.{IsByKey}
 use Rattle.desk_model.specs.declared.rows.substance.SubstanceRow.{SubstanceRow}
@@ -36,21 +36,16 @@ pub record FormsKept (t : Lists) : Type 0 where
   pub candidates : list_all is_candidate_row t.candidates ≡ true
   pub shipments : list_all is_shipment_row t.shipments ≡ true
 
-pub and_split : (a b : Bool) → (a && b) ≡ true → (a ≡ true) × (b ≡ true)
-and_split true true h = (refl, refl)
-and_split true false h = absurd (false≢true h)
-and_split false b h = absurd (false≢true h)
-
 nine_true : (a b c d e f g h i : Bool) → (a && b && c && d && e && f && g && h && i) ≡ true → (a ≡ true) × (b ≡ true) × (c ≡ true) × (d ≡ true) × (e ≡ true) × (f ≡ true) × (g ≡ true) × (h ≡ true) × (i ≡ true)
 nine_true a b c d e f g h i all =
-    let s8 = and_split (a && b && c && d && e && f && g && h) i all in
-    let s7 = and_split (a && b && c && d && e && f && g) h s8.0 in
-    let s6 = and_split (a && b && c && d && e && f) g s7.0 in
-    let s5 = and_split (a && b && c && d && e) f s6.0 in
-    let s4 = and_split (a && b && c && d) e s5.0 in
-    let s3 = and_split (a && b && c) d s4.0 in
-    let s2 = and_split (a && b) c s3.0 in
-    let s1 = and_split a b s2.0 in
+    let s8 = and_parts (a && b && c && d && e && f && g && h) i all in
+    let s7 = and_parts (a && b && c && d && e && f && g) h s8.0 in
+    let s6 = and_parts (a && b && c && d && e && f) g s7.0 in
+    let s5 = and_parts (a && b && c && d && e) f s6.0 in
+    let s4 = and_parts (a && b && c && d) e s5.0 in
+    let s3 = and_parts (a && b && c) d s4.0 in
+    let s2 = and_parts (a && b) c s3.0 in
+    let s1 = and_parts a b s2.0 in
     (s1.0, s1.1, s2.1, s3.1, s4.1, s5.1, s6.1, s7.1, s8.1)
 
 pub forms_of : (t : Lists) → are_rows_in_form t ≡ true → FormsKept t

@@ -50,6 +50,18 @@ up_to-begins history n = record {
   edits = sym (take-append-drop (n - length history.opening.tickets) history.edits);
 }
 
+take_all : {X : Type 0} (xs ys : List X) → take (length xs) (xs ++ ys) ≡ xs
+take_all [] ys = refl
+take_all (x ∷ xs) ys = ap (λ rest. x ∷ rest) (take_all xs ys)
+
+-- what begins a history is what its number names
+pub up_to-only : (history part : History) → IsHistory part → Begins part history → part.edits ≡ (up_to history (number_of part)).edits
+up_to-only history part h b =
+    let counted = tickets-tables_after part.opening part.edits h.accepted in
+    let opened = ap (λ t. length t.tickets) b.opening in
+    let places : number_of part - length history.opening.tickets ≡ length part.edits = omega (arith, counted, opened) in
+    sym (ap (λ n. take n history.edits) places ∙ ap (λ edits. take (length part.edits) edits) b.edits ∙ take_all part.edits b.rest)
+
 some_none : {X : Type 0} (x : X) {G : Type 0} → Some x ≡ None → G
 some_none x e = cc
 

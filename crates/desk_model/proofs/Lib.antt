@@ -9,14 +9,17 @@ pub mod Declaring
 pub mod Elements
 pub mod Entering
 pub mod ExampleProofs
+pub mod Firsts
 pub mod Good
 pub mod Histories
 pub mod Kept
+pub mod Listing
 pub mod Loads
 pub mod Local
 pub mod Made
 pub mod MadeBill
 pub mod MadeDeclared
+pub mod Names
 pub mod Numbers
 pub mod Order
 pub mod Rules

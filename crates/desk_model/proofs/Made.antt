@@ -5,7 +5,7 @@ use Rattle.std.specs.List.{AllByRecursion, flat_map, list_all}
 use Rattle.std.specs.Option.{option_and_then, option_map_or}
 use Rattle.std.specs.Cmp.{IsTotalOrder}
 use Rattle.std.specs.declared.cmp.Ordering.{Ordering}
-use Rattle.std.proofs.lemmas.Bool.{and_from, cases_Bool, both_ways, false≢true, not-true, not-false, not_from_false, not_from_true, leb-true, le-leb, ltb-false, lt-ltb}
+use Rattle.std.proofs.lemmas.Bool.{and_from, and_parts, both_ways, cases_Bool, false≢true, le-leb, leb-true, lt-ltb, ltb-false, not-false, not-true, not_from_false, not_from_true}
 use Rattle.desk_text.specs.Code.{code_cmp, same_code}
 use Rattle.desk_text.specs.Day.{Date, is_day}
 use Rattle.desk_law.specs.declared.kind.Kind.{Kind}
@@ -26,12 +26,12 @@ use Rattle.desk_model.specs.declared.rule_fault.RuleFault.{RuleFault}
 use Rattle.desk_model.specs.Effect.{made, units_of, with_factor, with_units}
 use Rattle.desk_model.specs.Forms.{are_units, is_code, is_count, is_exemption_row, is_member_row, is_name, is_optional_cas, is_shipment_row, is_substance_row, is_candidate_row, is_product_row, is_edit_in_form, is_year}
 use Rattle.desk_model.specs.Lists.{Lists, is_material, is_part, is_product, is_substance, line_key, line_key_cmp, member_key, member_key_cmp, shipment_key, shipment_key_cmp, shipment_row}
-use Rattle.desk_model.specs.Refused.{annex_kinds, exemption_span, refuse_if, ship_below_zero, units_too_large, unknown_part, unknown_product, unknown_substance}
+use Rattle.desk_model.specs.Refused.{outside_annex, exemption_span, refuse_if, ship_below_zero, units_too_large, unknown_part, unknown_product, unknown_substance}
 use Rattle.desk_model.specs.Terms.{breaks_annex, breaks_span}
 use Rattle.desk_model.specs.declared.limits.TheConstants.{UNITS_LIMIT, WHOLE_FACTOR}
 use Rattle.desk_model.proofs.Changes.{good-candidates, good-exemptions, good-members, good-products, good-shipments, good-substances}
 use Rattle.desk_model.proofs.Elements.{all_from_each, each_from_all, each_map}
-use Rattle.desk_model.proofs.Good.{Grows, IsGood, and_split}
+use Rattle.desk_model.proofs.Good.{Grows, IsGood}
 use Rattle.desk_model.proofs.Kept.{code_cmp_total, line_key_cmp_total, member_key_cmp_total, shipment_key_cmp_total}
 use Rattle.desk_model.proofs.Rules.{IsUnrefused}
 
@@ -62,9 +62,9 @@ module _ (t : Lists) (g : IsGood t) where
   unfolding made is_edit_in_form
   good-substance ticket code name cas form =
       let new : SubstanceRow = record { code = code; name = name; cas = cas } in
-      let f3 = and_split (is_code ticket && is_code code && is_name name) (is_optional_cas cas) form in
-      let f2 = and_split (is_code ticket && is_code code) (is_name name) f3.0 in
-      let f1 = and_split (is_code ticket) (is_code code) f2.0 in
+      let f3 = and_parts (is_code ticket && is_code code && is_name name) (is_optional_cas cas) form in
+      let f2 = and_parts (is_code ticket && is_code code) (is_name name) f3.0 in
+      let f1 = and_parts (is_code ticket) (is_code code) f2.0 in
       good-substances t (with_row (λ row. row.code) code_cmp new t.substances) g
       (IsByKey-with_row (λ row. row.code) code_cmp code_cmp_total new t.substances g.ordered.substances)
       (all_with_row (λ row. row.code) code_cmp is_substance_row new t.substances (rw (f1.1, f2.1, f3.1) refl) g.forms.substances)
@@ -86,8 +86,8 @@ module _ (t : Lists) (g : IsGood t) where
       (all_without_row member_key member_key_cmp (λ member. is_substance t member.substance) (substance, rule_number rule) t.members g.names.members)
   good-member ticket substance rule (suc fewer) form u =
       let new : MemberRow = record { substance = substance; rule = rule; factor = suc fewer } in
-      let f2 = and_split (is_code ticket && is_code substance) (nat_le (suc fewer) WHOLE_FACTOR) form in
-      let f1 = and_split (is_code ticket) (is_code substance) f2.0 in
+      let f2 = and_parts (is_code ticket && is_code substance) (nat_le (suc fewer) WHOLE_FACTOR) form in
+      let f1 = and_parts (is_code ticket) (is_code substance) f2.0 in
       good-members t (with_row member_key member_key_cmp new t.members) g
       (IsByKey-with_row member_key member_key_cmp member_key_cmp_total new t.members g.ordered.members)
       (all_with_row member_key member_key_cmp is_member_row new t.members
@@ -98,7 +98,7 @@ module _ (t : Lists) (g : IsGood t) where
   unfolding made is_edit_in_form unknown_part
   good-product ticket part kind form u =
       let new : ProductRow = record { part = part; kind = kind } in
-      let f1 = and_split (is_code ticket) (is_code part) form in
+      let f1 = and_parts (is_code ticket) (is_code part) form in
       good-products t (with_row (λ row. row.part) code_cmp new t.products) g
       (IsByKey-with_row (λ row. row.part) code_cmp code_cmp_total new t.products g.ordered.products)
       (all_with_row (λ row. row.part) code_cmp is_product_row new t.products f1.1 g.forms.products)
@@ -113,11 +113,11 @@ module _ (t : Lists) (g : IsGood t) where
       })
 
   pub good-exemption : (ticket : List ℕ) (exemption : ExemptionRow) → is_edit_in_form (Exemption ticket exemption) ≡ true → IsUnrefused t (Exemption ticket exemption) → IsGood (made t (Exemption ticket exemption))
-  unfolding made is_edit_in_form exemption_span annex_kinds
+  unfolding made is_edit_in_form exemption_span outside_annex
   good-exemption ticket exemption form u =
-      let f1 = and_split (is_code ticket) (is_exemption_row exemption) form in
+      let f1 = and_parts (is_code ticket) (is_exemption_row exemption) form in
       let span = refuse_if-none (breaks_span exemption.terms) _ u.exemption_span in
-      let annex = refuse_if-none (breaks_annex exemption.terms) _ u.annex_kinds in
+      let annex = refuse_if-none (breaks_annex exemption.terms) _ u.outside_annex in
       good-exemptions t (with_row (λ row. row.terms.row) code_cmp exemption t.exemptions) g
       (IsByKey-with_row (λ row. row.terms.row) code_cmp code_cmp_total exemption t.exemptions g.ordered.exemptions)
       (all_with_row (λ row. row.terms.row) code_cmp is_exemption_row exemption t.exemptions f1.1 g.forms.exemptions)
@@ -136,8 +136,8 @@ module _ (t : Lists) (g : IsGood t) where
   unfolding made is_edit_in_form unknown_substance
   good-candidate ticket substance day form u =
       let new : CandidateRow = record { substance = substance; day = day } in
-      let f2 = and_split (is_code ticket && is_code substance) (is_day day) form in
-      let f1 = and_split (is_code ticket) (is_code substance) f2.0 in
+      let f2 = and_parts (is_code ticket && is_code substance) (is_day day) form in
+      let f1 = and_parts (is_code ticket) (is_code substance) f2.0 in
       good-candidates t (with_row (λ row. row.substance) code_cmp new t.candidates) g
       (IsByKey-with_row (λ row. row.substance) code_cmp code_cmp_total new t.candidates g.ordered.candidates)
       (all_with_row (λ row. row.substance) code_cmp is_candidate_row new t.candidates (and_from (is_code substance) (is_day day) f1.1 f2.1) g.forms.candidates)
@@ -163,16 +163,16 @@ module _ (t : Lists) (g : IsGood t) where
   pub good-ship : (ticket product : List ℕ) (year units : ℕ) → is_edit_in_form (Ship ticket product year units) ≡ true → IsUnrefused t (Ship ticket product year units) → IsGood (made t (Ship ticket product year units))
   unfolding made is_edit_in_form unknown_product units_too_large
   good-ship ticket product year units form u =
-      let f3 = and_split (is_code ticket && is_code product && is_year year) (are_units units) form in
-      let f2 = and_split (is_code ticket && is_code product) (is_year year) f3.0 in
-      let f1 = and_split (is_code ticket) (is_code product) f2.0 in
+      let f3 = and_parts (is_code ticket && is_code product && is_year year) (are_units units) form in
+      let f2 = and_parts (is_code ticket && is_code product) (is_year year) f3.0 in
+      let f1 = and_parts (is_code ticket) (is_code product) f2.0 in
       let fits = ltb-false UNITS_LIMIT (units_of t year product + units) (refuse_if-none (nat_lt UNITS_LIMIT (units_of t year product + units)) _ u.units_too_large) in
       good-units year product (units_of t year product + units) f2.1 f1.1 fits (refuse_unless _ _ u.unknown_product)
 
   units_fit : (o : Option ShipmentRow) → (is_some o ≡ true → option_map_or (λ shipment. are_units shipment.units) o true ≡ true) → option_map_or (λ shipment. shipment.units) o 0 ≤ UNITS_LIMIT
   units_fit None h = omega arith
   units_fit (Some shipment) h =
-      let parts = and_split (nat_le 1 shipment.units) (nat_le shipment.units UNITS_LIMIT) (h refl) in
+      let parts = and_parts (nat_le 1 shipment.units) (nat_le shipment.units UNITS_LIMIT) (h refl) in
       leb-true shipment.units UNITS_LIMIT parts.1
 
   -- a kept entry is in range
@@ -185,14 +185,14 @@ module _ (t : Lists) (g : IsGood t) where
       found_units [] a = refl
       found_units (row ∷ rows) a =
           elim (Rattle.std.proofs.Common.is_eq (shipment_key_cmp (shipment_key row) (year, product))) as (λ b. option_map_or (λ shipment. are_units shipment.units) (cond b (Some row) (row_of shipment_key shipment_key_cmp (year, product) rows)) true ≡ true) [
-            | true ↦ (and_split (is_year row.year && is_code row.product) (are_units row.units) a.0).1
+            | true ↦ (and_parts (is_year row.year && is_code row.product) (are_units row.units) a.0).1
             | false ↦ found_units rows a.1
           ]
 
   pub good-unship : (ticket product : List ℕ) (year units : ℕ) → is_edit_in_form (Unship ticket product year units) ≡ true → IsUnrefused t (Unship ticket product year units) → IsGood (made t (Unship ticket product year units))
   unfolding made is_edit_in_form unknown_product
   good-unship ticket product year units form u =
-      let f3 = and_split (is_code ticket && is_code product && is_year year) (are_units units) form in
-      let f2 = and_split (is_code ticket && is_code product) (is_year year) f3.0 in
-      let f1 = and_split (is_code ticket) (is_code product) f2.0 in
+      let f3 = and_parts (is_code ticket && is_code product && is_year year) (are_units units) form in
+      let f2 = and_parts (is_code ticket && is_code product) (is_year year) f3.0 in
+      let f1 = and_parts (is_code ticket) (is_code product) f2.0 in
       good-units year product (units_of t year product - units) f2.1 f1.1 (omega (arith, units_kept year product)) (refuse_unless _ _ u.unknown_product)

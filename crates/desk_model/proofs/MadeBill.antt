@@ -6,7 +6,7 @@ use Rattle.std.specs.Option.{option_and_then, option_map_or}
 use Rattle.std.specs.Ordering.{match_ordering}
 use Rattle.std.specs.declared.cmp.Ordering.{Ordering}
 use Rattle.std.specs.declared.cmp.Ordering.TheVariants.{Less, Equal, Greater}
-use Rattle.std.proofs.lemmas.Bool.{and_from, and_parts, cases_Bool, both_ways, false≢true, not-true, not-false, not_from_false, or_cases, or_left, or_right, false_from_ne_true}
+use Rattle.std.proofs.lemmas.Bool.{and_from, and_parts, both_ways, cases_Bool, false_from_ne_true, false≢true, not-false, not-true, not_from_false, or_cases, or_left, or_right}
 use Rattle.desk_text.specs.Code.{code_cmp, same_code}
 use Rattle.desk_text.proofs.CodeLemmas.{same_code_itself}
 use Rattle.desk_rows.specs.Rows.{row_of, with_row, without_row}
@@ -30,7 +30,7 @@ use Rattle.desk_model.specs.Sound.{has_right_child}
 use Rattle.desk_model.proofs.Bill.{HasParents, by_line, is_or_reaches_trans, lines_of-none, reaches-deeper, reaches-step, reaches_trans}
 use Rattle.desk_model.proofs.Changes.{good-lines, good-parts}
 use Rattle.desk_model.proofs.Elements.{all_from_each, any-filter, any_gives, any_map, each, each_filter, each_from_all, each_map}
-use Rattle.desk_model.proofs.Good.{Grows, IsGood, and_split, right_child_from}
+use Rattle.desk_model.proofs.Good.{Grows, IsGood, right_child_from}
 use Rattle.desk_model.proofs.Kept.{code_cmp_total, found_each, kept_each, line_key_cmp_total, same_code-from, same_code-true}
 use Rattle.desk_model.proofs.Made.{all_with_row, all_without_row, refuse_if-none, refuse_unless}
 use Rattle.desk_model.proofs.Rules.{IsUnrefused}
@@ -55,7 +55,7 @@ reaches_fewer lines fewer sub (suc k) part target e =
     (any_map (λ line. same_code line.parent part && (same_code line.child target || reaches_within fewer k line.child target)) (λ line. same_code line.parent part && (same_code line.child target || reaches_within lines k line.child target)) fewer
     (each (λ line. (same_code line.parent part && (same_code line.child target || reaches_within fewer k line.child target)) ≡ true → (same_code line.parent part && (same_code line.child target || reaches_within lines k line.child target)) ≡ true)
     (λ line h.
-    let parts = and_split (same_code line.parent part) (same_code line.child target || reaches_within fewer k line.child target) h in
+    let parts = and_parts (same_code line.parent part) (same_code line.child target || reaches_within fewer k line.child target) h in
     and_from (same_code line.parent part) (same_code line.child target || reaches_within lines k line.child target) parts.0
     (⊎_elim (λ here. or_left (same_code line.child target) (reaches_within lines k line.child target) here)
     (λ there. or_right (same_code line.child target) (reaches_within lines k line.child target) (reaches_fewer lines fewer sub k line.child target there))
@@ -192,9 +192,9 @@ module _ (t : Lists) (g : IsGood t) where
   unfolding made is_edit_in_form closes_cycle lines'
   good-line ticket parent child count form u =
       let new : LineRow = record { parent = parent; child = child; count = count } in
-      let f3 = and_split (is_code ticket && is_code parent && is_code child) (is_count count) form in
-      let f2 = and_split (is_code ticket && is_code parent) (is_code child) f3.0 in
-      let f1 = and_split (is_code ticket) (is_code parent) f2.0 in
+      let f3 = and_parts (is_code ticket && is_code parent && is_code child) (is_count count) form in
+      let f2 = and_parts (is_code ticket && is_code parent) (is_code child) f3.0 in
+      let f1 = and_parts (is_code ticket) (is_code parent) f2.0 in
       let rows = with_row line_key line_key_cmp new t.lines in
       good-lines t rows g
       (IsByKey-with_row line_key line_key_cmp line_key_cmp_total new t.lines g.ordered.lines)
@@ -252,8 +252,8 @@ module _ (t : Lists) (g : IsGood t) where
   unfolding made is_edit_in_form name_taken parts'
   good-part ticket code name sort form u =
       let new : PartRow = record { code = code; sort = sort; name = name } in
-      let f2 = and_split (is_code ticket && is_code code) (is_name name) form in
-      let f1 = and_split (is_code ticket) (is_code code) f2.0 in
+      let f2 = and_parts (is_code ticket && is_code code) (is_name name) form in
+      let f1 = and_parts (is_code ticket) (is_code code) f2.0 in
       let rows = with_row (λ row. row.code) code_cmp new t.parts in
       let kind = kind_kept ticket code name sort u.kind_changed in
       good-parts t rows g

@@ -2,7 +2,7 @@
 use Rattle.std.proofs.Common.{◌≡◌, ℕ, Bool, true, false, not, ◌&&◌, List, [], ◌∷◌, find, map, length, Option, Some, None, is_some, refl, sym, ap, ◌∙◌, subst}
 use Rattle.std.specs.Prelude.{nat_le, option_map}
 use Rattle.std.specs.List.{AllByRecursion, flat_map, list_all}
-use Rattle.std.proofs.lemmas.Bool.{and_from, both_ways, false_from_ne_true, not-false, not-true, not_from_false}
+use Rattle.std.proofs.lemmas.Bool.{and_from, and_parts, both_ways, false_from_ne_true, not-false, not-true, not_from_false}
 use Rattle.desk_text.specs.Code.{code_cmp, same_code}
 use Rattle.desk_text.specs.Day.{is_day}
 use Rattle.desk_rows.specs.Rows.{row_of, with_rows}
@@ -23,7 +23,7 @@ use Rattle.desk_model.specs.Lists.{Lists, is_material, is_part, is_substance}
 use Rattle.desk_model.specs.Refused.{declared_substances, masses_exceed, name_taken, unknown_substance}
 use Rattle.desk_model.proofs.Changes.{good-materials}
 use Rattle.desk_model.proofs.Elements.{all_from_each, each_both, each_from_all, each_in_flat_map, each_in_map, each_map, each_of_map, find-none}
-use Rattle.desk_model.proofs.Good.{Grows, IsGood, and_split}
+use Rattle.desk_model.proofs.Good.{Grows, IsGood}
 use Rattle.desk_model.proofs.Kept.{code_cmp_total, each_kept, same_code-true}
 use Rattle.desk_model.proofs.Made.{all_with_rows}
 use Rattle.desk_model.proofs.Rules.{IsUnrefused}
@@ -61,11 +61,11 @@ unfolding is_declaration_in_form
 in_form d e =
     let forms = λ (m : MaterialDecl). is_code m.code && is_name m.name && is_content_in_form m.substances m.claims in
     let contents = λ (m : MaterialDecl). is_content m.mass m.substances m.claims in
-    let s4 = and_split (is_code d.supplier && is_declaration_number d.number && is_day d.day && is_declaration d) (list_all forms d.materials) e in
-    let s3 = and_split (is_code d.supplier && is_declaration_number d.number && is_day d.day) (is_declaration d) s4.0 in
-    let s2 = and_split (is_code d.supplier && is_declaration_number d.number) (is_day d.day) s3.0 in
-    let s1 = and_split (is_code d.supplier) (is_declaration_number d.number) s2.0 in
-    let c = and_split (nat_le 1 d.number && nat_le (length d.materials) DECLARED_LIMIT && rises code_cmp (map (λ m. m.code) d.materials)) (list_all contents d.materials) s3.1 in
+    let s4 = and_parts (is_code d.supplier && is_declaration_number d.number && is_day d.day && is_declaration d) (list_all forms d.materials) e in
+    let s3 = and_parts (is_code d.supplier && is_declaration_number d.number && is_day d.day) (is_declaration d) s4.0 in
+    let s2 = and_parts (is_code d.supplier && is_declaration_number d.number) (is_day d.day) s3.0 in
+    let s1 = and_parts (is_code d.supplier) (is_declaration_number d.number) s2.0 in
+    let c = and_parts (nat_le 1 d.number && nat_le (length d.materials) DECLARED_LIMIT && rises code_cmp (map (λ m. m.code) d.materials)) (list_all contents d.materials) s3.1 in
     record {
       supplier = s1.0;
       number = s1.1;
@@ -77,8 +77,8 @@ in_form d e =
 row_in_form : (d : Declared) (m : MaterialDecl) → InForm d → is_content m.mass m.substances m.claims ≡ true → (is_code m.code && is_name m.name && is_content_in_form m.substances m.claims) ≡ true → is_material_row (row_from d m) ≡ true
 unfolding is_material_row
 row_in_form d m f content forms =
-    let s2 = and_split (is_code m.code && is_name m.name) (is_content_in_form m.substances m.claims) forms in
-    let s1 = and_split (is_code m.code) (is_name m.name) s2.0 in
+    let s2 = and_parts (is_code m.code && is_name m.name) (is_content_in_form m.substances m.claims) forms in
+    let s1 = and_parts (is_code m.code) (is_name m.name) s2.0 in
     rw (s1.0, f.supplier, f.number, f.day, s1.1, content, s2.1) refl
 
 module _ (t : Lists) (g : IsGood t) (d : Declared) where

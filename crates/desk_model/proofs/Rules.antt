@@ -4,7 +4,7 @@ use Rattle.std.specs.List.{AllByRecursion}
 use Rattle.desk_model.specs.declared.edit.Edit.{Edit}
 use Rattle.desk_model.specs.declared.rule_fault.RuleFault.{RuleFault}
 use Rattle.desk_model.specs.Lists.{Lists}
-use Rattle.desk_model.specs.Refused.{first_some, refused, rules, ticket_reused, unknown_substance, unknown_material, unknown_part, unknown_product, unknown_exemption, name_taken, kind_changed, wrong_child, no_such_line, foreign_material, stale_declaration, masses_exceed, exemption_span, annex_kinds, ship_below_zero, units_too_large, table_full, text_full, closes_cycle, total_too_large, findings_full, year_too_large}
+use Rattle.desk_model.specs.Refused.{first_some, refused, rules, ticket_reused, unknown_substance, unknown_material, unknown_part, unknown_product, unknown_exemption, name_taken, kind_changed, wrong_child, no_such_line, foreign_material, stale_declaration, masses_exceed, exemption_span, outside_annex, ship_below_zero, units_too_large, table_full, text_full, closes_cycle, total_too_large, findings_full, year_too_large}
 
 some_none : {X : Type 0} (x : X) {G : Type 0} → Some x ≡ None → G
 some_none x e = cc
@@ -30,7 +30,7 @@ pub record IsUnrefused (t : Lists) (edit : Edit) : Type 0 where
   pub stale_declaration : stale_declaration t edit ≡ None
   pub masses_exceed : masses_exceed t edit ≡ None
   pub exemption_span : exemption_span t edit ≡ None
-  pub annex_kinds : annex_kinds t edit ≡ None
+  pub outside_annex : outside_annex t edit ≡ None
   pub ship_below_zero : ship_below_zero t edit ≡ None
   pub units_too_large : units_too_large t edit ≡ None
   pub table_full : table_full t edit ≡ None
@@ -81,7 +81,7 @@ unrefused t edit e =
       stale_declaration = r12.0;
       masses_exceed = r13.0;
       exemption_span = r14.0;
-      annex_kinds = r15.0;
+      outside_annex = r15.0;
       ship_below_zero = r16.0;
       units_too_large = r17.0;
       table_full = r18.0;

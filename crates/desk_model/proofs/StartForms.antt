@@ -19,22 +19,8 @@ use Rattle.desk_model.specs.Lists.{Lists}
 use Rattle.desk_model.specs.Sound.{are_rows_in_form}
 use Rattle.desk_model.specs.Start.{base_cas, base_member, base_name, base_substance, rules_by_code, start}
 use Rattle.desk_model.proofs.Elements.{all_from_each, each, each_of_map}
-use Rattle.desk_model.proofs.Good.{FormsKept, and_split, forms_from}
-
-ascii_from : (bytes : List ℕ) → list_all (λ b. nat_lt b 128) bytes ≡ true → IsAscii bytes
-ascii_from [] e = IsAscii-nil
-ascii_from (b ∷ bytes) e =
-    let parts = and_split (nat_lt b 128) (list_all (λ c. nat_lt c 128) bytes) e in
-    IsAscii-cons b bytes (ltb-true b 128 parts.0) (ascii_from bytes parts.1)
-
--- an ASCII text without control characters, not empty and not too long, is a name
-name_from : (bytes : List ℕ) → list_all (λ b. nat_lt b 128) bytes ≡ true → list_any is_control bytes ≡ false → (length bytes == 0) ≡ false → nat_lt NAME_LIMIT (length bytes) ≡ false → is_name bytes ≡ true
-unfolding name_of
-name_from bytes ascii plain some short =
-    let is_ascii = ascii_from bytes ascii in
-    let utf8 : is_utf8 bytes ≡ true = is_utf8-from_IsUtf8 bytes (IsUtf8-from_ascii bytes is_ascii) in
-    let spelled : chars bytes ≡ bytes = chars-IsAscii bytes is_ascii in
-    rw (some, short, utf8, spelled, plain) refl
+use Rattle.desk_model.proofs.Good.{FormsKept, forms_from}
+use Rattle.desk_model.proofs.Names.{name_from}
 
 named : (rule : Rule) → is_name (base_name rule) ≡ true
 named Lead = name_from (base_name Lead) refl refl refl refl

@@ -40,6 +40,21 @@ pub step-accepted : (t : Lists) (edit : Edit) → kept_number t edit ≡ None �
 unfolding step
 step-accepted t edit e f = rw (e, f) refl
 
+err_err : (first second : RuleFault) → ◌≡◌ {A = Result ℕ RuleFault} (Err first) (Err second) → first ≡ second
+err_err first second e = cc
+
+cause_of : (t : Lists) (edit : Edit) (kept : Option ℕ) (rule : Option RuleFault) (fault : RuleFault) → kept_number t edit ≡ kept → refused t edit ≡ rule → (step t edit).0 ≡ Err fault → (kept_number t edit ≡ None) × (refused t edit ≡ Some fault)
+cause_of t edit (Some number) rule fault e f h = ok_err (rw (step-kept t edit number e) at h)
+cause_of t edit None (Some told) fault e f h = (e, f ∙ ap Some (err_err told fault (rw (step-refused t edit told e f) at h)))
+cause_of t edit None None fault e f h = ok_err (rw (step-accepted t edit e f) at h)
+
+-- an edit that is refused wasn't kept, and the rule that it breaks first gives the fault
+pub refusal-new : (t : Lists) (edit : Edit) (fault : RuleFault) → (step t edit).0 ≡ Err fault → kept_number t edit ≡ None
+refusal-new t edit fault h = (cause_of t edit (kept_number t edit) (refused t edit) fault refl refl h).0
+
+pub refusal-cause : (t : Lists) (edit : Edit) (fault : RuleFault) → (step t edit).0 ≡ Err fault → refused t edit ≡ Some fault
+refusal-cause t edit fault h = (cause_of t edit (kept_number t edit) (refused t edit) fault refl refl h).1
+
 answered : (t : Lists) (edit : Edit) (kept : Option ℕ) (fault : RuleFault) → (step_from t edit kept).0 ≡ Err fault → (step_from t edit kept).1 ≡ t
 answered t edit (Some number) fault e = refl
 answered t edit None fault e = new (refused t edit) e

@@ -12,13 +12,17 @@ use Rattle.desk_model.specs.Effect.{entered, made, units_of, with_units}
 use Rattle.desk_model.specs.Findings.{findings}
 use Rattle.desk_model.specs.Forms.{is_edit_in_form}
 use Rattle.desk_model.specs.History.{IsAccepted}
-use Rattle.desk_model.specs.Lists.{Lists, is_part}
+use Rattle.desk_law.specs.declared.rule.Rule.{Rule}
+use Rattle.desk_model.specs.declared.rows.material.MaterialRow.{MaterialRow}
+use Rattle.desk_model.specs.Lists.{Lists, is_part, material_row}
 use Rattle.desk_model.specs.Mass.{mass}
-use Rattle.desk_model.specs.Reaches.{is_or_reaches, reaches}
+use Rattle.desk_model.specs.Reaches.{is_or_reaches, lines_of, reaches}
+use Rattle.desk_model.specs.Share.{share}
 use Rattle.desk_model.specs.Sound.{Sound}
 use Rattle.desk_model.specs.Step.{kept_number}
 use Rattle.desk_model.proofs.Affects.{IsFree, agrees-candidate, agrees-declare, agrees-line, agrees-member, agrees-part, agrees-unline, agrees_plain}
 use Rattle.desk_model.proofs.Good.{good_of}
+use Rattle.desk_model.proofs.Kept.{found_each}
 use Rattle.desk_model.proofs.Local.{Agrees, same_carried, same_chain, same_findings, same_mass, same_reached}
 use Rattle.desk_model.proofs.MadeBill.{kind_kept}
 use Rattle.desk_model.proofs.Rules.{unrefused}
@@ -103,3 +107,17 @@ module _ (t : Lists) (s : Sound t) (edit : Edit) (form : is_edit_in_form edit �
 
   pub findings_stay : findings (entered t edit) code ≡ findings t code
   findings_stay = same_findings t (entered t edit) s after_sound (IsFree (entered t edit) (seeds_of_new t edit)) both_agree code (free_of t edit a code unaffected)
+
+  pub lines_stay : lines_of (entered t edit).lines code ≡ lines_of t.lines code
+  lines_stay = both_agree.lines code (free_of t edit a code unaffected)
+
+  pub material_stays : material_row (entered t edit) code ≡ material_row t code
+  material_stays = both_agree.materials code (free_of t edit a code unaffected)
+
+  pub share_stays : (material : MaterialRow) → material_row t code ≡ Some material → (rule : Rule) → share (entered t edit) rule material ≡ share t rule material
+  share_stays material found rule =
+      let is =
+      found_each (λ row. row.code)
+      (λ row. IsFree (entered t edit) (seeds_of_new t edit) row.code → (rule : Rule) → share (entered t edit) rule row ≡ share t rule row)
+      code t.materials material both_agree.shares found in
+      is.0 (subst (λ c. IsFree (entered t edit) (seeds_of_new t edit) c) (sym is.1) (free_of t edit a code unaffected)) rule

@@ -5,10 +5,9 @@ use Rattle.std.specs.List.{flat_map, join_with_byte}
 use Rattle.std.specs.Option.{unwrap_or}
 use Rattle.std.specs.Ordering.{eq_by_cmp, nat_cmp}
 use Rattle.desk_text.specs.Day.{Date, date_text}
-use Rattle.desk_law.specs.declared.annex.Annex.{Annex}
-use Rattle.desk_law.specs.declared.annex.Annex.TheVariants.{Three, Four}
 use Rattle.desk_law.specs.declared.claim.Claim.{Claim}
 use Rattle.desk_law.specs.declared.terms.Terms.{Terms}
+use Rattle.desk_law.specs.Annex.{annex_number}
 use Rattle.desk_law.specs.Kind.{kind_code}
 use Rattle.desk_law.specs.KindSet.{kinds_text}
 use Rattle.desk_law.specs.Rule.{rule_code}
@@ -37,10 +36,6 @@ abbrev pub sort_word : PartSort → List ℕ
 sort_word Article = codes "article"
 sort_word Assembly = codes "assembly"
 
-abbrev pub annex_number : Annex → List ℕ
-annex_number Three = codes "3"
-annex_number Four = codes "4"
-
 -- how many there are, and then code and mass of each
 abbrev pub substance_fields : List SubstanceMass → List (List ℕ)
 substance_fields held = decimal (length held) ∷ flat_map (λ one. one.substance ∷ decimal one.mass ∷ []) held
@@ -59,7 +54,7 @@ declaration_fields d =
 abbrev pub exemption_fields : ExemptionRow → List (List ℕ)
 exemption_fields row =
     row.terms.row
-    ∷ annex_number row.terms.annex
+    ∷ decimal (annex_number row.terms.annex)
     ∷ row.terms.number
     ∷ rule_code row.terms.rule
     ∷ kinds_text row.terms.kinds

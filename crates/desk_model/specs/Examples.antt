@@ -2,8 +2,11 @@
 pub mod Articles
 pub mod Chains
 pub mod Desks
+pub mod Effects
+pub mod Forms
 pub mod Gateway
 pub mod Limits
 pub mod Refusals
 pub mod Shares
+pub mod Sound
 pub mod Texts

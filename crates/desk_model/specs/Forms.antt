@@ -9,7 +9,7 @@ use Rattle.desk_law.specs.declared.claim.Claim.{Claim}
 use Rattle.desk_law.specs.declared.terms.Terms.{Terms}
 use Rattle.desk_model.specs.declared.edit.Edit.{Edit}
 use Rattle.desk_model.specs.declared.edit.Edit.TheVariants.{Substance, Member, Declare, Part, Line, Unline, Product, Exemption, Unexempt, Candidate, Ship, Unship}
-use Rattle.desk_model.specs.declared.limits.TheConstants.{COUNT_LIMIT, FIRST_YEAR, LAST_YEAR, UNITS_LIMIT, WHOLE_FACTOR}
+use Rattle.desk_model.specs.declared.limits.TheConstants.{COUNT_LIMIT, FIRST_SHIPMENT_YEAR, LAST_SHIPMENT_YEAR, UNITS_LIMIT, WHOLE_FACTOR}
 use Rattle.desk_model.specs.declared.material_decl.MaterialDecl.{MaterialDecl}
 use Rattle.desk_model.specs.declared.rows.substance.SubstanceRow.{SubstanceRow}
 use Rattle.desk_model.specs.declared.rows.member.MemberRow.{MemberRow}
@@ -44,7 +44,7 @@ abbrev pub is_count : ℕ → Bool
 is_count n = nat_le 1 n && nat_le n COUNT_LIMIT
 
 abbrev pub is_year : ℕ → Bool
-is_year n = nat_le FIRST_YEAR n && nat_le n LAST_YEAR
+is_year n = nat_le FIRST_SHIPMENT_YEAR n && nat_le n LAST_SHIPMENT_YEAR
 
 abbrev pub are_units : ℕ → Bool
 are_units n = nat_le 1 n && nat_le n UNITS_LIMIT

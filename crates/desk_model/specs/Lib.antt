@@ -4,6 +4,7 @@ pub mod Articles
 pub mod Carried
 pub mod Chain
 pub mod Content
+pub mod DeclError
 pub mod Declaration
 pub mod Declaring
 pub mod Duties

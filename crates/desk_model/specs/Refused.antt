@@ -130,10 +130,10 @@ unfoldable pub exemption_span : Lists → Edit → Option RuleFault
 exemption_span t (Exemption ticket exemption) = refuse_if (breaks_span exemption.terms) ExemptionSpan
 exemption_span t _ = None
 
--- 15: a row of Annex IV names a kind that Annex IV isn't for
-unfoldable pub annex_kinds : Lists → Edit → Option RuleFault
-annex_kinds t (Exemption ticket exemption) = refuse_if (breaks_annex exemption.terms) AnnexKinds
-annex_kinds t _ = None
+-- 15: the row names a kind that its annex isn't for
+unfoldable pub outside_annex : Lists → Edit → Option RuleFault
+outside_annex t (Exemption ticket exemption) = refuse_if (breaks_annex exemption.terms) AnnexKinds
+outside_annex t _ = None
 
 -- 16: more units are to be taken off than are kept
 unfoldable pub ship_below_zero : Lists → Edit → Option RuleFault
@@ -187,7 +187,7 @@ rules t edit =
     ∷ stale_declaration t edit
     ∷ masses_exceed t edit
     ∷ exemption_span t edit
-    ∷ annex_kinds t edit
+    ∷ outside_annex t edit
     ∷ ship_below_zero t edit
     ∷ units_too_large t edit
     ∷ table_full t edit

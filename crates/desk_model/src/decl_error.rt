@@ -17,6 +17,11 @@ pub enum DeclError {
 }
 
 impl fmt::Display for DeclError {
+    ghost use Rattle.std.specs.Prelude.{Some};
+    ghost use Rattle.desk_model.specs.DeclError.{error_text};
+
+    ghost output = { λ error. Some (error_text error) };
+
     fn fmt<W: fmt::Write>(&self, f: &mut fmt::Formatter<W>) -> fmt::Result {
         f.write_str(match self {
             DeclError::Repeated => "listed already",

@@ -2,7 +2,8 @@ use desk_law::Terms;
 use desk_text::Name;
 use std::marker::Model;
 
-/// An exemption row as an edit enters it: the terms name at least one kind, and floor and cap are at most 1,000,000 ppm.
+/// An exemption row as an edit enters it: the terms name a set of at least one kind, and floor and cap are at most
+/// 1,000,000 ppm.
 /// Contracts see the row.
 #[derive(Debug, Drop)]
 pub struct Exemption {

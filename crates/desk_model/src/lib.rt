@@ -5,6 +5,7 @@ mod decl_error;
 mod declaration;
 mod edit;
 mod enter;
+pub mod examples;
 mod exemption;
 pub mod laws;
 pub mod limits;

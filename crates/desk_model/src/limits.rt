@@ -61,10 +61,10 @@ pub const MASS_LIMIT: u64 = 1_000_000_000_000_000;
 pub const PPM_LIMIT: u32 = 1_000_000;
 
 /// The first year that a shipment may name.
-pub const FIRST_YEAR: u64 = 2008;
+pub const FIRST_SHIPMENT_YEAR: u64 = 2008;
 
 /// The last year that a shipment may name.
-pub const LAST_YEAR: u64 = 2099;
+pub const LAST_SHIPMENT_YEAR: u64 = 2099;
 
 /// The greatest number of units of a product that one year's entry holds.
 pub const UNITS_LIMIT: u64 = 1_000_000_000_000;

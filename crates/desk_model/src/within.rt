@@ -1,6 +1,8 @@
 ghost use Rattle.std.specs.Prelude.{◌≡◌, ◌≤◌, ◌&&◌, Some, None, nat_le, if◌then◌else◌};
 
-use crate::limits::{COUNT_LIMIT, FIRST_YEAR, LAST_YEAR, UNITS_LIMIT, WHOLE_FACTOR};
+use crate::limits::{
+    COUNT_LIMIT, FIRST_SHIPMENT_YEAR, LAST_SHIPMENT_YEAR, UNITS_LIMIT, WHOLE_FACTOR,
+};
 use std::marker::Model;
 
 /// A whole number from `LEAST` to `GREATEST`. Contracts see the number.
@@ -16,7 +18,7 @@ pub type Count = Within<1, COUNT_LIMIT>;
 pub type Factor = Within<0, WHOLE_FACTOR>;
 
 /// The calendar year of a shipment: 2008 to 2099.
-pub type Year = Within<FIRST_YEAR, LAST_YEAR>;
+pub type Year = Within<FIRST_SHIPMENT_YEAR, LAST_SHIPMENT_YEAR>;
 
 /// How many units an edit ships or takes off: 1 to 1,000,000,000,000.
 pub type Units = Within<1, UNITS_LIMIT>;

@@ -1,14 +1,17 @@
 -- Candidate substances in articles: duties to inform, tonnages and notices.
-use Rattle.std.specs.Prelude.{◌≡◌, ℕ, false, List, [], ◌∷◌, ◌++◌, Some, None, codes, map}
+use Rattle.std.specs.Prelude.{◌≡◌, ℕ, true, false, List, [], ◌∷◌, ◌++◌, Some, None, codes, map}
 use Rattle.desk_law.specs.declared.kind.Kind.TheVariants.{Telecommunications}
+use Rattle.desk_law.specs.declared.rule.Rule.TheVariants.{Bbp}
 use Rattle.desk_model.specs.declared.edit.Edit.{Edit}
 use Rattle.desk_model.specs.declared.edit.Edit.TheVariants.{Substance, Candidate, Line, Product, Ship, Unship}
 use Rattle.desk_model.specs.Above.{content, is_above}
 use Rattle.desk_model.specs.Affected.{affected}
+use Rattle.desk_model.specs.Articles.{articles_in}
 use Rattle.desk_model.specs.Carried.{carried}
 use Rattle.desk_model.specs.Chain.{chain}
 use Rattle.desk_model.specs.Duties.{duties}
 use Rattle.desk_model.specs.Effect.{units_of}
+use Rattle.desk_model.specs.Findings.{above, findings, over}
 use Rattle.desk_model.specs.Lists.{Lists}
 use Rattle.desk_model.specs.Mass.{mass}
 use Rattle.desk_model.specs.Tonnage.{due_day, notices, tonnage}
@@ -83,15 +86,61 @@ pub record NoticeExamples : Type 0 where
   -- and with one product more it is
   pub over_one_tonne : tonnage more 2024 (codes "dehp") ≡ 1000000001000
   pub a_notice : map (λ candidate. candidate.substance) (notices more 2024 (date 2024 12 31)) ≡ codes "dehp" ∷ []
+  -- from the day of inclusion on
+  pub day_before : notices more 2024 (date 2008 10 27) ≡ []
+  pub day_of_inclusion : map (λ candidate. candidate.substance) (notices more 2024 (date 2008 10 28)) ≡ codes "dehp" ∷ []
   pub other_year : notices more 2023 (date 2024 12 31) ≡ []
   pub units_add_up : units_of more 2024 (codes "G") ≡ 1000000001
   -- an entry at 0 is taken out
   pub all_taken_off : back.shipments ≡ []
   -- due six months after inclusion, or on 1 June 2011 where that is later
   pub first_due_day : due_day (date 2008 10 28) ≡ Some (date 2011 6 1)
+  -- included on 1 December 2010, six months before 1 June 2011
+  pub last_first_due_day : due_day (date 2010 12 1) ≡ Some (date 2011 6 1)
+  pub next_due_day : due_day (date 2010 12 2) ≡ Some (date 2011 6 2)
   pub later_due_day : due_day (date 2018 6 27) ≡ Some (date 2018 12 27)
   pub end_of_february : due_day (date 2024 8 31) ≡ Some (date 2025 2 28)
   pub past_last_day : due_day (date 2099 8 1) ≡ None
-  -- a substance that is new on the list affects the articles that hold it, and what reaches them
-  pub candidate_affects : affected desk (Candidate (codes "t12") (codes "lead") (date 2018 6 27)) ≡ []
-  pub candidate_again : affected tonne (Candidate (codes "t7") (codes "dehp") (date 2009 1 1)) ≡ []
+
+-- two PVC of 5 mg, with 5 micrograms of dehp and 10 of bbp each, in one article
+abbrev pub pairs : List Edit
+pairs =
+    declares (codes "ACME") 1 (material (codes "PVC") 5000 (holds (codes "bbp") 10 ∷ holds (codes "dehp") 5 ∷ []) ∷ [])
+    ∷ article (codes "t2") (codes "CABLE")
+    ∷ article (codes "t3") (codes "PLUG")
+    ∷ assembly (codes "t4") (codes "SET")
+    ∷ Line (codes "t5") (codes "CABLE") (codes "PVC") 2
+    ∷ Line (codes "t6") (codes "SET") (codes "CABLE") 3
+    ∷ Line (codes "t7") (codes "SET") (codes "PLUG") 1
+    ∷ []
+
+abbrev pub pair : Lists
+pair = desk_after pairs
+
+abbrev pub listed : Edit
+listed = Candidate (codes "t8") (codes "bbp") (date 2008 10 28)
+
+abbrev pub all_listed : Lists
+all_listed = desk_after (pairs ++ listed ∷ Candidate (codes "t9") (codes "dehp") (date 2008 10 28) ∷ [])
+
+pub record CandidateExamples : Type 0 where
+  -- each line counts as often as it says
+  pub content_of_two : content pair (codes "CABLE") (codes "bbp") ≡ 20
+  pub no_content : content pair (codes "PLUG") (codes "bbp") ≡ 0
+  -- what is no candidate is not above and is not carried, whatever the article holds of it
+  pub no_candidate : is_above pair (codes "CABLE") (codes "bbp") ≡ false
+  pub none_carried : carried pair (codes "bbp") (codes "SET") ≡ 0
+  pub candidate : is_above all_listed (codes "CABLE") (codes "bbp") ≡ true
+  pub assembly_not_above : is_above all_listed (codes "SET") (codes "bbp") ≡ false
+  -- 10 of 10,000 are not more than a thousandth
+  pub thousandth : is_above all_listed (codes "CABLE") (codes "dehp") ≡ false
+  pub three_cables : carried all_listed (codes "bbp") (codes "SET") ≡ 60
+  pub article_findings : findings all_listed (codes "SET") ≡ over (codes "PVC") Bbp ∷ above (codes "CABLE") (codes "bbp") ∷ []
+  -- a part that is asked for itself, and no assembly
+  pub articles : map (λ part. part.code) (articles_in all_listed (codes "SET")) ≡ codes "CABLE" ∷ codes "PLUG" ∷ []
+  pub own_article : map (λ part. part.code) (articles_in all_listed (codes "PLUG")) ≡ codes "PLUG" ∷ []
+  -- a substance that is new on the list affects the articles that hold it and what reaches them, and no material
+  pub new_candidate : affected pair listed ≡ codes "CABLE" ∷ codes "SET" ∷ []
+  pub unheld_candidate : affected pair (Candidate (codes "t8") (codes "lead") (date 2018 6 27)) ≡ []
+  -- a new day of one that is on the list affects nothing
+  pub candidate_again : affected all_listed (Candidate (codes "t10") (codes "bbp") (date 2009 1 1)) ≡ []

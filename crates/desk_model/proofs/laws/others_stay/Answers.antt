@@ -1,4 +1,4 @@
-use Rattle.desk_model.proofs.Unaffected.{carried_stays, chain_stays, findings_stay, mass_stays, reached_stays}
+use Rattle.desk_model.proofs.Unaffected.{carried_stays, chain_stays, findings_stay, lines_stay, mass_stays, material_stays, reached_stays, share_stays}
 use Rattle.desk_model.proofs.laws.others_stay.Goals as goal
 
 pub returns : goal.returns
@@ -8,4 +8,7 @@ returns c = record {
   chains = chain_stays;
   loads = carried_stays;
   findings = findings_stay;
+  lines = lines_stay;
+  materials = material_stays;
+  shares = share_stays;
 }
