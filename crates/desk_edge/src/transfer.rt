@@ -1,7 +1,7 @@
 ghost use Rattle.std.specs.Prelude.{◌≡◌, ◌≢◌, ℕ, ◌+◌, ◌<◌, ◌≤◌, List, length, IfOk, OnOk, OnErr, IsErrOf, Err};
 ghost use Rattle.std.specs.Io.KnownBytes.{Consumes, Appends, IsAtEnd};
 ghost use Rattle.desk_edge.specs.Faults.{Rose};
-ghost use Rattle.desk_edge.specs.Transfer.{AppendsBeginning};
+ghost use Rattle.desk_edge.specs.Transfer.{AppendsBeginning, AppendsPart};
 
 use crate::failed::Failed;
 use crate::link::Link;
@@ -77,7 +77,8 @@ pub fn read_up_to<L: Link>(alloc: Global, link: &mut L, limit: usize) -> Result<
 /// After an error a beginning of the bytes is written, and not all of them.
 pub fn write_all<L: Link>(link: &mut L, bytes: &[u8]) -> Result<(), Failed>
     ensures ok { OnOk result (Appends (L.written link.old) (L.written link.new) bytes.now) }
-    ensures err { OnErr result (AppendsBeginning (L.written link.old) (L.written link.new) bytes.now) }
+    ensures err { OnErr result (AppendsPart (L.written link.old) (L.written link.new) bytes.now) }
+    ensures beginning { AppendsBeginning (L.written link.old) (L.written link.new) bytes.now }
     ensures input_stays { L.unread link.new ≡ L.unread link.old }
     ensures never_falls { L.faults link.old ≤ L.faults link.new }
     ensures steady { OnOk result (L.faults link.new ≡ L.faults link.old) }

@@ -1,6 +1,7 @@
 -- What the program answers: how it ends, and all that it writes.
-use Rattle.std.specs.Prelude.{◌≡◌, ℕ, ◌⊎◌, if◌then◌else◌, ◌==◌, List, codes, take, Option, None, Some, Result, Ok, Err}
+use Rattle.std.specs.Prelude.{◌≡◌, ℕ, ◌⊎◌, if◌then◌else◌, ◌==◌, List, codes, Option, None, Some, Result, Ok, Err}
 use Rattle.std.specs.Io.KnownBytes.{Appends}
+use Rattle.desk_edge.specs.Transfer.{AppendsBeginning}
 use Rattle.desk_top.specs.Check.{checked}
 use Rattle.desk_top.specs.declared.command.Check.{Check}
 use Rattle.desk_top.specs.declared.refusal.Refusal.{Refusal}
@@ -52,4 +53,4 @@ pub record Answers (answer : Answer) (ended : ℕ) (old new : Option (List ℕ))
   -- where no fault was counted, the whole text or line was written in any case
   pub steady : (rose → ⊥) → Appends old new (text_with ended answer)
   -- whatever happened, what was written is a beginning of that, and nothing else
-  pub beginning : (n : ℕ) × Appends old new (take n (text_with ended answer))
+  pub beginning : AppendsBeginning old new (text_with ended answer)

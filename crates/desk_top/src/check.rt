@@ -78,6 +78,7 @@ pub fn check_input<L: Link>(
     ensures taken { (bytes : List ℕ) × Consumes (L.unread console.old) (L.unread console.new) bytes × (length bytes ≤ input_limit + 1) }
     ensures output_stays { L.written console.new ≡ L.written console.old }
     ensures never_falls { L.faults console.old ≤ L.faults console.new }
+    ensures steady { result ≢ Err CheckFault.Failed → L.faults console.new ≡ L.faults console.old }
     ensures failed { IsErrOf result CheckFault.Failed → Rose (L.faults console.old) (L.faults console.new) }
 {
     let bytes = read_up_to(alloc, console, INPUT_LIMIT)?;

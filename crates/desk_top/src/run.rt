@@ -1,7 +1,8 @@
-ghost use Rattle.std.specs.Prelude.{◌≡◌, ◌↔◌, ◌⊎◌, ◌+◌, ◌≤◌, List, ℕ, length, map, codes, string_bytes, take, IfSome, None, Some, true};
+ghost use Rattle.std.specs.Prelude.{◌≡◌, ◌↔◌, ◌⊎◌, ◌+◌, ◌≤◌, List, ℕ, length, map, codes, string_bytes, IfSome, None, Some, true};
 ghost use Rattle.std.specs.Io.KnownBytes.{Appends, Consumes, IsAtEnd};
 ghost use Rattle.desk_text.specs.Day.{is_askable};
 ghost use Rattle.desk_edge.specs.Faults.{Rose};
+ghost use Rattle.desk_edge.specs.Transfer.{AppendsBeginning};
 ghost use Rattle.desk_top.specs.Answer.{Answers, answer_to, answer_to_other_words, status_code};
 ghost use Rattle.desk_top.specs.Command.{command_of};
 ghost use Rattle.desk_top.specs.Check.{input_limit};
@@ -29,6 +30,7 @@ pub fn run<R: Wait + Sync + Threads, L: Link>(
     ensures known { (status : Status) × (result ≡ status_code status) }
     ensures console_fault { result ≡ status_code Status.ConsoleFault → Rose (L.faults console.old) (L.faults console.new) }
     ensures end { result ≡ status_code Status.Done → IsAtEnd (L.unread console.new) }
+    ensures no_fault { result ≡ status_code Status.Done → L.faults console.new ≡ L.faults console.old }
 
     // For the bytes that the console tells, the status and the whole text are the ones that are meant.
     ensures answer { IfSome (L.unread console.old) (λ bytes.
@@ -68,6 +70,7 @@ fn answer_check<L: Link>(alloc: Global, check: &Check, console: &mut L) -> Statu
     ensures words { result ≡ Status.BadWords → ⊥ }
     ensures console_fault { result ≡ Status.ConsoleFault → Rose (L.faults console.old) (L.faults console.new) }
     ensures end { result ≡ Status.Done → IsAtEnd (L.unread console.new) }
+    ensures no_fault { result ≡ Status.Done → L.faults console.new ≡ L.faults console.old }
     ensures answer { IfSome (L.unread console.old) (λ bytes.
         Answers (answer_to (Some check.now) bytes) (status_code result)
         (L.written console.old) (L.written console.new) (Rose (L.faults console.old) (L.faults console.new))) }
@@ -90,7 +93,7 @@ fn answer_check<L: Link>(alloc: Global, check: &Check, console: &mut L) -> Statu
 pub fn tell<L: Link>(console: &mut L, status: Status, line: &str) -> Status
     ensures status { result ≡ status }
     ensures steady { (Rose (L.faults console.old) (L.faults console.new) → ⊥) → Appends (L.written console.old) (L.written console.new) line.now }
-    ensures beginning { (n : ℕ) × Appends (L.written console.old) (L.written console.new) (take n line.now) }
+    ensures beginning { AppendsBeginning (L.written console.old) (L.written console.new) line.now }
     ensures input_stays { L.unread console.new ≡ L.unread console.old }
     ensures never_falls { L.faults console.old ≤ L.faults console.new }
 {

@@ -39,3 +39,13 @@ loop-rest-preserved g c =
       c.write.ensures.input_stays ∙ input,
       c.in_ok-taken.ensures.steady ∙ count,
     )
+
+pub returns-in_err-taken-clause-beginning : goal.returns-in_err-taken-clause-beginning
+returns-in_err-taken-clause-beginning g c =
+    let (done, whole, taken, input, count) = c.loop-rest.invariant in
+    (length done, rw (beginning c.args.bytes.now done c.loop-rest.rest.now whole) (Appends-kept _ _ _ done taken c.in_err-taken.ensures.takes))
+
+pub returns-clause-beginning : goal.returns-clause-beginning
+returns-clause-beginning g c =
+    let (done, whole, taken, input, count) = c.loop-rest.invariant in
+    (length done, rw (beginning c.args.bytes.now done c.loop-rest.rest.now whole) taken)
