@@ -1,13 +1,13 @@
 -- What is found after a row is put in or a key's row is taken out, and what holds of each row then.
-use Rattle.std.proofs.Common.{◌≡◌, ℕ, suc, ◌+◌, ◌≤◌, Bool, true, false, cond, List, [], ◌∷◌, filter, map, length, sum_by, refl, sym, ap, ◌∙◌, subst, Ordering, Less, Equal, Greater, is_eq, Option, Some, None, is_some, arith}
-use Rattle.std.specs.Ordering.{match_ordering, ordering_reverse}
+use Rattle.std.proofs.Common.{◌≡◌, ℕ, suc, ◌+◌, ◌≤◌, Bool, true, false, cond, List, [], ◌∷◌, filter, map, length, sum_by, refl, sym, ap, ◌∙◌, Ordering, Less, Equal, Greater, is_eq, Some, None, is_some, arith}
+use Rattle.std.specs.Ordering.{match_ordering}
 use Rattle.std.specs.Cmp.{IsTotalOrder}
 use Rattle.std.specs.List.{AllByRecursion}
 use Rattle.std.proofs.lemmas.Bool.{false≢true}
-use Rattle.std.proofs.lemmas.Cmp.{alike_right, tied_back, tied_itself}
+use Rattle.std.proofs.lemmas.Cmp.{tied_itself}
 use Rattle.std.proofs.lemmas.List.Sums.{sum_by-cons}
 use Rattle.desk_rows.specs.Rows.{IsByKey, row_of, with_row, with_rows, without_row}
-use Rattle.desk_rows.proofs.Order.{AllAbove, AllAbove-down, first_above, greater_back, less_back, rest_by_key, row_of-above}
+use Rattle.desk_rows.proofs.Order.{AllAbove-down, first_above, less_back, rest_by_key, row_of-above}
 
 none_some : {R : Type 0} (row : R) {G : Type 0} → None ≡ Some row → G
 none_some row e = cc
