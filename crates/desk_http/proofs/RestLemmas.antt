@@ -1,16 +1,15 @@
 -- A rest, its front and the head in it.
-use Rattle.std.proofs.Common.{◌≡◌, ℕ, ◌+◌, ◌-◌, ◌≤◌, List, ◌++◌, length, take, drop, refl, sym, ap, ◌∙◌, arith, append_assoc, length-append}
+use Rattle.std.proofs.Common.{◌≡◌, ℕ, ◌+◌, ◌≤◌, List, ◌++◌, length, take, drop, refl, sym, ap, ◌∙◌, arith, append_assoc, length-append}
 use Rattle.std.specs.Prelude.{slice_range}
 use Rattle.std.proofs.lemmas.List.{length-take, take-take, take_at, take-append-drop, take-append-le}
 use Rattle.std.proofs.lemmas.List.Folds.{drop_split}
 use Rattle.std.proofs.lemmas.Slice.{between_is}
-use Rattle.std.proofs.Math.Seq.{take-append-add}
-use Rattle.httparse.specs.Grammar.{RequestHead, IsRequestHead, print_request, ReadsRequest}
+use Rattle.httparse.specs.Grammar.{RequestHead, print_request, ReadsRequest}
 use Rattle.httparse.proofs.RunLemmas.{length-slice_range}
 use Rattle.desk_http.specs.Limits.{head_limit, line_limit}
 use Rattle.desk_http.specs.declared.lines.BodyLength.TheVariants.{Known}
 use Rattle.desk_http.specs.declared.head.Head.{Head}
-use Rattle.desk_http.specs.Rest.{front, HasHead}
+use Rattle.desk_http.specs.Rest.{front}
 use Rattle.desk_http.specs.Head.{IsHeadAt}
 use Rattle.desk_http.specs.Taken.{IsTakenFrom}
 
