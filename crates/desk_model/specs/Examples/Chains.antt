@@ -1,6 +1,6 @@
 -- A product in which two ways lead to one article: what it weighs, what it reaches, and the chain before and after a line
 -- of it is taken out.
-use Rattle.std.specs.Prelude.{◌≡◌, ℕ, true, false, List, [], ◌∷◌, ◌++◌, None, Ok, codes, drop, map, take}
+use Rattle.std.specs.Prelude.{◌≡◌, true, false, List, [], ◌∷◌, ◌++◌, None, Ok, codes, drop, map, take}
 use Rattle.desk_law.specs.declared.kind.Kind.TheVariants.{Consumer, Telecommunications}
 use Rattle.desk_law.specs.declared.rule.Rule.TheVariants.{Lead}
 use Rattle.desk_model.specs.declared.edit.Edit.{Edit}
