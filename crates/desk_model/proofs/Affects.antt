@@ -1,7 +1,7 @@
 -- What each accepted edit leaves as it was on the codes that it doesn't affect.
-use Rattle.std.proofs.Common.{◌≡◌, ℕ, zero, suc, ◌+◌, ◌*◌, Bool, true, false, cond, not, ◌&&◌, ◌||◌, List, [], ◌∷◌, filter, find, map, sum_by, Option, Some, None, is_eq, is_some, refl, sym, ap, ◌∙◌, subst, ◌⊎◌, inl, inr, ⊎_elim, Ordering, Less, Equal, Greater, arith}
+use Rattle.std.proofs.Common.{◌≡◌, ℕ, zero, suc, ◌*◌, Bool, true, false, ◌&&◌, List, [], ◌∷◌, filter, map, Option, Some, None, is_eq, is_some, refl, sym, ap, ◌∙◌, subst, ◌⊎◌, inl, inr, ⊎_elim, Ordering, Less, Equal, Greater, arith}
 use Rattle.std.specs.Prelude.{if◌then◌else◌}
-use Rattle.std.specs.List.{AllByRecursion, list_all, list_any}
+use Rattle.std.specs.List.{AllByRecursion, list_any}
 use Rattle.std.specs.Option.{option_map_or}
 use Rattle.std.specs.Ordering.{nat_cmp, ordering_then}
 use Rattle.std.proofs.lemmas.Bool.{and_from, and_parts, and_right, both_ways, cases_Bool, false≢true, false_from_ne_true, not-false, or_left, or_parts, or_right, or_cases}
@@ -9,23 +9,20 @@ use Rattle.std.proofs.lemmas.Map.Lookups.{exact_bytes}
 use Rattle.desk_text.specs.Code.{code_cmp, same_code}
 use Rattle.desk_text.specs.Day.{Date}
 use Rattle.desk_text.proofs.CodeLemmas.{same_code_itself}
-use Rattle.desk_law.specs.declared.kind.Kind.{Kind}
 use Rattle.desk_law.specs.declared.rule.Rule.{Rule}
 use Rattle.desk_law.specs.Rule.{rule_number}
-use Rattle.desk_rows.specs.Rows.{row_of, with_row, with_rows, without_row}
+use Rattle.desk_rows.specs.Rows.{row_of, with_row}
 use Rattle.desk_rows.proofs.Lookups.{filter-with_row, filter-with_rows, filter-without_row, replaced, row_of-with_row, row_of-with_row_other, row_of-with_rows_other, row_of-without_row_other}
-use Rattle.desk_model.specs.declared.edit.Edit.{Edit}
-use Rattle.desk_model.specs.declared.edit.Edit.TheVariants.{Substance, Member, Declare, Part, Line, Unline, Product, Exemption, Unexempt, Candidate, Ship, Unship}
+use Rattle.desk_model.specs.declared.edit.Edit.TheVariants.{Member, Declare, Part, Line, Unline, Candidate}
 use Rattle.desk_model.specs.declared.part_sort.PartSort.{PartSort}
 use Rattle.desk_model.specs.declared.part_sort.PartSort.TheVariants.{Article, Assembly}
 use Rattle.desk_model.specs.declared.rows.candidate.CandidateRow.{CandidateRow}
-use Rattle.desk_model.specs.declared.rows.exemption.ExemptionRow.{ExemptionRow}
 use Rattle.desk_model.specs.declared.rows.line.LineRow.{LineRow}
 use Rattle.desk_model.specs.declared.rows.material.MaterialRow.{MaterialRow}
 use Rattle.desk_model.specs.declared.rows.part.PartRow.{PartRow}
 use Rattle.desk_model.specs.declared.substance_mass.SubstanceMass.{SubstanceMass}
 use Rattle.desk_model.specs.Above.{content, held_mass, is_candidate, mass_in}
-use Rattle.desk_model.specs.Affected.{articles_listing, is_affected, leads_to_some, lists_substance, materials_listing, seeds, seeds_of_new}
+use Rattle.desk_model.specs.Affected.{articles_listing, leads_to_some, lists_substance, materials_listing}
 use Rattle.desk_model.specs.Articles.{is_article, is_article_sort, same_sort}
 use Rattle.desk_model.specs.Declaration.{Declared}
 use Rattle.desk_model.specs.Effect.{declared_rows, entered, made, with_factor}
@@ -33,10 +30,9 @@ use Rattle.desk_model.specs.Lists.{Lists, is_part, line_key, line_key_cmp, mater
 use Rattle.desk_model.specs.Reaches.{is_or_reaches, lines_of, reaches}
 use Rattle.desk_model.specs.Share.{factor_of, share}
 use Rattle.desk_model.specs.Sound.{Sound, has_right_child}
-use Rattle.desk_model.specs.Step.{kept_number}
 use Rattle.desk_model.proofs.Bill.{by_line, is_or_reaches_trans}
 use Rattle.desk_model.proofs.Elements.{any-filter, any-map, any_map, any_none, any_of_all, any_of_filter, each, each_both, each_filter, each_in_map, each_map, each_of_map, none_from_any, sum_same, sum_zero}
-use Rattle.desk_model.proofs.Kept.{code_cmp_total, found_any, found_each, line_key_cmp_total, member_key_cmp_total, same_code-from, same_code-true}
+use Rattle.desk_model.proofs.Kept.{code_cmp_total, found_any, found_each, member_key_cmp_total, same_code-from, same_code-true}
 use Rattle.desk_model.proofs.Local.{Agrees}
 use Rattle.desk_model.proofs.Sounds.{each_right_child, has_parents, not_part, right_child_cases}
 

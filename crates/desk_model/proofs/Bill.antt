@@ -8,13 +8,12 @@ use Rattle.std.proofs.lemmas.List.Sums.{count_by-le-length}
 use Rattle.desk_text.specs.Code.{same_code}
 use Rattle.desk_text.proofs.CodeLemmas.{same_code_itself}
 use Rattle.desk_model.specs.declared.rows.line.LineRow.{LineRow}
-use Rattle.desk_model.specs.declared.rows.part.PartRow.{PartRow}
 use Rattle.desk_model.specs.Chain.{chain, chain_within, next_to}
-use Rattle.desk_model.specs.Lists.{Lists, is_kept, is_material, is_part}
+use Rattle.desk_model.specs.Lists.{Lists, is_kept, is_part}
 use Rattle.desk_model.specs.Reaches.{enough, is_or_reaches, lines_of, reaches, reaches_within}
 use Rattle.desk_model.specs.Rolled.{rolled, rolled_within}
-use Rattle.desk_model.proofs.Elements.{any_from_each, any_gives, any_of_filter, any_map, any_same, count_le, count_less, each, each_both, each_filter, each_from_all, each_map, find_each, none_kept, same_or_more, sum_same}
-use Rattle.desk_model.proofs.Kept.{kept_any, kept_each, same_code-from, same_code-true}
+use Rattle.desk_model.proofs.Elements.{any_of_filter, any_map, any_same, count_less, each, each_both, each_filter, each_from_all, each_map, find_each, none_kept, same_or_more, sum_same}
+use Rattle.desk_model.proofs.Kept.{kept_any, kept_each, same_code-true}
 
 -- each line is a kept part's
 abbrev pub HasParents : Lists → Type 0

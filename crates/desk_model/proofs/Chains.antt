@@ -1,5 +1,5 @@
 -- What a chain is: it begins with the part, goes along lines, and ends with the target where the part reaches it.
-use Rattle.std.proofs.Common.{◌≡◌, ℕ, Bool, true, false, not, ◌&&◌, ◌||◌, List, [], ◌∷◌, Option, Some, None, MatchOption, is_some, refl, sym, ap, ◌∙◌, subst, inl, inr}
+use Rattle.std.proofs.Common.{◌≡◌, ℕ, Bool, true, false, not, List, [], ◌∷◌, Option, Some, None, MatchOption, refl, sym, ◌∙◌, subst}
 use Rattle.std.specs.Prelude.{if◌then◌else◌}
 use Rattle.std.specs.List.{AllByRecursion, list_all, list_any}
 use Rattle.std.specs.Option.{option_map_or}
@@ -10,7 +10,7 @@ use Rattle.desk_model.specs.Chain.{are_linked, begins_with, chain, ends_with, ne
 use Rattle.desk_model.specs.Lists.{Lists, is_line, line_key, line_key_cmp}
 use Rattle.desk_model.specs.Reaches.{is_or_reaches, lines_of, reaches}
 use Rattle.desk_model.proofs.Bill.{HasParents, bill_induction, chain-step, next_each, reaches-step}
-use Rattle.desk_model.proofs.Elements.{each_both, each_filter, each_map, find_each, any_from_each}
+use Rattle.desk_model.proofs.Elements.{each_both, each_filter, each_map}
 use Rattle.desk_model.proofs.Kept.{each_kept, line_key_cmp_total, same_code-true}
 
 module _ (t : Lists) (parents : HasParents t) (acyclic : list_all (λ part. not (reaches t part.code part.code)) t.parts ≡ true) (target : List ℕ) where

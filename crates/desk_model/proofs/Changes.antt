@@ -1,5 +1,5 @@
 -- What a change of one table keeps of the clauses of soundness.
-use Rattle.std.proofs.Common.{◌≡◌, ℕ, Bool, true, false, not, ◌&&◌, List}
+use Rattle.std.proofs.Common.{◌≡◌, true, not, ◌&&◌, List}
 use Rattle.std.specs.List.{list_all}
 use Rattle.desk_text.specs.Code.{code_cmp}
 use Rattle.desk_rows.specs.Rows.{IsByKey}

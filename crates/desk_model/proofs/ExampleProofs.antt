@@ -203,6 +203,12 @@ chain_examples = record {
   less_mass = refl;
   affects_parent = refl;
   affects_users = refl;
+  affects_itself = refl;
+  affects_none = refl;
+  affects_above = refl;
+  repeated_affects = refl;
+  others_affect = refl;
+  two_edits = refl;
   five_edits = refl;
 }
 

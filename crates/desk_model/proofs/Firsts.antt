@@ -1,14 +1,13 @@
 -- The first element that passes a test, of a list in order of its keys, has the least key of all that pass.
 use Rattle.std.proofs.Common.{◌≡◌, ℕ, ◌^◌, Bool, true, false, not, ◌||◌, List, [], ◌∷◌, map, find, Option, Some, None, refl, sym, ap, ◌∙◌, subst, Ordering, Less, Equal, Greater, is_lt, inl, inr}
 use Rattle.std.specs.Prelude.{nat_le, option_map, ⊤}
-use Rattle.std.specs.Cmp.{IsTotalOrder}
 use Rattle.std.specs.List.{AllByRecursion, list_all}
 use Rattle.std.specs.Ordering.{nat_cmp, ordering_reverse, ordering_then}
 use Rattle.std.proofs.lemmas.Bool.{and_from, cases_Bool, or_left, or_right}
 use Rattle.std.proofs.lemmas.Cmp.{nat_cmp_total, tied_itself}
 use Rattle.desk_text.specs.Code.{code_cmp, same_code}
 use Rattle.desk_rows.specs.Rows.{IsByKey}
-use Rattle.desk_rows.proofs.Order.{AllAbove, first_above, greater_back, rest_by_key}
+use Rattle.desk_rows.proofs.Order.{first_above, greater_back, rest_by_key}
 use Rattle.desk_model.specs.declared.rows.line.LineRow.{LineRow}
 use Rattle.desk_model.specs.declared.rows.shipment.ShipmentRow.{ShipmentRow}
 use Rattle.desk_model.specs.Chain.{next_to}
@@ -35,14 +34,14 @@ first_is_least p less self [] found r e = refl
 first_is_least p less self (x ∷ xs) found r e =
     elim (cases_Bool (p x)) [
       | inl here ↦
-        subst (λ y. list_all (λ z. not (p z) || not (less z y)) (x ∷ xs) ≡ true) (some_some (rw here at e))
-        (and_from (not (p x) || not (less x x)) (list_all (λ z. not (p z) || not (less z x)) xs)
-        (or_right (not (p x)) (not (less x x)) (ap not (self x)))
-        (all_from_each (λ z. not (p z) || not (less z x)) xs (each_map (λ z. less z x ≡ false) (λ z. (not (p z) || not (less z x)) ≡ true) (λ z f. or_right (not (p z)) (not (less z x)) (ap not f)) xs r.0)))
+          subst (λ y. list_all (λ z. not (p z) || not (less z y)) (x ∷ xs) ≡ true) (some_some (rw here at e))
+          (and_from (not (p x) || not (less x x)) (list_all (λ z. not (p z) || not (less z x)) xs)
+          (or_right (not (p x)) (not (less x x)) (ap not (self x)))
+          (all_from_each (λ z. not (p z) || not (less z x)) xs (each_map (λ z. less z x ≡ false) (λ z. (not (p z) || not (less z x)) ≡ true) (λ z f. or_right (not (p z)) (not (less z x)) (ap not f)) xs r.0)))
       | inr other ↦
-        and_from (not (p x) || not (less x found)) (list_all (λ z. not (p z) || not (less z found)) xs)
-        (or_left (not (p x)) (not (less x found)) (ap not other))
-        (first_is_least p less self xs found r.1 (rw other at e))
+          and_from (not (p x) || not (less x found)) (list_all (λ z. not (p z) || not (less z found)) xs)
+          (or_left (not (p x)) (not (less x found)) (ap not other))
+          (first_is_least p less self xs found r.1 (rw other at e))
     ]
 
 found_of : {X Y : Type 0} (f : X → Y) (o : Option X) (y : Y) → option_map f o ≡ Some y → (x : X) × (o ≡ Some x) × (f x ≡ y)
@@ -62,8 +61,8 @@ module _ {R : Type 0} (key : R → List ℕ) where
   by_code [] h = tt
   by_code (row ∷ rows) h = (
     each_map (λ y. code_cmp (key row) (key y) ≡ Less) (λ y. is_lt (code_cmp (key y) (key row)) ≡ false)
-    (λ y e. ap is_lt (greater_back key code_cmp code_cmp_total (key row) (key y) e)) rows
-    (each_unmapped (λ k. code_cmp (key row) k ≡ Less) key rows (first_above key code_cmp code_cmp_total row rows h)),
+        (λ y e. ap is_lt (greater_back key code_cmp code_cmp_total (key row) (key y) e)) rows
+        (each_unmapped (λ k. code_cmp (key row) k ≡ Less) key rows (first_above key code_cmp code_cmp_total row rows h)),
     by_code rows (rest_by_key key code_cmp code_cmp_total row rows h),
   )
 
@@ -81,11 +80,11 @@ by_child part (line ∷ lines) h =
     let rest = by_child part lines (rest_by_key line_key line_key_cmp line_key_cmp_total line lines h) in
     elim (cases_Bool (same_code line.parent part)) [
       | inl mine ↦
-        let above = each_unmapped (λ k. line_key_cmp (line_key line) k ≡ Less) line_key lines (first_above line_key line_key_cmp line_key_cmp_total line lines h) in
-        let later = each_map (λ y. (line_key_cmp (line_key line) (line_key y) ≡ Less) × (same_code y.parent part ≡ true)) (λ y. is_lt (code_cmp y.child line.child) ≡ false)
-        (λ y e. child_after part line y mine e.1 e.0) (lines_of lines part)
-        (each_filter (λ y. line_key_cmp (line_key line) (line_key y) ≡ Less) (λ y. same_code y.parent part) lines above) in
-        rw mine (later, rest)
+          let above = each_unmapped (λ k. line_key_cmp (line_key line) k ≡ Less) line_key lines (first_above line_key line_key_cmp line_key_cmp_total line lines h) in
+          let later = each_map (λ y. (line_key_cmp (line_key line) (line_key y) ≡ Less) × (same_code y.parent part ≡ true)) (λ y. is_lt (code_cmp y.child line.child) ≡ false)
+          (λ y e. child_after part line y mine e.1 e.0) (lines_of lines part)
+          (each_filter (λ y. line_key_cmp (line_key line) (line_key y) ≡ Less) (λ y. same_code y.parent part) lines above) in
+          rw mine (later, rest)
       | inr other ↦ rw other rest
     ]
 
@@ -99,8 +98,8 @@ by_year : (shipments : List ShipmentRow) → IsByKey shipment_key shipment_key_c
 by_year [] h = tt
 by_year (shipment ∷ shipments) h = (
   each_map (λ y. shipment_key_cmp (shipment_key shipment) (shipment_key y) ≡ Less) (λ y. is_lt (nat_cmp y.year shipment.year) ≡ false)
-  (λ y e. year_after (nat_cmp shipment.year y.year) (code_cmp shipment.product y.product) shipment.year y.year refl e) shipments
-  (each_unmapped (λ k. shipment_key_cmp (shipment_key shipment) k ≡ Less) shipment_key shipments (first_above shipment_key shipment_key_cmp shipment_key_cmp_total shipment shipments h)),
+      (λ y e. year_after (nat_cmp shipment.year y.year) (code_cmp shipment.product y.product) shipment.year y.year refl e) shipments
+      (each_unmapped (λ k. shipment_key_cmp (shipment_key shipment) k ≡ Less) shipment_key shipments (first_above shipment_key shipment_key_cmp shipment_key_cmp_total shipment shipments h)),
   by_year shipments (rest_by_key shipment_key shipment_key_cmp shipment_key_cmp_total shipment shipments h),
 )
 

@@ -1,19 +1,10 @@
 -- The clauses of soundness that speak of tables 1 to 9, apart from limits and sums, and what a change of one table keeps of them.
-use Rattle.std.proofs.Common.{◌≡◌, ℕ, Bool, true, false, not, ◌&&◌, ◌||◌, List, [], ◌∷◌, Option, Some, None, is_some, refl, sym, ap, ◌∙◌, subst, ◌⊎◌, inl, inr, ⊎_elim}
-use Rattle.std.specs.List.{AllByRecursion, list_all}
-use Rattle.std.specs.Option.{option_map_or}
-use Rattle.std.proofs.lemmas.Bool.{and_from, and_parts, false≢true, or_left, or_right}
+use Rattle.std.proofs.Common.{◌≡◌, ℕ, Bool, true, not, ◌&&◌, List, refl, ◌⊎◌, inl, inr, ⊎_elim}
+use Rattle.std.specs.List.{list_all}
+use Rattle.std.proofs.lemmas.Bool.{and_from, and_parts, or_left, or_right}
 use Rattle.desk_text.specs.Code.{code_cmp}
 use Rattle.desk_rows.specs.Rows.{IsByKey}
-use Rattle.desk_model.specs.declared.rows.substance.SubstanceRow.{SubstanceRow}
-use Rattle.desk_model.specs.declared.rows.member.MemberRow.{MemberRow}
-use Rattle.desk_model.specs.declared.rows.material.MaterialRow.{MaterialRow}
-use Rattle.desk_model.specs.declared.rows.part.PartRow.{PartRow}
 use Rattle.desk_model.specs.declared.rows.line.LineRow.{LineRow}
-use Rattle.desk_model.specs.declared.rows.product.ProductRow.{ProductRow}
-use Rattle.desk_model.specs.declared.rows.exemption.ExemptionRow.{ExemptionRow}
-use Rattle.desk_model.specs.declared.rows.candidate.CandidateRow.{CandidateRow}
-use Rattle.desk_model.specs.declared.rows.shipment.ShipmentRow.{ShipmentRow}
 use Rattle.desk_model.specs.Articles.{is_article, is_assembly}
 use Rattle.desk_model.specs.Content.{holds_too_much}
 use Rattle.desk_model.specs.Forms.{is_substance_row, is_member_row, is_material_row, is_part_row, is_line_row, is_product_row, is_exemption_row, is_candidate_row, is_shipment_row}

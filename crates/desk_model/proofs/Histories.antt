@@ -1,19 +1,18 @@
 -- Histories: their numbers, their prefixes, and that what is kept stays kept.
 use Rattle.std.proofs.Common.{◌≡◌, ℕ, zero, suc, ◌+◌, ◌-◌, ◌<◌, ◌≤◌, Bool, true, false, cond, List, [], ◌∷◌, ◌++◌, length, take, drop, Option, Some, None, is_eq, is_some, refl, sym, ap, ◌∙◌, subst, inl, inr, arith, take-append-drop}
-use Rattle.std.specs.Prelude.{if◌then◌else◌}
 use Rattle.std.proofs.lemmas.Bool.{cases_Bool, both_ways, false≢true}
 use Rattle.desk_text.specs.Code.{code_cmp, same_code}
-use Rattle.desk_rows.specs.Rows.{row_of, with_row}
+use Rattle.desk_rows.specs.Rows.{row_of}
 use Rattle.desk_rows.proofs.Lookups.{row_of-with_row_other}
 use Rattle.desk_model.specs.declared.edit.Edit.{Edit}
 use Rattle.desk_model.specs.declared.rows.ticket.TicketRow.{TicketRow}
 use Rattle.desk_model.specs.declared.rule_fault.RuleFault.{RuleFault}
-use Rattle.desk_model.specs.EditText.{edit_text, same_text, ticket_code}
-use Rattle.desk_model.specs.Effect.{entered, next_number}
-use Rattle.desk_model.specs.History.{AreAccepted, Begins, History, IsAccepted, IsHistory, after, number_of, tables_after, up_to}
+use Rattle.desk_model.specs.EditText.{ticket_code}
+use Rattle.desk_model.specs.Effect.{entered}
+use Rattle.desk_model.specs.History.{AreAccepted, Begins, History, IsAccepted, IsHistory, number_of, tables_after, up_to}
 use Rattle.desk_model.specs.Lists.{Lists, ticket_row}
 use Rattle.desk_model.specs.Refused.{refused}
-use Rattle.desk_model.specs.Step.{kept_number, step, step_from, step_new}
+use Rattle.desk_model.specs.Step.{kept_number, step}
 use Rattle.desk_model.proofs.Kept.{code_cmp_total, same_code-true}
 use Rattle.desk_model.proofs.Steps.{fresh, step-accepted, step-kept, step-refused, ticket_of, tickets-length, tickets_entered}
 

@@ -1,12 +1,11 @@
 -- Rows that are kept under a code.
-use Rattle.std.proofs.Common.{◌≡◌, ℕ, ◌<◌, Bool, true, false, cond, not, List, [], ◌∷◌, Option, Some, None, is_some, is_eq, refl, sym, ap, ◌∙◌, subst, Ordering, Less, Equal, Greater}
-use Rattle.std.specs.Prelude.{if◌then◌else◌}
+use Rattle.std.proofs.Common.{◌≡◌, ℕ, Bool, true, false, cond, List, [], ◌∷◌, Some, None, is_some, is_eq, refl, sym, subst, Ordering}
 use Rattle.std.specs.List.{AllByRecursion, list_any}
 use Rattle.std.specs.Cmp.{IsTotalOrder}
 use Rattle.std.proofs.lemmas.Cmp.{nat_cmp_total, nat_list_cmp_total, on_total, then_total, tied_itself}
-use Rattle.std.proofs.lemmas.Bool.{cases_Bool, both_ways, false≢true, or_left, or_right}
+use Rattle.std.proofs.lemmas.Bool.{false≢true, or_left, or_right}
 use Rattle.desk_text.specs.Code.{code_cmp, same_code}
-use Rattle.desk_text.proofs.CodeLemmas.{same_code-Decides, same_code_itself}
+use Rattle.desk_text.proofs.CodeLemmas.{same_code-Decides}
 use Rattle.desk_rows.specs.Rows.{row_of}
 use Rattle.desk_model.specs.Lists.{line_key_cmp, member_key_cmp, shipment_key_cmp}
 use Rattle.desk_model.proofs.Elements.{each_map}

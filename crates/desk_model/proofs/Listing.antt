@@ -1,9 +1,7 @@
 -- What an edit affects is listed, each code once.
-use Rattle.std.proofs.Common.{◌≡◌, ℕ, ◌+◌, Bool, true, false, cond, ◌&&◌, ◌||◌, List, [], ◌∷◌, ◌++◌, map, filter, count_by, is_some, is_eq, refl, sym, ap, ◌∙◌, subst, Less, inl, inr, arith}
+use Rattle.std.proofs.Common.{◌≡◌, ℕ, ◌+◌, Bool, true, false, cond, ◌&&◌, ◌||◌, List, [], ◌∷◌, ◌++◌, map, filter, count_by, is_some, is_eq, refl, sym, ap, ◌∙◌, subst, inl, inr, arith}
 use Rattle.std.specs.Prelude.{if◌then◌else◌}
-use Rattle.std.specs.List.{AllByRecursion, list_all}
 use Rattle.std.proofs.lemmas.Bool.{cases_Bool}
-use Rattle.std.proofs.lemmas.Cmp.{tied_itself}
 use Rattle.desk_text.specs.Code.{code_cmp, same_code}
 use Rattle.desk_rows.specs.Rows.{IsByKey, row_of}
 use Rattle.desk_rows.proofs.Order.{AllAbove, first_above, greater_back, rest_by_key}
@@ -37,18 +35,18 @@ times_filter p code (first ∷ codes) =
     let ih = times_filter p code codes in
     elim (cases_Bool (same_code first code)) [
       | inl same ↦
-        let is = ap p (same_code-true first code same) in
-        elim (cases_Bool (p code)) [
-          | inl passes ↦
-            rw (is ∙ passes, passes) (times_again code first (filter p codes) ∙ ap (λ n. cond (same_code first code) 1 0 + n) (rw passes at ih) ∙ sym (times_again code first codes))
-          | inr fails ↦ rw (is ∙ fails, fails) (rw fails at ih)
-        ]
+          let is = ap p (same_code-true first code same) in
+          elim (cases_Bool (p code)) [
+            | inl passes ↦
+                rw (is ∙ passes, passes) (times_again code first (filter p codes) ∙ ap (λ n. cond (same_code first code) 1 0 + n) (rw passes at ih) ∙ sym (times_again code first codes))
+            | inr fails ↦ rw (is ∙ fails, fails) (rw fails at ih)
+          ]
       | inr other ↦
-        let skipped = ap (λ n. cond (p code) n 0) (sym (times_other code first codes other)) in
-        elim (cases_Bool (p first)) [
-          | inl passes ↦ rw passes (times_other code first (filter p codes) other ∙ ih ∙ skipped)
-          | inr fails ↦ rw fails (ih ∙ skipped)
-        ]
+          let skipped = ap (λ n. cond (p code) n 0) (sym (times_other code first codes other)) in
+          elim (cases_Bool (p first)) [
+            | inl passes ↦ rw passes (times_other code first (filter p codes) other ∙ ih ∙ skipped)
+            | inr fails ↦ rw fails (ih ∙ skipped)
+          ]
     ]
 
 module _ {R : Type 0} (key : R → List ℕ) where
@@ -63,10 +61,10 @@ module _ {R : Type 0} (key : R → List ℕ) where
   times_by_code code (row ∷ rows) h =
       elim (cases_Bool (same_code (key row) code)) [
         | inl same ↦
-          let none = subst (λ c. times c (map key rows) ≡ 0) (same_code-true (key row) code same) (none_above (key row) rows (first_above key code_cmp code_cmp_total row rows h)) in
-          rw same (times_again code (key row) (map key rows) ∙ rw (same, none) refl)
+            let none = subst (λ c. times c (map key rows) ≡ 0) (same_code-true (key row) code same) (none_above (key row) rows (first_above key code_cmp code_cmp_total row rows h)) in
+            rw same (times_again code (key row) (map key rows) ∙ rw (same, none) refl)
         | inr other ↦
-          rw other (times_other code (key row) (map key rows) other ∙ times_by_code code rows (rest_by_key key code_cmp code_cmp_total row rows h))
+            rw other (times_other code (key row) (map key rows) other ∙ times_by_code code rows (rest_by_key key code_cmp code_cmp_total row rows h))
       ]
 
 one_of : (a b : Bool) → (a ≡ true → b ≡ false) → cond a 1 0 + cond b 1 0 ≡ cond (a || b) 1 0

@@ -1,12 +1,11 @@
 -- What a part carries never exceeds its mass.
-use Rattle.std.proofs.Common.{◌≡◌, ℕ, ◌+◌, ◌*◌, ◌<◌, ◌≤◌, Bool, true, false, cond, not, ◌&&◌, List, [], ◌∷◌, find, sum_by, Option, Some, None, refl, sym, ap, ◌∙◌, subst, inl, inr, arith, mul-le-mul_left}
-use Rattle.std.specs.Prelude.{if◌then◌else◌, nat_lt}
-use Rattle.std.specs.List.{AllByRecursion, list_all}
+use Rattle.std.proofs.Common.{◌≡◌, ℕ, ◌+◌, ◌*◌, ◌≤◌, Bool, true, false, cond, not, ◌&&◌, List, [], ◌∷◌, find, sum_by, Option, Some, None, refl, sym, ◌∙◌, subst, inl, inr, arith, mul-le-mul_left}
+use Rattle.std.specs.Prelude.{if◌then◌else◌}
+use Rattle.std.specs.List.{AllByRecursion}
 use Rattle.std.specs.Option.{option_map_or}
 use Rattle.std.proofs.lemmas.Bool.{and_parts, cases_Bool, not-true, ltb-false}
 use Rattle.std.proofs.lemmas.List.Sums.{sum_by-cons}
 use Rattle.desk_text.specs.Code.{same_code}
-use Rattle.desk_model.specs.declared.rows.line.LineRow.{LineRow}
 use Rattle.desk_model.specs.declared.rows.material.MaterialRow.{MaterialRow}
 use Rattle.desk_model.specs.declared.substance_mass.SubstanceMass.{SubstanceMass}
 use Rattle.desk_model.specs.Above.{content, held_mass, is_above, mass_in}
@@ -18,7 +17,7 @@ use Rattle.desk_model.specs.Mass.{mass, own_mass}
 use Rattle.desk_model.specs.Reaches.{lines_of}
 use Rattle.desk_model.specs.Sound.{Sound, has_right_child}
 use Rattle.desk_model.proofs.Bill.{bill_induction, lines_of-none, rolled-step}
-use Rattle.desk_model.proofs.Elements.{each, each_both, each_filter, each_from_all, each_map, sum_le, sum_zero}
+use Rattle.desk_model.proofs.Elements.{each, each_filter, each_from_all, each_map, sum_le, sum_zero}
 use Rattle.desk_model.proofs.Kept.{found_each, same_code-true}
 use Rattle.desk_model.proofs.Sounds.{article_child, each_right_child, has_parents, is_part-article, not_part}
 

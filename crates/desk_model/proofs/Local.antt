@@ -1,14 +1,13 @@
 -- Two tables that agree on what some codes have and lead to: there these codes weigh, reach, carry and find the same.
-use Rattle.std.proofs.Common.{◌≡◌, ℕ, ◌+◌, ◌*◌, ◌<◌, Bool, true, false, cond, not, ◌&&◌, ◌||◌, List, [], ◌∷◌, ◌++◌, filter, find, map, length, sum_by, Option, Some, None, is_some, refl, sym, ap, ◌∙◌, subst, ◌⊎◌, inl, inr, ⊎_elim, arith}
+use Rattle.std.proofs.Common.{◌≡◌, ℕ, ◌*◌, Bool, true, false, cond, ◌&&◌, ◌||◌, List, [], ◌∷◌, ◌++◌, filter, find, map, sum_by, Option, Some, refl, sym, ap, ◌∙◌, subst, ◌⊎◌, ⊎_elim, arith}
 use Rattle.std.specs.Prelude.{if◌then◌else◌, nat_lt, option_map}
-use Rattle.std.specs.List.{AllByRecursion, flat_map, list_all, list_any}
+use Rattle.std.specs.List.{AllByRecursion, flat_map, list_any}
 use Rattle.std.specs.Option.{option_map_or}
 use Rattle.std.proofs.lemmas.Bool.{and_parts, and_right, le-ltb, or_cases}
 use Rattle.desk_text.specs.Code.{same_code}
 use Rattle.desk_law.specs.declared.rule.Rule.{Rule}
 use Rattle.desk_law.specs.Limit.{is_over, limit_of}
 use Rattle.desk_law.specs.Rule.{all_rules}
-use Rattle.desk_model.specs.declared.rows.candidate.CandidateRow.{CandidateRow}
 use Rattle.desk_model.specs.declared.rows.line.LineRow.{LineRow}
 use Rattle.desk_model.specs.declared.rows.material.MaterialRow.{MaterialRow}
 use Rattle.desk_model.specs.declared.rows.part.PartRow.{PartRow}
@@ -16,7 +15,7 @@ use Rattle.desk_model.specs.Above.{content, held_mass, is_above, is_candidate, m
 use Rattle.desk_model.specs.Articles.{articles_in, is_article, is_article_sort, materials_in}
 use Rattle.desk_model.specs.Carried.{carried, own_load}
 use Rattle.desk_model.specs.Chain.{chain, next_to}
-use Rattle.desk_model.specs.Findings.{Finding, above, findings, findings_of_article, findings_on, over, rules_over}
+use Rattle.desk_model.specs.Findings.{Finding, above, findings, findings_of_article, findings_on, over}
 use Rattle.desk_model.specs.Lists.{Lists, material_row}
 use Rattle.desk_model.specs.Mass.{mass, own_mass}
 use Rattle.desk_model.specs.Reaches.{is_or_reaches, lines_of, reaches}

@@ -1,21 +1,19 @@
 -- What an accepted edit makes of sound tables keeps the clauses on rows, names and codes: the edits but part and line.
 use Rattle.std.proofs.Common.{◌≡◌, ℕ, zero, suc, ◌+◌, ◌-◌, ◌<◌, ◌≤◌, Bool, true, false, cond, not, ◌&&◌, ◌||◌, List, [], ◌∷◌, ◌++◌, find, map, Option, Some, None, is_some, is_ok, refl, sym, ap, ◌∙◌, subst, inl, inr, arith}
-use Rattle.std.specs.Prelude.{if◌then◌else◌, nat_le, nat_lt, option_map}
-use Rattle.std.specs.List.{AllByRecursion, flat_map, list_all}
-use Rattle.std.specs.Option.{option_and_then, option_map_or}
-use Rattle.std.specs.Cmp.{IsTotalOrder}
+use Rattle.std.specs.Prelude.{nat_le, nat_lt}
+use Rattle.std.specs.List.{AllByRecursion, list_all}
+use Rattle.std.specs.Option.{option_map_or}
 use Rattle.std.specs.declared.cmp.Ordering.{Ordering}
-use Rattle.std.proofs.lemmas.Bool.{and_from, and_parts, both_ways, cases_Bool, false≢true, le-leb, leb-true, lt-ltb, ltb-false, not-false, not-true, not_from_false, not_from_true}
-use Rattle.desk_text.specs.Code.{code_cmp, same_code}
+use Rattle.std.proofs.lemmas.Bool.{and_from, and_parts, le-leb, leb-true, ltb-false, not-false, not_from_false}
+use Rattle.desk_text.specs.Code.{code_cmp}
 use Rattle.desk_text.specs.Day.{Date, is_day}
 use Rattle.desk_law.specs.declared.kind.Kind.{Kind}
 use Rattle.desk_law.specs.declared.rule.Rule.{Rule}
 use Rattle.desk_law.specs.Rule.{rule_number}
 use Rattle.desk_rows.specs.Rows.{row_of, with_row, with_rows, without_row}
-use Rattle.desk_rows.proofs.Edits.{IsByKey-with_row, IsByKey-with_rows, IsByKey-without_row}
-use Rattle.desk_rows.proofs.Lookups.{each_with_row, each_with_rows, each_without_row, kept-with_row, kept-with_rows}
-use Rattle.desk_model.specs.declared.edit.Edit.{Edit}
-use Rattle.desk_model.specs.declared.edit.Edit.TheVariants.{Substance, Member, Declare, Part, Line, Unline, Product, Exemption, Unexempt, Candidate, Ship, Unship}
+use Rattle.desk_rows.proofs.Edits.{IsByKey-with_row, IsByKey-without_row}
+use Rattle.desk_rows.proofs.Lookups.{each_with_row, each_with_rows, each_without_row, kept-with_row}
+use Rattle.desk_model.specs.declared.edit.Edit.TheVariants.{Substance, Member, Product, Exemption, Unexempt, Candidate, Ship, Unship}
 use Rattle.desk_model.specs.declared.rows.substance.SubstanceRow.{SubstanceRow}
 use Rattle.desk_model.specs.declared.rows.member.MemberRow.{MemberRow}
 use Rattle.desk_model.specs.declared.rows.product.ProductRow.{ProductRow}
@@ -23,16 +21,16 @@ use Rattle.desk_model.specs.declared.rows.candidate.CandidateRow.{CandidateRow}
 use Rattle.desk_model.specs.declared.rows.exemption.ExemptionRow.{ExemptionRow}
 use Rattle.desk_model.specs.declared.rows.shipment.ShipmentRow.{ShipmentRow}
 use Rattle.desk_model.specs.declared.rule_fault.RuleFault.{RuleFault}
-use Rattle.desk_model.specs.Effect.{made, units_of, with_factor, with_units}
-use Rattle.desk_model.specs.Forms.{are_units, is_code, is_count, is_exemption_row, is_member_row, is_name, is_optional_cas, is_shipment_row, is_substance_row, is_candidate_row, is_product_row, is_edit_in_form, is_year}
-use Rattle.desk_model.specs.Lists.{Lists, is_material, is_part, is_product, is_substance, line_key, line_key_cmp, member_key, member_key_cmp, shipment_key, shipment_key_cmp, shipment_row}
-use Rattle.desk_model.specs.Refused.{outside_annex, exemption_span, refuse_if, ship_below_zero, units_too_large, unknown_part, unknown_product, unknown_substance}
+use Rattle.desk_model.specs.Effect.{made, units_of, with_units}
+use Rattle.desk_model.specs.Forms.{are_units, is_code, is_exemption_row, is_member_row, is_name, is_optional_cas, is_shipment_row, is_substance_row, is_candidate_row, is_product_row, is_edit_in_form, is_year}
+use Rattle.desk_model.specs.Lists.{Lists, is_part, is_product, is_substance, member_key, member_key_cmp, shipment_key, shipment_key_cmp, shipment_row}
+use Rattle.desk_model.specs.Refused.{outside_annex, exemption_span, refuse_if, units_too_large, unknown_part, unknown_product, unknown_substance}
 use Rattle.desk_model.specs.Terms.{breaks_annex, breaks_span}
 use Rattle.desk_model.specs.declared.limits.TheConstants.{UNITS_LIMIT, WHOLE_FACTOR}
 use Rattle.desk_model.proofs.Changes.{good-candidates, good-exemptions, good-members, good-products, good-shipments, good-substances}
-use Rattle.desk_model.proofs.Elements.{all_from_each, each_from_all, each_map}
-use Rattle.desk_model.proofs.Good.{Grows, IsGood}
-use Rattle.desk_model.proofs.Kept.{code_cmp_total, line_key_cmp_total, member_key_cmp_total, shipment_key_cmp_total}
+use Rattle.desk_model.proofs.Elements.{all_from_each, each_from_all}
+use Rattle.desk_model.proofs.Good.{IsGood}
+use Rattle.desk_model.proofs.Kept.{code_cmp_total, member_key_cmp_total, shipment_key_cmp_total}
 use Rattle.desk_model.proofs.Rules.{IsUnrefused}
 
 -- a rule that doesn't refuse, by its test

@@ -1,18 +1,14 @@
 -- What an accepted edit of a part or of a line makes of sound tables keeps the clauses on rows, names, codes and cycles.
-use Rattle.std.proofs.Common.{◌≡◌, ℕ, zero, suc, ◌+◌, ◌-◌, ◌<◌, ◌≤◌, Bool, true, false, cond, not, ◌&&◌, ◌||◌, List, [], ◌∷◌, filter, length, Option, Some, None, is_eq, is_some, refl, sym, ap, ◌∙◌, subst, ◌⊎◌, inl, inr, ⊎_elim, arith}
+use Rattle.std.proofs.Common.{◌≡◌, ℕ, zero, suc, ◌+◌, ◌-◌, Bool, true, false, cond, not, ◌&&◌, ◌||◌, List, [], ◌∷◌, length, Option, Some, None, is_eq, is_some, refl, sym, ap, ◌∙◌, subst, ◌⊎◌, inl, inr, ⊎_elim, arith}
 use Rattle.std.specs.Prelude.{if◌then◌else◌}
 use Rattle.std.specs.List.{AllByRecursion, list_all, list_any}
-use Rattle.std.specs.Option.{option_and_then, option_map_or}
-use Rattle.std.specs.Ordering.{match_ordering}
+use Rattle.std.specs.Option.{option_map_or}
 use Rattle.std.specs.declared.cmp.Ordering.{Ordering}
-use Rattle.std.specs.declared.cmp.Ordering.TheVariants.{Less, Equal, Greater}
 use Rattle.std.proofs.lemmas.Bool.{and_from, and_parts, both_ways, cases_Bool, false_from_ne_true, false≢true, not-false, not-true, not_from_false, or_cases, or_left, or_right}
 use Rattle.desk_text.specs.Code.{code_cmp, same_code}
-use Rattle.desk_text.proofs.CodeLemmas.{same_code_itself}
 use Rattle.desk_rows.specs.Rows.{row_of, with_row, without_row}
 use Rattle.desk_rows.proofs.Edits.{IsByKey-with_row, IsByKey-without_row}
 use Rattle.desk_rows.proofs.Lookups.{each_with_row, kept-with_row, length-with_row-ge, row_of-with_row, row_of-with_row_other}
-use Rattle.desk_model.specs.declared.edit.Edit.{Edit}
 use Rattle.desk_model.specs.declared.edit.Edit.TheVariants.{Part, Line, Unline}
 use Rattle.desk_model.specs.declared.part_sort.PartSort.{PartSort}
 use Rattle.desk_model.specs.declared.part_sort.PartSort.TheVariants.{Article, Assembly}
@@ -27,11 +23,11 @@ use Rattle.desk_model.specs.Lists.{Lists, is_kept, is_material, is_part, line_ke
 use Rattle.desk_model.specs.Reaches.{enough, is_or_reaches, lines_of, reaches, reaches_within}
 use Rattle.desk_model.specs.Refused.{closes_cycle, kind_changed, name_taken, refuse_if, unknown_material, unknown_part, wrong_child}
 use Rattle.desk_model.specs.Sound.{has_right_child}
-use Rattle.desk_model.proofs.Bill.{HasParents, by_line, is_or_reaches_trans, lines_of-none, reaches-deeper, reaches-step, reaches_trans}
+use Rattle.desk_model.proofs.Bill.{HasParents, by_line, is_or_reaches_trans, lines_of-none, reaches-deeper, reaches-step}
 use Rattle.desk_model.proofs.Changes.{good-lines, good-parts}
 use Rattle.desk_model.proofs.Elements.{all_from_each, any-filter, any_gives, any_map, each, each_filter, each_from_all, each_map}
-use Rattle.desk_model.proofs.Good.{Grows, IsGood, right_child_from}
-use Rattle.desk_model.proofs.Kept.{code_cmp_total, found_each, kept_each, line_key_cmp_total, same_code-from, same_code-true}
+use Rattle.desk_model.proofs.Good.{IsGood, right_child_from}
+use Rattle.desk_model.proofs.Kept.{code_cmp_total, kept_each, line_key_cmp_total, same_code-from, same_code-true}
 use Rattle.desk_model.proofs.Made.{all_with_row, all_without_row, refuse_if-none, refuse_unless}
 use Rattle.desk_model.proofs.Rules.{IsUnrefused}
 use Rattle.desk_model.proofs.Sounds.{right_child_cases, is_part-article, is_part-assembly}

@@ -1,20 +1,17 @@
 -- What an accepted declaration makes of sound tables keeps the clauses on rows, names and codes.
-use Rattle.std.proofs.Common.{◌≡◌, ℕ, Bool, true, false, not, ◌&&◌, List, [], ◌∷◌, find, map, length, Option, Some, None, is_some, refl, sym, ap, ◌∙◌, subst}
+use Rattle.std.proofs.Common.{◌≡◌, true, false, not, ◌&&◌, List, find, map, length, Option, Some, None, is_some, refl, sym, ap, ◌∙◌, subst}
 use Rattle.std.specs.Prelude.{nat_le, option_map}
-use Rattle.std.specs.List.{AllByRecursion, flat_map, list_all}
-use Rattle.std.proofs.lemmas.Bool.{and_from, and_parts, both_ways, false_from_ne_true, not-false, not-true, not_from_false}
+use Rattle.std.specs.List.{AllByRecursion, list_all}
+use Rattle.std.proofs.lemmas.Bool.{and_parts, both_ways, false_from_ne_true, not-false, not_from_false}
 use Rattle.desk_text.specs.Code.{code_cmp, same_code}
 use Rattle.desk_text.specs.Day.{is_day}
 use Rattle.desk_rows.specs.Rows.{row_of, with_rows}
 use Rattle.desk_rows.proofs.Edits.{IsByKey-with_rows}
 use Rattle.desk_rows.proofs.Lookups.{kept-with_rows, row_of-with_rows_other}
-use Rattle.desk_model.specs.declared.edit.Edit.{Edit}
 use Rattle.desk_model.specs.declared.edit.Edit.TheVariants.{Declare}
 use Rattle.desk_model.specs.declared.limits.TheConstants.{DECLARED_LIMIT}
 use Rattle.desk_model.specs.declared.material_decl.MaterialDecl.{MaterialDecl}
 use Rattle.desk_model.specs.declared.rows.material.MaterialRow.{MaterialRow}
-use Rattle.desk_model.specs.declared.rows.part.PartRow.{PartRow}
-use Rattle.desk_model.specs.declared.rule_fault.RuleFault.{RuleFault}
 use Rattle.desk_model.specs.Content.{holds_too_much, is_content, rises}
 use Rattle.desk_model.specs.Declaration.{Declared, is_declaration}
 use Rattle.desk_model.specs.Effect.{declared_rows, made}
@@ -23,7 +20,7 @@ use Rattle.desk_model.specs.Lists.{Lists, is_material, is_part, is_substance}
 use Rattle.desk_model.specs.Refused.{declared_substances, masses_exceed, name_taken, unknown_substance}
 use Rattle.desk_model.proofs.Changes.{good-materials}
 use Rattle.desk_model.proofs.Elements.{all_from_each, each_both, each_from_all, each_in_flat_map, each_in_map, each_map, each_of_map, find-none}
-use Rattle.desk_model.proofs.Good.{Grows, IsGood}
+use Rattle.desk_model.proofs.Good.{IsGood}
 use Rattle.desk_model.proofs.Kept.{code_cmp_total, each_kept, same_code-true}
 use Rattle.desk_model.proofs.Made.{all_with_rows}
 use Rattle.desk_model.proofs.Rules.{IsUnrefused}

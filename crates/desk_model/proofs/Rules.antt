@@ -1,8 +1,7 @@
 -- What it says that no rule refuses an edit.
-use Rattle.std.proofs.Common.{◌≡◌, ℕ, List, [], ◌∷◌, Option, Some, None, refl}
+use Rattle.std.proofs.Common.{◌≡◌, List, [], ◌∷◌, Option, Some, None, refl}
 use Rattle.std.specs.List.{AllByRecursion}
 use Rattle.desk_model.specs.declared.edit.Edit.{Edit}
-use Rattle.desk_model.specs.declared.rule_fault.RuleFault.{RuleFault}
 use Rattle.desk_model.specs.Lists.{Lists}
 use Rattle.desk_model.specs.Refused.{first_some, refused, rules, ticket_reused, unknown_substance, unknown_material, unknown_part, unknown_product, unknown_exemption, name_taken, kind_changed, wrong_child, no_such_line, foreign_material, stale_declaration, masses_exceed, exemption_span, outside_annex, ship_below_zero, units_too_large, table_full, text_full, closes_cycle, total_too_large, findings_full, year_too_large}
 

@@ -1,5 +1,5 @@
 -- An accepted edit keeps tables sound, and the start tables are sound.
-use Rattle.std.proofs.Common.{◌≡◌, ℕ, Bool, true, false, List, [], ◌∷◌, Option, Some, None, Result, refl, sym, ap, ◌∙◌, subst}
+use Rattle.std.proofs.Common.{◌≡◌, ℕ, true, false, List, [], ◌∷◌, Option, Some, None, refl, sym, ap}
 use Rattle.std.specs.Prelude.{option_map}
 use Rattle.std.specs.List.{AllByRecursion}
 use Rattle.std.specs.List.Sorted.{IsStrictlySortedBy}
@@ -17,7 +17,7 @@ use Rattle.desk_model.specs.Forms.{is_edit_in_form}
 use Rattle.desk_model.specs.History.{IsAccepted, tables_after}
 use Rattle.desk_model.specs.Lists.{Lists}
 use Rattle.desk_model.specs.Reaches.{reaches_within}
-use Rattle.desk_model.specs.Refused.{findings_full, first_of, refuse_if, refused, table_full, text_full, total_too_large, year_too_large}
+use Rattle.desk_model.specs.Refused.{findings_full, first_of, refused, table_full, text_full, total_too_large, year_too_large}
 use Rattle.desk_model.specs.Sound.{IsTicketOfEdit, Sound, are_names_kept}
 use Rattle.desk_model.specs.Start.{start}
 use Rattle.desk_model.specs.Step.{kept_number, step}
@@ -27,10 +27,9 @@ use Rattle.desk_model.proofs.Kept.{code_cmp_total}
 use Rattle.desk_model.proofs.Made.{good-candidate, good-exemption, good-member, good-product, good-ship, good-substance, good-unexempt, good-unship, refuse_if-none}
 use Rattle.desk_model.proofs.MadeBill.{good-line, good-part, good-unline}
 use Rattle.desk_model.proofs.MadeDeclared.{good-declare, unmapped}
-use Rattle.desk_model.proofs.Numbers.{are_numbers-with_row}
 use Rattle.desk_model.proofs.Rules.{IsUnrefused, unrefused}
 use Rattle.desk_model.proofs.StartForms.{start_in_form}
-use Rattle.desk_model.proofs.Steps.{are_numbers-step, fresh, step-accepted, step-kept, step-refused, ticket_of, tickets_entered}
+use Rattle.desk_model.proofs.Steps.{are_numbers-step, step-accepted, step-kept, step-refused, ticket_of, tickets_entered}
 
 -- each of the twelve edits, made, keeps the clauses on rows, names, codes and cycles
 good-made : (t : Lists) → IsGood t → (edit : Edit) → is_edit_in_form edit ≡ true → IsUnrefused t edit → IsGood (made t edit)

@@ -1,21 +1,12 @@
 -- The base substances are in form.
-use Rattle.std.proofs.Common.{◌≡◌, ℕ, Bool, true, false, not, ◌&&◌, List, [], ◌∷◌, length, refl, sym, ap, ◌∙◌}
-use Rattle.std.specs.Prelude.{is_ok, nat_lt, ◌==◌}
-use Rattle.std.specs.Char.{is_control}
-use Rattle.std.specs.List.{list_all, list_any}
-use Rattle.std.specs.Str.{IsAscii, chars, is_utf8}
-use Rattle.std.proofs.lemmas.Bool.{and_from, ltb-true}
-use Rattle.std.proofs.lemmas.Str.{IsUtf8-from_ascii, chars-IsAscii, is_utf8-from_IsUtf8}
-use Rattle.std.proofs.lemmas.Str.Ascii.{IsAscii-cons, IsAscii-nil}
+use Rattle.std.proofs.Common.{◌≡◌, true, ◌&&◌, refl}
+use Rattle.std.proofs.lemmas.Bool.{and_from}
 use Rattle.desk_text.specs.Cas.{cas_of}
 use Rattle.desk_text.specs.Code.{code_of}
-use Rattle.desk_text.specs.Name.{name_of}
-use Rattle.desk_text.specs.declared.name.TheConstants.{NAME_LIMIT}
 use Rattle.desk_law.specs.declared.rule.Rule.{Rule}
 use Rattle.desk_law.specs.declared.rule.Rule.TheVariants.{Lead, Mercury, Cadmium, ChromiumVi, Pbb, Pbde, Dehp, Bbp, Dbp, Dibp}
 use Rattle.desk_law.specs.Rule.{rule_code}
 use Rattle.desk_model.specs.Forms.{is_code, is_member_row, is_name, is_optional_cas, is_substance_row}
-use Rattle.desk_model.specs.Lists.{Lists}
 use Rattle.desk_model.specs.Sound.{are_rows_in_form}
 use Rattle.desk_model.specs.Start.{base_cas, base_member, base_name, base_substance, rules_by_code, start}
 use Rattle.desk_model.proofs.Elements.{all_from_each, each, each_of_map}

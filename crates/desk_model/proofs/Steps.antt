@@ -1,9 +1,7 @@
 -- What a step does: a refused edit and a repeated one change nothing, and an accepted one adds its ticket.
-use Rattle.std.proofs.Common.{◌≡◌, ℕ, zero, suc, ◌+◌, ◌<◌, ◌≤◌, Bool, true, false, cond, not, ◌&&◌, List, [], ◌∷◌, length, sum_by, count_by, Option, Some, None, Result, Ok, Err, refl, sym, ap, ◌∙◌, subst, inl, inr, arith}
-use Rattle.std.specs.Prelude.{if◌then◌else◌, nat_le, nat_lt, ◌==◌}
-use Rattle.std.specs.List.{AllByRecursion, list_all, range_with_len}
-use Rattle.std.proofs.lemmas.Bool.{and_parts, and_from, cases_Bool, false≢true, eqb-true, eq-eqb, ne_eqb, le-leb, leb-true, leb-false, lt-leb}
-use Rattle.std.proofs.lemmas.List.Sums.{sum_by-cons, count_by-le-length}
+use Rattle.std.proofs.Common.{◌≡◌, ℕ, ◌+◌, true, List, [], ◌∷◌, length, sum_by, Option, Some, None, Result, Ok, Err, refl, sym, ap, ◌∙◌, inl, inr, arith}
+use Rattle.std.proofs.lemmas.Bool.{cases_Bool}
+use Rattle.std.proofs.lemmas.List.Sums.{sum_by-cons}
 use Rattle.desk_text.specs.Code.{code_cmp}
 use Rattle.desk_rows.specs.Rows.{row_of, with_row}
 use Rattle.desk_rows.proofs.Lookups.{row_of-with_row, sum_by-with_row}
@@ -12,15 +10,14 @@ use Rattle.desk_model.specs.declared.rows.ticket.TicketRow.{TicketRow}
 use Rattle.desk_model.specs.declared.rule_fault.RuleFault.{RuleFault}
 use Rattle.desk_model.specs.declared.rule_fault.RuleFault.TheVariants.{TicketReused}
 use Rattle.desk_model.specs.EditText.{edit_text, same_text, ticket_code}
-use Rattle.desk_model.specs.Effect.{entered, made, next_number}
+use Rattle.desk_model.specs.Effect.{entered, next_number}
 use Rattle.desk_model.specs.Lists.{Lists, ticket_row}
 use Rattle.desk_model.specs.Refused.{refused, ticket_reused}
 use Rattle.desk_model.specs.Sound.{are_numbers}
 use Rattle.desk_model.specs.Step.{kept_number, step, step_from, step_new}
-use Rattle.desk_model.proofs.Elements.{count_by-cons, each_from_all, each_map}
 use Rattle.desk_model.proofs.Kept.{code_cmp_total, same_code-from}
 use Rattle.desk_model.proofs.Numbers.{are_numbers-with_row}
-use Rattle.desk_model.proofs.Rules.{IsUnrefused, unrefused}
+use Rattle.desk_model.proofs.Rules.{unrefused}
 
 ok_err : {n : ℕ} {fault : RuleFault} {G : Type 0} → Ok n ≡ Err fault → G
 ok_err {n} {fault} {G} e = cc

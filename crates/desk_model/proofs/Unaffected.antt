@@ -1,11 +1,11 @@
 -- Codes that an accepted edit doesn't affect stay as they were.
-use Rattle.std.proofs.Common.{◌≡◌, ℕ, zero, suc, ◌+◌, ◌-◌, Bool, true, false, List, [], ◌∷◌, Option, Some, None, is_some, refl, sym, ap, ◌∙◌, subst}
+use Rattle.std.proofs.Common.{◌≡◌, ℕ, zero, suc, ◌+◌, ◌-◌, true, false, List, [], Some, is_some, refl, sym, ap, ◌∙◌, subst}
 use Rattle.std.specs.Prelude.{if◌then◌else◌}
 use Rattle.std.specs.List.{list_any}
 use Rattle.desk_model.specs.declared.edit.Edit.{Edit}
 use Rattle.desk_model.specs.declared.edit.Edit.TheVariants.{Substance, Member, Declare, Part, Line, Unline, Product, Exemption, Unexempt, Candidate, Ship, Unship}
 use Rattle.desk_model.specs.Above.{is_candidate}
-use Rattle.desk_model.specs.Affected.{is_affected, seeds, seeds_of_new}
+use Rattle.desk_model.specs.Affected.{is_affected, seeds_of_new}
 use Rattle.desk_model.specs.Carried.{carried}
 use Rattle.desk_model.specs.Chain.{chain}
 use Rattle.desk_model.specs.Effect.{entered, made, units_of, with_units}
@@ -19,7 +19,6 @@ use Rattle.desk_model.specs.Mass.{mass}
 use Rattle.desk_model.specs.Reaches.{is_or_reaches, lines_of, reaches}
 use Rattle.desk_model.specs.Share.{share}
 use Rattle.desk_model.specs.Sound.{Sound}
-use Rattle.desk_model.specs.Step.{kept_number}
 use Rattle.desk_model.proofs.Affects.{IsFree, agrees-candidate, agrees-declare, agrees-line, agrees-member, agrees-part, agrees-unline, agrees_plain}
 use Rattle.desk_model.proofs.Good.{good_of}
 use Rattle.desk_model.proofs.Kept.{found_each}

@@ -3,7 +3,7 @@ use Rattle.std.specs.Prelude.{ℕ, Bool, ◌&&◌, ◌||◌, List, [], ◌∷◌
 use Rattle.std.specs.List.{list_any}
 use Rattle.desk_text.specs.Code.{same_code}
 use Rattle.desk_model.specs.declared.edit.Edit.{Edit}
-use Rattle.desk_model.specs.declared.edit.Edit.TheVariants.{Substance, Member, Declare, Part, Line, Unline, Product, Exemption, Unexempt, Candidate, Ship, Unship}
+use Rattle.desk_model.specs.declared.edit.Edit.TheVariants.{Member, Declare, Part, Line, Unline, Candidate}
 use Rattle.desk_model.specs.declared.rows.material.MaterialRow.{MaterialRow}
 use Rattle.desk_model.specs.Above.{is_candidate}
 use Rattle.desk_model.specs.Articles.{is_article_sort}

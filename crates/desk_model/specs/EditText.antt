@@ -1,12 +1,11 @@
 -- The text of an edit, by which two edits are the same, and the code of its ticket.
-use Rattle.std.specs.Prelude.{ℕ, Bool, List, [], ◌∷◌, ◌++◌, Option, Some, None, codes, decimal, length, map}
+use Rattle.std.specs.Prelude.{ℕ, Bool, List, [], ◌∷◌, ◌++◌, Option, Some, None, codes, decimal, length}
 use Rattle.std.specs.Cmp.Lexicographic.{slice_cmp}
 use Rattle.std.specs.List.{flat_map, join_with_byte}
 use Rattle.std.specs.Option.{unwrap_or}
 use Rattle.std.specs.Ordering.{eq_by_cmp, nat_cmp}
-use Rattle.desk_text.specs.Day.{Date, date_text}
+use Rattle.desk_text.specs.Day.{date_text}
 use Rattle.desk_law.specs.declared.claim.Claim.{Claim}
-use Rattle.desk_law.specs.declared.terms.Terms.{Terms}
 use Rattle.desk_law.specs.Annex.{annex_number}
 use Rattle.desk_law.specs.Kind.{kind_code}
 use Rattle.desk_law.specs.KindSet.{kinds_text}

@@ -1,9 +1,7 @@
 -- What an accepted edit makes of the tables.
-use Rattle.std.specs.Prelude.{ℕ, zero, suc, ◌+◌, ◌-◌, ◌==◌, List, length, map, if◌then◌else◌}
+use Rattle.std.specs.Prelude.{ℕ, zero, suc, ◌+◌, ◌-◌, List, length, map}
 use Rattle.std.specs.Option.{option_map_or}
 use Rattle.desk_text.specs.Code.{code_cmp}
-use Rattle.desk_text.specs.Day.{Date}
-use Rattle.desk_law.specs.declared.kind.Kind.{Kind}
 use Rattle.desk_law.specs.declared.rule.Rule.{Rule}
 use Rattle.desk_law.specs.Rule.{rule_number}
 use Rattle.desk_rows.specs.Rows.{with_row, with_rows, without_row}

@@ -1,5 +1,5 @@
 -- Values of their form and in their range, in rows and in edits.
-use Rattle.std.specs.Prelude.{ℕ, ◌^◌, Bool, true, ◌&&◌, List, Option, Some, None, is_ok, map, nat_le, nat_lt}
+use Rattle.std.specs.Prelude.{ℕ, ◌^◌, Bool, true, ◌&&◌, List, Option, Some, None, is_ok, nat_le, nat_lt}
 use Rattle.std.specs.List.{list_all}
 use Rattle.desk_text.specs.Cas.{cas_of}
 use Rattle.desk_text.specs.Code.{code_of, exemption_number_of}
@@ -10,7 +10,6 @@ use Rattle.desk_law.specs.declared.terms.Terms.{Terms}
 use Rattle.desk_model.specs.declared.edit.Edit.{Edit}
 use Rattle.desk_model.specs.declared.edit.Edit.TheVariants.{Substance, Member, Declare, Part, Line, Unline, Product, Exemption, Unexempt, Candidate, Ship, Unship}
 use Rattle.desk_model.specs.declared.limits.TheConstants.{COUNT_LIMIT, FIRST_SHIPMENT_YEAR, LAST_SHIPMENT_YEAR, UNITS_LIMIT, WHOLE_FACTOR}
-use Rattle.desk_model.specs.declared.material_decl.MaterialDecl.{MaterialDecl}
 use Rattle.desk_model.specs.declared.rows.substance.SubstanceRow.{SubstanceRow}
 use Rattle.desk_model.specs.declared.rows.member.MemberRow.{MemberRow}
 use Rattle.desk_model.specs.declared.rows.material.MaterialRow.{MaterialRow}

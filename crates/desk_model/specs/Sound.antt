@@ -1,5 +1,5 @@
 -- Tables that make sense: what every desk's tables keep, from the start tables on through every accepted edit.
-use Rattle.std.specs.Prelude.{◌≡◌, ℕ, Bool, true, false, not, ◌&&◌, ◌||◌, ◌==◌, List, [], Option, None, count_by, length}
+use Rattle.std.specs.Prelude.{◌≡◌, Bool, true, false, not, ◌&&◌, ◌||◌, ◌==◌, List, [], None, count_by, length}
 use Rattle.std.specs.List.{AllByRecursion, list_all, range_with_len}
 use Rattle.desk_model.specs.declared.edit.Edit.{Edit}
 use Rattle.desk_model.specs.declared.rows.line.LineRow.{LineRow}

@@ -1,5 +1,5 @@
 -- Tonnages and notices: Article 7(2) and 7(7) of Regulation (EC) 1907/2006.
-use Rattle.std.specs.Prelude.{ℕ, ◌*◌, Bool, ◌&&◌, ◌==◌, List, Option, filter, nat_lt, option_map, sum_by, if◌then◌else◌}
+use Rattle.std.specs.Prelude.{ℕ, ◌*◌, ◌&&◌, ◌==◌, List, Option, filter, nat_lt, option_map, sum_by, if◌then◌else◌}
 use Rattle.desk_text.specs.Day.{Date, is_not_after, six_months_after}
 use Rattle.desk_model.specs.declared.limits.TheConstants.{TONNE}
 use Rattle.desk_model.specs.declared.rows.candidate.CandidateRow.{CandidateRow}

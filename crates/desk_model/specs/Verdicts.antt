@@ -1,5 +1,5 @@
 -- Verdicts on kept materials: Article 4 of Directive 2011/65/EU.
-use Rattle.std.specs.Prelude.{ℕ, List, map}
+use Rattle.std.specs.Prelude.{List, map}
 use Rattle.desk_text.specs.Day.{Date}
 use Rattle.desk_law.specs.declared.kind.Kind.{Kind}
 use Rattle.desk_law.specs.declared.rule.Rule.{Rule}

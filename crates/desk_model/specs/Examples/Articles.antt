@@ -1,5 +1,5 @@
 -- Candidate substances in articles: duties to inform, tonnages and notices.
-use Rattle.std.specs.Prelude.{◌≡◌, ℕ, true, false, List, [], ◌∷◌, ◌++◌, Some, None, codes, map}
+use Rattle.std.specs.Prelude.{◌≡◌, true, false, List, [], ◌∷◌, ◌++◌, Some, None, codes, map}
 use Rattle.desk_law.specs.declared.kind.Kind.TheVariants.{Telecommunications}
 use Rattle.desk_law.specs.declared.rule.Rule.TheVariants.{Bbp}
 use Rattle.desk_model.specs.declared.edit.Edit.{Edit}

@@ -1,10 +1,10 @@
 -- A product in which two ways lead to one article: what it weighs, what it reaches, and the chain before and after a line
 -- of it is taken out.
-use Rattle.std.specs.Prelude.{◌≡◌, ℕ, true, false, List, [], ◌∷◌, ◌++◌, Ok, codes}
-use Rattle.desk_law.specs.declared.kind.Kind.TheVariants.{Telecommunications}
+use Rattle.std.specs.Prelude.{◌≡◌, true, false, List, [], ◌∷◌, ◌++◌, None, Ok, codes, drop, map, take}
+use Rattle.desk_law.specs.declared.kind.Kind.TheVariants.{Consumer, Telecommunications}
 use Rattle.desk_law.specs.declared.rule.Rule.TheVariants.{Lead}
 use Rattle.desk_model.specs.declared.edit.Edit.{Edit}
-use Rattle.desk_model.specs.declared.edit.Edit.TheVariants.{Line, Unline, Product}
+use Rattle.desk_model.specs.declared.edit.Edit.TheVariants.{Substance, Line, Unline, Product, Ship}
 use Rattle.desk_model.specs.Affected.{affected}
 use Rattle.desk_model.specs.Chain.{chain}
 use Rattle.desk_model.specs.Findings.{finding_count, findings, over}
@@ -64,5 +64,17 @@ pub record ChainExamples : Type 0 where
   -- a new declaration of the material affects all that reaches it
   pub affects_users : affected desk (declares (codes "ACME") 2 (material (codes "MAT") 7 [] ∷ []))
       ≡ codes "MAT" ∷ codes "A" ∷ codes "B" ∷ codes "C" ∷ codes "P" ∷ []
+  -- a new part affects itself alone, and one that is kept nothing
+  pub affects_itself : affected desk (article (codes "t12") (codes "NUT")) ≡ codes "NUT" ∷ []
+  pub affects_none : affected desk (article (codes "t12") (codes "C")) ≡ []
+  -- a line affects its parent and what reaches it, and not its child
+  pub affects_above : affected desk (Line (codes "t12") (codes "A") (codes "B") 1) ≡ codes "A" ∷ codes "P" ∷ []
+  -- a repeated edit affects nothing, and neither do edits of products, shipments and names
+  pub repeated_affects : affected desk (Line (codes "t10") (codes "P") (codes "B") 3) ≡ []
+  pub others_affect : map (affected desk)
+      (Substance (codes "t12") (codes "lead") (codes "Plumbum") None ∷ Product (codes "t12") (codes "C") Consumer ∷ Ship (codes "t12") (codes "P") 2024 1 ∷ [])
+      ≡ [] ∷ [] ∷ [] ∷ []
+  -- of a history that opens with three tickets, the part up to 5 has two edits
+  pub two_edits : (up_to (record { opening = desk_after (take 3 edits); edits = drop 3 edits }) 5).edits ≡ take 2 (drop 3 edits)
   -- the history up to 5 has the five edits that were accepted first
   pub five_edits : number_of (up_to (record { opening = start; edits = edits }) 5) ≡ 5

@@ -1,5 +1,5 @@
 -- Short spellings for the examples' edits, and small desks.
-use Rattle.std.specs.Prelude.{ℕ, List, [], ◌∷◌, Result}
+use Rattle.std.specs.Prelude.{ℕ, List, [], Result}
 use Rattle.desk_text.specs.Day.{Date}
 use Rattle.desk_model.specs.declared.edit.Edit.{Edit}
 use Rattle.desk_model.specs.declared.edit.Edit.TheVariants.{Declare, Part}

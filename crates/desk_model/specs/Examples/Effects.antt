@@ -1,5 +1,5 @@
 -- What each edit makes of the tables: rows that it enters, in order, and rows that it replaces or takes out.
-use Rattle.std.specs.Prelude.{◌≡◌, ℕ, true, List, [], ◌∷◌, ◌++◌, Option, None, Some, codes, drop, map, option_map}
+use Rattle.std.specs.Prelude.{◌≡◌, ℕ, List, [], ◌∷◌, ◌++◌, None, Some, codes, drop, map}
 use Rattle.std.specs.List.{join_with_byte}
 use Rattle.desk_text.specs.Day.{Date}
 use Rattle.desk_law.specs.declared.annex.Annex.TheVariants.{Three}
@@ -14,7 +14,7 @@ use Rattle.desk_model.specs.declared.rows.material.MaterialRow.{MaterialRow}
 use Rattle.desk_model.specs.History.{number_of}
 use Rattle.desk_model.specs.Lists.{Lists, ticket_row}
 use Rattle.desk_model.specs.Start.{start}
-use Rattle.desk_model.specs.Examples.Desks.{assembly, date, desk_after, holds}
+use Rattle.desk_model.specs.Examples.Desks.{date, desk_after, holds}
 
 -- an exemption for lead, of a number and a last day
 abbrev pub exemption : List ℕ → List ℕ → Date → ExemptionRow

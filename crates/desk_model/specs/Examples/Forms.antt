@@ -1,10 +1,9 @@
 -- Values at both ends of their ranges, and rows and edits of which one value is out of its form.
-use Rattle.std.specs.Prelude.{◌≡◌, ℕ, Bool, true, false, not, List, [], ◌∷◌, Option, None, Some, codes, map}
+use Rattle.std.specs.Prelude.{◌≡◌, ℕ, true, false, not, List, [], ◌∷◌, None, Some, codes, map}
 use Rattle.std.specs.List.{list_all, range_with_len}
 use Rattle.desk_text.specs.Day.{Date, zero_padded}
 use Rattle.desk_law.specs.declared.annex.Annex.TheVariants.{Three}
 use Rattle.desk_law.specs.declared.claim.Claim.{Claim}
-use Rattle.desk_law.specs.declared.kind.Kind.{Kind}
 use Rattle.desk_law.specs.declared.kind.Kind.TheVariants.{Telecommunications, Consumer}
 use Rattle.desk_law.specs.declared.rule.Rule.{Rule}
 use Rattle.desk_law.specs.declared.rule.Rule.TheVariants.{Lead, Cadmium}

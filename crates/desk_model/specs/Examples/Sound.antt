@@ -1,12 +1,12 @@
 -- Tables that are sound, and tables that break one clause.
-use Rattle.std.specs.Prelude.{◌≡◌, ℕ, Bool, true, false, List, [], ◌∷◌, ◌++◌, None, Some, codes, length, map, reverse}
+use Rattle.std.specs.Prelude.{◌≡◌, ℕ, true, false, List, [], ◌∷◌, ◌++◌, None, codes, length, map, reverse}
 use Rattle.std.specs.List.{range_with_len}
 use Rattle.desk_text.specs.Day.{zero_padded}
 use Rattle.desk_law.specs.declared.annex.Annex.TheVariants.{Four}
 use Rattle.desk_law.specs.declared.kind.Kind.TheVariants.{Telecommunications, Consumer}
 use Rattle.desk_law.specs.declared.rule.Rule.TheVariants.{Lead}
 use Rattle.desk_model.specs.declared.edit.Edit.{Edit}
-use Rattle.desk_model.specs.declared.part_sort.PartSort.TheVariants.{Article, Assembly}
+use Rattle.desk_model.specs.declared.part_sort.PartSort.TheVariants.{Article}
 use Rattle.desk_model.specs.declared.rows.line.LineRow.{LineRow}
 use Rattle.desk_model.specs.declared.rows.ticket.TicketRow.{TicketRow}
 use Rattle.desk_model.specs.EditText.{edit_text}

@@ -74,8 +74,8 @@ pub record TextExamples : Type 0 where
   -- two materials, of which the first holds two substances and makes two claims
   pub declaration_of_two : edit_text (declares (codes "BRASSCO") 11 (brass ∷ material (codes "COPPER") 20 [] ∷ []))
       ≡ join_with_byte 9 (codes "declare" ∷ codes "BRASSCO" ∷ codes "11" ∷ codes "2024-01-23" ∷ codes "2"
-        ∷ codes "BRASS" ∷ codes "Brass" ∷ codes "10" ∷ codes "2" ∷ codes "lead" ∷ codes "4" ∷ codes "tin" ∷ codes "6" ∷ codes "2" ∷ codes "lead" ∷ codes "6(c)" ∷ codes "cadmium" ∷ codes "8(b)"
-        ∷ codes "COPPER" ∷ codes "COPPER" ∷ codes "20" ∷ codes "0" ∷ codes "0" ∷ [])
+      ∷ codes "BRASS" ∷ codes "Brass" ∷ codes "10" ∷ codes "2" ∷ codes "lead" ∷ codes "4" ∷ codes "tin" ∷ codes "6" ∷ codes "2" ∷ codes "lead" ∷ codes "6(c)" ∷ codes "cadmium" ∷ codes "8(b)"
+      ∷ codes "COPPER" ∷ codes "COPPER" ∷ codes "20" ∷ codes "0" ∷ codes "0" ∷ [])
   pub substance : edit_text (Substance (codes "t1") (codes "tin") (codes "Tin") (Some (codes "7440-31-5")))
       ≡ join_with_byte 9 (codes "substance" ∷ codes "tin" ∷ codes "Tin" ∷ codes "7440-31-5" ∷ [])
   pub member : edit_text (Member (codes "t1") (codes "lead-oxide") Lead 928320) ≡ join_with_byte 9 (codes "member" ∷ codes "lead-oxide" ∷ codes "lead" ∷ codes "928320" ∷ [])
