@@ -10,7 +10,4 @@ mod substance;
 #[cfg(test)]
 mod tests;
 
-pub use head::Head;
-pub use material::ListedMaterial;
 pub use read::{DeclareFault, read_declaration};
-pub use substance::ListedSubstance;
