@@ -29,6 +29,7 @@ mass_from least bytes =
 abbrev pub base_code_of : List ℕ → Option (List ℕ)
 base_code_of bytes = option_and_then (λ code. if is_some (rule_of code) then Some code else None) (result_ok (code_of bytes))
 
+-- a material of these parts, where each is there
 abbrev pub material_with : Option (List ℕ) → Option (List ℕ) → Option ℕ → Option ListedMaterial
 material_with (Some code) (Some name) (Some mass) = Some (record { code = code; name = name; mass = mass })
 material_with (Some code) (Some name) None = None
@@ -42,6 +43,7 @@ material_of row =
     then material_with (result_ok (code_of (field row 1))) (result_ok (name_of (field row 2))) (mass_from 1 (field row 3))
     else None
 
+-- a substance in a material of these parts, where each is there
 abbrev pub substance_with : Option (List ℕ) → Option (List ℕ) → Option ℕ → Option ListedSubstance
 substance_with (Some material) (Some substance) (Some mass) = Some (record { material = material; substance = substance; mass = mass })
 substance_with (Some material) (Some substance) None = None
@@ -60,10 +62,12 @@ abbrev pub with_material : Option ListedMaterial → Declared → Option Declare
 with_material None d = None
 with_material (Some m) d = result_ok (material_added (empty_material m.code m.name m.mass) d)
 
+-- the declaration with the substance that a row lists
 abbrev pub with_substance : Option ListedSubstance → Declared → Option Declared
 with_substance None d = None
 with_substance (Some s) d = result_ok (substance_added s.material (record { substance = s.substance; mass = s.mass }) d)
 
+-- the declaration with what a row lists: an `M` row a material, any other a substance
 unfoldable pub row_added : Row → Declared → Option Declared
 row_added row d =
     if bytes_eq (field row 0) (codes "M") then with_material (material_of row) d

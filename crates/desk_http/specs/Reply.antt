@@ -29,6 +29,7 @@ head_line text = text ++ crlf_bytes
 unfoldable pub phrase_of : ℕ → List ℕ
 phrase_of status = unwrap_or (reason_phrase status) []
 
+-- the line that a reply begins with
 unfoldable pub status_line : ℕ → List ℕ
 status_line status = head_line (codes "HTTP/1.1 " ++ code_digits status ++ codes " " ++ phrase_of status)
 
@@ -37,12 +38,14 @@ unfoldable pub body_lines : ℕ → List ℕ
 body_lines len =
     head_line (codes "Content-Type: text/plain; charset=utf-8") ++ head_line (codes "Content-Length: " ++ decimal len)
 
+-- the line that names the method allowed, where one is
 abbrev pub allow_line : Option Method → List ℕ
 allow_line None = []
 allow_line (Some Get) = head_line (codes "Allow: GET")
 allow_line (Some Post) = head_line (codes "Allow: POST")
 allow_line (Some Other) = []
 
+-- the line that says that the connection ends, where it does
 abbrev pub close_line : Bool → List ℕ
 close_line true = head_line (codes "Connection: close")
 close_line false = []

@@ -19,6 +19,7 @@ pub record Start : Type 0 where
   pub kinds : List Kind
   pub first : Option Date
 
+-- a row of these parts
 abbrev pub starts : List Rule → List Kind → Option Date → Start
 starts rules kinds first = record { rules = rules; kinds = kinds; first = first }
 
@@ -68,6 +69,7 @@ first_days =
 abbrev pub speaks_of : Rule → Kind → Start → Bool
 speaks_of rule kind row = list_any (same_rule rule) row.rules && list_any (same_kind kind) row.kinds
 
+-- the first day in a row, where there is a row and it has one
 abbrev pub first_in : Option Start → Option Date
 first_in None = None
 first_in (Some row) = row.first

@@ -8,6 +8,7 @@ use Rattle.desk_model.specs.declared.rows.part.PartRow.{PartRow}
 use Rattle.desk_model.specs.Lists.{Lists, part_row}
 use Rattle.desk_model.specs.Reaches.{is_or_reaches, reaches}
 
+-- the sort is that of an article
 abbrev pub is_article_sort : PartSort → Bool
 is_article_sort Article = true
 is_article_sort Assembly = false

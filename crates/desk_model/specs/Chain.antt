@@ -9,6 +9,7 @@ use Rattle.desk_model.specs.Reaches.{enough, is_or_reaches, lines_of}
 abbrev pub next_to : Lists → List ℕ → List ℕ → Option (List ℕ)
 next_to t part target = option_map (λ line. line.child) (find (λ line. is_or_reaches t line.child target) (lines_of t.lines part))
 
+-- the chain, down to so many lines deep
 unfoldable pub chain_within : Lists → ℕ → List ℕ → List ℕ → List (List ℕ)
 chain_within t zero part target = part ∷ []
 chain_within t (suc k) part target =

@@ -27,10 +27,12 @@ joined fields = join_with_byte 9 fields
 abbrev pub optional_field : Option (List ℕ) → List ℕ
 optional_field text = unwrap_or text []
 
+-- an absent number is an empty field
 abbrev pub optional_number : Option ℕ → List ℕ
 optional_number None = []
 optional_number (Some n) = decimal n
 
+-- the word of a sort of part
 abbrev pub sort_word : PartSort → List ℕ
 sort_word Article = codes "article"
 sort_word Assembly = codes "assembly"
@@ -43,13 +45,16 @@ substance_fields held = decimal (length held) ∷ flat_map (λ one. one.substanc
 abbrev pub claim_fields : List Claim → List (List ℕ)
 claim_fields claims = decimal (length claims) ∷ flat_map (λ claim. rule_code claim.rule ∷ claim.number ∷ []) claims
 
+-- code, name and mass of a declared material, then its substances and claims
 abbrev pub material_fields : MaterialDecl → List (List ℕ)
 material_fields m = m.code ∷ m.name ∷ decimal m.mass ∷ (substance_fields m.substances ++ claim_fields m.claims)
 
+-- supplier, number and day of a declaration, how many materials there are, then each of them
 abbrev pub declaration_fields : Declared → List (List ℕ)
 declaration_fields d =
     d.supplier ∷ decimal d.number ∷ date_text d.day ∷ decimal (length d.materials) ∷ flat_map material_fields d.materials
 
+-- an exemption row: its code, annex, number, rule, kinds, first and last day, floor, cap and application
 abbrev pub exemption_fields : ExemptionRow → List (List ℕ)
 exemption_fields row =
     row.terms.row
@@ -79,6 +84,7 @@ edit_fields (Candidate ticket substance day) = codes "candidate" ∷ substance �
 edit_fields (Ship ticket product year units) = codes "ship" ∷ product ∷ decimal year ∷ decimal units ∷ []
 edit_fields (Unship ticket product year units) = codes "unship" ∷ product ∷ decimal year ∷ decimal units ∷ []
 
+-- the text of an edit: its fields joined by TAB
 unfoldable pub edit_text : Edit → List ℕ
 edit_text edit = joined (edit_fields edit)
 
@@ -94,6 +100,7 @@ sent_code ticket = codes "E:" ++ ticket
 abbrev pub declared_code : List ℕ → ℕ → List ℕ
 declared_code supplier number = codes "D:" ++ supplier ++ codes ":" ++ decimal number
 
+-- the code of the ticket of an edit
 unfoldable pub ticket_code : Edit → List ℕ
 ticket_code (Substance ticket code name cas) = sent_code ticket
 ticket_code (Member ticket substance rule factor) = sent_code ticket

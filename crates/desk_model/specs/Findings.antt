@@ -10,6 +10,7 @@ use Rattle.desk_model.specs.Articles.{articles_in, materials_in}
 use Rattle.desk_model.specs.Lists.{Lists}
 use Rattle.desk_model.specs.Share.{is_over_limit}
 
+-- a finding, on a material or on an article
 pub data Finding : Type 0 where
   -- the material is over the rule's limit
   over : List ℕ → Rule → Finding

@@ -24,13 +24,15 @@ use Rattle.desk_model.specs.Content.{is_content}
 use Rattle.desk_model.specs.Declaration.{Declared, is_declaration}
 use Rattle.desk_model.specs.Terms.{are_terms_in_range}
 
--- the bytes are a code, a name, the number of an exemption
+-- the bytes are a code
 abbrev pub is_code : List ℕ → Bool
 is_code bytes = is_ok (code_of bytes)
 
+-- the bytes are a name
 abbrev pub is_name : List ℕ → Bool
 is_name bytes = is_ok (name_of bytes)
 
+-- the bytes are the number of an exemption
 abbrev pub is_exemption_number : List ℕ → Bool
 is_exemption_number bytes = is_ok (exemption_number_of bytes)
 
@@ -39,12 +41,15 @@ abbrev pub is_optional_cas : Option (List ℕ) → Bool
 is_optional_cas None = true
 is_optional_cas (Some bytes) = is_ok (cas_of bytes)
 
+-- the count of a line, from 1 to 1,000,000
 abbrev pub is_count : ℕ → Bool
 is_count n = nat_le 1 n && nat_le n COUNT_LIMIT
 
+-- the year of a shipment, from 2008 to 2099
 abbrev pub is_year : ℕ → Bool
 is_year n = nat_le FIRST_SHIPMENT_YEAR n && nat_le n LAST_SHIPMENT_YEAR
 
+-- the units of a shipment, from 1 to 1,000,000,000,000
 abbrev pub are_units : ℕ → Bool
 are_units n = nat_le 1 n && nat_le n UNITS_LIMIT
 
@@ -57,37 +62,46 @@ abbrev pub is_content_in_form : List SubstanceMass → List Claim → Bool
 is_content_in_form held claims =
     list_all (λ one. is_code one.substance) held && list_all (λ claim. is_exemption_number claim.number) claims
 
--- rows of table 1 to 9 whose values are of their form and in their range
+-- a substance, its values of their form and in their range, as those of the rows below
 abbrev pub is_substance_row : SubstanceRow → Bool
 is_substance_row row = is_code row.code && is_name row.name && is_optional_cas row.cas
 
+-- a member of a rule, with a factor of at least 1
 abbrev pub is_member_row : MemberRow → Bool
 is_member_row row = is_code row.substance && nat_le 1 row.factor && nat_le row.factor WHOLE_FACTOR
 
+-- a material with what it holds and claims
 unfoldable pub is_material_row : MaterialRow → Bool
 is_material_row row =
     is_code row.code && is_code row.supplier && is_declaration_number row.number && is_day row.day && is_name row.name
     && is_content row.mass row.substances row.claims && is_content_in_form row.substances row.claims
 
+-- a part
 abbrev pub is_part_row : PartRow → Bool
 is_part_row row = is_code row.code && is_name row.name
 
+-- a line of the bill of materials
 abbrev pub is_line_row : LineRow → Bool
 is_line_row row = is_code row.parent && is_code row.child && is_count row.count
 
+-- a product
 abbrev pub is_product_row : ProductRow → Bool
 is_product_row row = is_code row.part
 
+-- the terms of an exemption
 abbrev pub are_terms : Terms → Bool
 are_terms terms =
     is_code terms.row && is_exemption_number terms.number && is_day terms.first && is_day terms.last && are_terms_in_range terms
 
+-- an exemption with its application
 unfoldable pub is_exemption_row : ExemptionRow → Bool
 is_exemption_row row = are_terms row.terms && is_name row.application
 
+-- a candidate of the list of Article 59 of Regulation (EC) 1907/2006
 abbrev pub is_candidate_row : CandidateRow → Bool
 is_candidate_row row = is_code row.substance && is_day row.day
 
+-- a shipment
 abbrev pub is_shipment_row : ShipmentRow → Bool
 is_shipment_row row = is_year row.year && is_code row.product && are_units row.units
 

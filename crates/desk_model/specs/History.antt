@@ -6,6 +6,7 @@ use Rattle.desk_model.specs.Refused.{refused}
 use Rattle.desk_model.specs.Sound.{Sound}
 use Rattle.desk_model.specs.Step.{kept_number, step}
 
+-- opening tables and edits, in order
 pub record History : Type 0 where
   pub opening : Lists
   pub edits : List Edit

@@ -30,63 +30,79 @@ pub record Lists : Type 0 where
   pub shipments : List ShipmentRow
   pub tickets : List TicketRow
 
--- keys of two parts: codes are ordered by bytes, rules and years by number
+-- the key of a member: its substance and the number of its rule. In keys, codes are ordered by bytes, rules and years by number
 abbrev pub member_key : MemberRow → List ℕ × ℕ
 member_key member = (member.substance, rule_number member.rule)
 
+-- members are ordered by substance and then by the number of the rule
 abbrev pub member_key_cmp : List ℕ × ℕ → List ℕ × ℕ → Ordering
 member_key_cmp = then_cmp (on (λ key. key.0) code_cmp) (on (λ key. key.1) nat_cmp)
 
+-- the key of a line: its parent and its child
 abbrev pub line_key : LineRow → List ℕ × List ℕ
 line_key line = (line.parent, line.child)
 
+-- lines are ordered by parent and then by child
 abbrev pub line_key_cmp : List ℕ × List ℕ → List ℕ × List ℕ → Ordering
 line_key_cmp = then_cmp (on (λ key. key.0) code_cmp) (on (λ key. key.1) code_cmp)
 
+-- the key of a shipment: its year and its product
 abbrev pub shipment_key : ShipmentRow → ℕ × List ℕ
 shipment_key shipment = (shipment.year, shipment.product)
 
+-- shipments are ordered by year and then by product
 abbrev pub shipment_key_cmp : ℕ × List ℕ → ℕ × List ℕ → Ordering
 shipment_key_cmp = then_cmp (on (λ key. key.0) nat_cmp) (on (λ key. key.1) code_cmp)
 
--- what the tables keep at a key
+-- the substance of a code
 abbrev pub substance_row : Lists → List ℕ → Option SubstanceRow
 substance_row t code = row_of (λ row. row.code) code_cmp code t.substances
 
+-- what the tables keep of a substance for a rule
 abbrev pub member_row : Lists → List ℕ → Rule → Option MemberRow
 member_row t substance rule = row_of member_key member_key_cmp (substance, rule_number rule) t.members
 
+-- the material of a code
 abbrev pub material_row : Lists → List ℕ → Option MaterialRow
 material_row t code = row_of (λ row. row.code) code_cmp code t.materials
 
+-- the part of a code
 abbrev pub part_row : Lists → List ℕ → Option PartRow
 part_row t code = row_of (λ row. row.code) code_cmp code t.parts
 
+-- the line from a parent to a child
 abbrev pub line_row : Lists → List ℕ → List ℕ → Option LineRow
 line_row t parent child = row_of line_key line_key_cmp (parent, child) t.lines
 
+-- the product of a part
 abbrev pub product_row : Lists → List ℕ → Option ProductRow
 product_row t part = row_of (λ row. row.part) code_cmp part t.products
 
+-- the exemption of a row code
 abbrev pub exemption_row : Lists → List ℕ → Option ExemptionRow
 exemption_row t row = row_of (λ row. row.terms.row) code_cmp row t.exemptions
 
+-- the candidate of a substance
 abbrev pub candidate_row : Lists → List ℕ → Option CandidateRow
 candidate_row t substance = row_of (λ row. row.substance) code_cmp substance t.candidates
 
+-- the shipment of a product in a year
 abbrev pub shipment_row : Lists → ℕ → List ℕ → Option ShipmentRow
 shipment_row t year product = row_of shipment_key shipment_key_cmp (year, product) t.shipments
 
+-- the ticket of a code
 abbrev pub ticket_row : Lists → List ℕ → Option TicketRow
 ticket_row t code = row_of (λ row. row.code) code_cmp code t.tickets
 
--- whether the tables keep it
+-- the tables keep a substance of the code
 abbrev pub is_substance : Lists → List ℕ → Bool
 is_substance t code = is_some (substance_row t code)
 
+-- the tables keep a material of the code
 abbrev pub is_material : Lists → List ℕ → Bool
 is_material t code = is_some (material_row t code)
 
+-- the tables keep a part of the code
 abbrev pub is_part : Lists → List ℕ → Bool
 is_part t code = is_some (part_row t code)
 
@@ -94,9 +110,11 @@ is_part t code = is_some (part_row t code)
 abbrev pub is_kept : Lists → List ℕ → Bool
 is_kept t code = is_material t code || is_part t code
 
+-- the tables keep a line from the parent to the child
 abbrev pub is_line : Lists → List ℕ → List ℕ → Bool
 is_line t parent child = is_some (line_row t parent child)
 
+-- the tables keep a product of the code
 abbrev pub is_product : Lists → List ℕ → Bool
 is_product t code = is_some (product_row t code)
 

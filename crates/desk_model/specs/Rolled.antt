@@ -10,5 +10,6 @@ rolled_within lines own zero code = own code
 rolled_within lines own (suc k) code =
     own code + sum_by (λ line. line.count * rolled_within lines own k line.child) (lines_of lines code)
 
+-- what a code has of its own and by its lines, down to the end of the bill
 abbrev pub rolled : Lists → (List ℕ → ℕ) → List ℕ → ℕ
 rolled t own code = rolled_within t.lines own (enough t) code

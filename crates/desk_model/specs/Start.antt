@@ -12,6 +12,7 @@ use Rattle.desk_model.specs.Lists.{Lists}
 abbrev pub rules_by_code : List Rule
 rules_by_code = Bbp ∷ Cadmium ∷ ChromiumVi ∷ Dbp ∷ Dehp ∷ Dibp ∷ Lead ∷ Mercury ∷ Pbb ∷ Pbde ∷ []
 
+-- the name of the base substance of a rule
 abbrev pub base_name : Rule → List ℕ
 base_name Lead = codes "Lead"
 base_name Mercury = codes "Mercury"

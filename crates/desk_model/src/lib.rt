@@ -1,6 +1,8 @@
 //! The desk's model: the rows of its tables, edits and refusals, and in `specs/` what each question and edit means.
 #![tactic(auto)]
 
+#[cfg(test)]
+mod copy_tests;
 mod decl_error;
 mod declaration;
 mod edit;

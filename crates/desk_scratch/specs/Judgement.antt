@@ -10,6 +10,7 @@ use Rattle.desk_model.specs.declared.rows.material.MaterialRow.{MaterialRow}
 use Rattle.desk_model.specs.Lists.{Lists}
 use Rattle.desk_model.specs.Verdicts.{verdict_on}
 
+-- the verdict is a breach, and none of the other three
 abbrev pub is_breach : Verdict → Bool
 is_breach Breach = true
 is_breach Within = false

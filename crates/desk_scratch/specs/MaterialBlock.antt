@@ -33,6 +33,7 @@ material_line_with code supplier number mass =
     codes "material " ++ code ++ codes " supplier " ++ supplier
     ++ codes " declaration " ++ decimal number ++ codes " mass " ++ decimal mass ++ codes "\n"
 
+-- the line on a material: what was declared of it
 abbrev pub material_line : MaterialRow → List ℕ
 material_line material = material_line_with material.code material.supplier material.number material.mass
 

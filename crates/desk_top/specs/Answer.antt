@@ -27,6 +27,7 @@ pub record Answer : Type 0 where
   pub status : Status
   pub text : List ℕ
 
+-- a text ends with success, and a refusal with its line
 abbrev pub answer_of_check : Result (List ℕ) Refusal → Answer
 answer_of_check (Ok text) = record { status = Done; text = text }
 answer_of_check (Err refusal) = record { status = Refused; text = refusal_line refusal }

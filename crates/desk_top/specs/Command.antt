@@ -11,6 +11,7 @@ use Rattle.desk_top.specs.declared.command.Check.{Check}
 abbrev pub askable_day_of : List ℕ → Option Date
 askable_day_of word = option_and_then (λ day. if is_askable day then Some day else None) (result_ok (day_of word))
 
+-- a check of a day and a kind, where both are there
 abbrev pub check_with : Option Date → Option Kind → Option Check
 check_with (Some day) (Some kind) = Some (record { day = day; kind = kind })
 check_with (Some day) None = None

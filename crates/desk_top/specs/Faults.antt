@@ -7,10 +7,12 @@ use Rattle.desk_top.specs.declared.check.CheckFault.{CheckFault}
 use Rattle.desk_top.specs.declared.check.CheckFault.TheVariants.{Refused, Failed, OutOfMemory}
 use Rattle.desk_top.specs.declared.refusal.Refusal.TheVariants.{NotADeclaration}
 
+-- a fault of reading the console, as `check` tells it
 abbrev pub from_read_fault : ReadFault → CheckFault
 from_read_fault read.Failed = Failed
 from_read_fault read.OutOfMemory = OutOfMemory
 
+-- a text that is no declaration is refused, and want of memory stays what it is
 abbrev pub from_declare_fault : DeclareFault → CheckFault
 from_declare_fault declare.NotADeclaration = Refused NotADeclaration
 from_declare_fault declare.OutOfMemory = OutOfMemory
