@@ -1,9 +1,10 @@
 ghost use Rattle.std.specs.Prelude.{◌≤◌};
 
+use crate::verdict_words::VerdictWords;
 use crate::{Asked, check_text};
-use desk_law::Kind;
+use desk_law::{Annex, Kind, KindSet, Rule, Terms, Verdict};
 use desk_model::Declaration;
-use desk_text::{Code, Day, Name};
+use desk_text::{Code, Day, ExemptionNumber, Name};
 use std::alloc::Global;
 use std::test::Fail;
 
@@ -50,5 +51,32 @@ fn a_material_is_judged_for_each_rule(rt: HostRuntime) -> Result<(), Fail> {
     };
     let text = check_text(rt.alloc(), &asked, &paste(rt.alloc(), 1001, 100)?)?;
     assert_eq!(rt; text.as_slice(), OVER.as_bytes());
+    Ok(())
+}
+
+// An exemption for lead, in a row of its own.
+fn exemption(row: &[u8], number: &[u8]) -> Result<Terms, Fail> {
+    Ok(Terms {
+        row: Code::read(row)?,
+        annex: Annex::Three,
+        number: ExemptionNumber::read(number)?,
+        rule: Rule::Lead,
+        kinds: KindSet::from([Kind::Telecommunications].as_slice()),
+        first: Day::read(b"2014-07-22")?,
+        last: Day::read(b"2026-06-30")?,
+        floor: None,
+        cap: None,
+    })
+}
+
+#[test]
+fn an_exemption_is_named_by_its_number_and_its_row(rt: HostRuntime) -> Result<(), Fail> {
+    let rows = [exemption(b"R6C", b"6(c)")?, exemption(b"R7A", b"7(a)")?];
+    let words = VerdictWords {
+        verdict: Verdict::Exempt { place: 1 },
+        rows: rows.as_slice(),
+    };
+    let text = format!(in rt.alloc(); "{words}")?;
+    assert_eq!(rt; text.as_str(), "exempt 7(a) row R7A");
     Ok(())
 }
