@@ -283,53 +283,30 @@ fn a_row_covers_from_its_floor_to_its_cap(rt: HostRuntime) -> Result<(), Fail> {
     Ok(())
 }
 
+// Whether the row covers a gram of a material with a claim, which holds two milligrams of what the rule restricts.
+fn covers_two_milligrams(row: &Terms, claim: Claim, rule: Rule) -> bool {
+    let day = Day::new(2024, 1, 23);
+    let it = Kind::Telecommunications;
+    covers(row, &[claim], rule, it, day, 2_000_000_000, 1_000_000)
+}
+
 #[test]
 fn a_row_covers_only_what_is_claimed_by_its_rule_and_number(rt: HostRuntime) -> Result<(), Fail> {
     let row = copper_alloys(b"R6C", None, None)?;
     let day = Day::new(2024, 1, 23);
     let it = Kind::Telecommunications;
-    let other = [claim(b"6(a)")?];
-    let same = [claim(b"6(c)")?];
-    let from_cadmium = [Claim {
+    let other = claim(b"6(a)")?;
+    let same = claim(b"6(c)")?;
+    let from_cadmium = Claim {
         rule: Rule::Cadmium,
         number: ExemptionNumber::read(b"6(c)")?,
-    }];
+    };
     assert!(rt; !covers(&row, &[], Rule::Lead, it, day, 2_000_000_000, 1_000_000));
-    assert!(rt; !covers(&row, &other, Rule::Lead, it, day, 2_000_000_000, 1_000_000));
-    assert!(rt;
-        !covers(
-            &row,
-            &from_cadmium,
-            Rule::Lead,
-            it,
-            day,
-            2_000_000_000,
-            1_000_000
-        )
-    );
-    assert!(rt;
-        !covers(
-            &row,
-            &from_cadmium,
-            Rule::Cadmium,
-            it,
-            day,
-            2_000_000_000,
-            1_000_000
-        )
-    );
-    assert!(rt;
-        !covers(
-            &row,
-            &same,
-            Rule::Cadmium,
-            it,
-            day,
-            2_000_000_000,
-            1_000_000
-        )
-    );
-    assert!(rt; covers(&row, &same, Rule::Lead, it, day, 2_000_000_000, 1_000_000));
+    assert!(rt; !covers_two_milligrams(&row, other, Rule::Lead));
+    assert!(rt; !covers_two_milligrams(&row, from_cadmium, Rule::Lead));
+    assert!(rt; !covers_two_milligrams(&row, from_cadmium, Rule::Cadmium));
+    assert!(rt; !covers_two_milligrams(&row, same, Rule::Cadmium));
+    assert!(rt; covers_two_milligrams(&row, same, Rule::Lead));
     Ok(())
 }
 
@@ -338,85 +315,42 @@ fn the_verdict_is_the_first_that_applies(rt: HostRuntime) -> Result<(), Fail> {
     let rows = [copper_alloys(b"R6C", None, Some(40000))?];
     let claims = [claim(b"6(c)")?];
     let it = Kind::Telecommunications;
-    let industrial = Kind::IndustrialInstrument;
+    let last = Day::new(2026, 6, 30);
+    let next = Day::new(2026, 7, 1);
     let exempt = Verdict::Exempt { place: 0 };
     let cases = [
-        (
-            Rule::Lead,
-            it,
-            Day::new(2026, 6, 30),
-            1_000_000_000,
-            Verdict::Within,
-        ),
-        (Rule::Lead, it, Day::new(2026, 6, 30), 1_000_000_001, exempt),
-        (
-            Rule::Lead,
-            it,
-            Day::new(2026, 6, 30),
-            40_000_000_000,
-            exempt,
-        ),
-        (
-            Rule::Lead,
-            it,
-            Day::new(2026, 7, 1),
-            40_000_000_000,
-            Verdict::Breach,
-        ),
-        (
-            Rule::Lead,
-            it,
-            Day::new(2026, 6, 30),
-            40_001_000_000,
-            Verdict::Breach,
-        ),
-        (
-            Rule::Lead,
-            it,
-            Day::new(2026, 7, 1),
-            40_001_000_000,
-            Verdict::Breach,
-        ),
-        (
-            Rule::Cadmium,
-            it,
-            Day::new(2026, 6, 30),
-            101_000_000,
-            Verdict::Breach,
-        ),
-        (
-            Rule::Dehp,
-            industrial,
-            Day::new(2021, 7, 21),
-            2_000_000_000,
-            Verdict::NotInForce,
-        ),
-        (
-            Rule::Dehp,
-            industrial,
-            Day::new(2021, 7, 22),
-            2_000_000_000,
-            Verdict::Breach,
-        ),
-        (
-            Rule::Dehp,
-            Kind::Toy,
-            Day::new(2024, 1, 23),
-            2_000_000_000,
-            Verdict::NotInForce,
-        ),
-        (
-            Rule::Dibp,
-            Kind::Toy,
-            Day::new(2024, 1, 23),
-            2_000_000_000,
-            Verdict::Breach,
-        ),
+        (Rule::Lead, last, 1_000_000_000, Verdict::Within),
+        (Rule::Lead, last, 1_000_000_001, exempt),
+        (Rule::Lead, last, 40_000_000_000, exempt),
+        (Rule::Lead, next, 40_000_000_000, Verdict::Breach),
+        (Rule::Lead, last, 40_001_000_000, Verdict::Breach),
+        (Rule::Lead, next, 40_001_000_000, Verdict::Breach),
+        (Rule::Cadmium, last, 101_000_000, Verdict::Breach),
     ];
-    for (rule, kind, day, share, want) in cases {
+    for (rule, day, share, want) in cases {
         assert!(rt; day.is_askable());
-        let verdict = judge(share, 1_000_000, &claims, rule, kind, day, &rows);
-        assert_eq!(rt; verdict, want, "{rule} {share} for {kind} on {day}");
+        let verdict = judge(share, 1_000_000, &claims, rule, it, day, &rows);
+        assert_eq!(rt; verdict, want, "{rule} {share} on {day}");
+    }
+    Ok(())
+}
+
+#[test]
+fn a_phthalate_is_a_breach_from_its_first_day_on(rt: HostRuntime) -> Result<(), Fail> {
+    let industrial = Kind::IndustrialInstrument;
+    let before = Day::new(2021, 7, 21);
+    let first = Day::new(2021, 7, 22);
+    let later = Day::new(2024, 1, 23);
+    let cases = [
+        (Rule::Dehp, industrial, before, Verdict::NotInForce),
+        (Rule::Dehp, industrial, first, Verdict::Breach),
+        (Rule::Dehp, Kind::Toy, later, Verdict::NotInForce),
+        (Rule::Dibp, Kind::Toy, later, Verdict::Breach),
+    ];
+    for (rule, kind, day, want) in cases {
+        assert!(rt; day.is_askable());
+        let verdict = judge(2_000_000_000, 1_000_000, &[], rule, kind, day, &[]);
+        assert_eq!(rt; verdict, want, "{rule} for {kind} on {day}");
     }
     Ok(())
 }
