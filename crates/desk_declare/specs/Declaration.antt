@@ -8,7 +8,6 @@ use Rattle.desk_text.specs.Code.{code_of}
 use Rattle.desk_text.specs.Name.{name_of}
 use Rattle.desk_text.specs.Number.{number_below}
 use Rattle.desk_law.specs.Rule.{rule_of}
-use Rattle.desk_model.specs.declared.limits.TheConstants.{MASS_LIMIT}
 use Rattle.desk_model.specs.Content.{holds_too_much}
 use Rattle.desk_model.specs.Declaration.{Declared}
 use Rattle.desk_model.specs.Declaring.{declaration_start, empty_material, material_added, substance_added}
@@ -23,7 +22,7 @@ use Rattle.desk_declare.specs.declared.read.DeclareFault.TheVariants.{NotADeclar
 -- a mass in micrograms from a least one on, at most 10^15
 abbrev pub mass_from : ℕ → List ℕ → Option ℕ
 mass_from least bytes =
-    option_and_then (λ n. if nat_le least n && nat_le n MASS_LIMIT then Some n else None) (result_ok (number_below (2 ^ 64) bytes))
+    option_and_then (λ n. if nat_le least n && nat_le n (10 ^ 15) then Some n else None) (result_ok (number_below (2 ^ 64) bytes))
 
 -- the code of one of the ten base substances, each of which has the code of its rule
 abbrev pub base_code_of : List ℕ → Option (List ℕ)

@@ -25,6 +25,10 @@ pub enum DeclareFault {
 }
 
 impl fmt::Display for DeclareFault {
+    ghost use Rattle.desk_declare.specs.Faults.{fault_words};
+
+    ghost output = { λ fault. Some (fault_words fault) };
+
     fn fmt<W: fmt::Write>(&self, f: &mut fmt::Formatter<W>) -> fmt::Result {
         match self {
             DeclareFault::NotADeclaration => f.write_str("not-a-declaration"),

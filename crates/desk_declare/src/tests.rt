@@ -1,4 +1,5 @@
 use crate::{DeclareFault, read_declaration};
+use std::alloc::{AllocError, Global};
 use std::test::Fail;
 
 #[test]
@@ -46,9 +47,17 @@ fn what_breaks_a_rule_of_the_form_is_no_declaration(rt: HostRuntime) -> Result<(
         b"D,1,ACME,7,2024-01-23\nM,SOLDER,,1000000\n",
         b"D,1,ACME,7,2024-01-23\nM,SOLDER,Solder paste,0\n",
         b"D,1,ACME,7,2024-01-23\nM,SOLDER,Solder paste,1000000000000001\n",
+        b"D,1,ACME,7,2024-01-23\nM,SOL DER,Solder paste,1\n",
+        b"D,1,ACME,7,2024-01-23\nM,,Solder paste,1\n",
+        b"D,1,ACME,7,2024-01-23\nM,SOLDER,Solder\tpaste,1\n",
+        b"D,1,ACME,7,2024-01-23\nM,SOLDER,Solder\xffpaste,1\n",
+        b"D,1,ACME,7,2024-01-23\nM,SOLDER,Solder paste,a gram\n",
         b"D,1,ACME,7,2024-01-23\nM,SOLDER,Solder paste,1\nM,SOLDER,Wire,1\n",
         b"D,1,ACME,7,2024-01-23\nS,SOLDER,lead,1\nM,SOLDER,Solder paste,1\n",
         b"D,1,ACME,7,2024-01-23\nM,SOLDER,Solder paste,1\nS,SOLDER,tin,1\n",
+        b"D,1,ACME,7,2024-01-23\nM,SOLDER,Solder paste,1\nS,SOL DER,lead,1\n",
+        b"D,1,ACME,7,2024-01-23\nM,SOLDER,Solder paste,1\nS,SOLDER,le ad,1\n",
+        b"D,1,ACME,7,2024-01-23\nM,SOLDER,Solder paste,1\nS,SOLDER,lead,01\n",
         b"D,1,ACME,7,2024-01-23\nM,SOLDER,Solder paste,1\nS,SOLDER,lead,2\n",
         b"D,1,ACME,7,2024-01-23\nM,SOLDER,Paste,9\nS,SOLDER,lead,1\nS,SOLDER,lead,1\n",
         b"D,1,ACME,7,2024-01-23\nM,SOLDER,Paste,9\nS,SOLDER,lead,1,\n",
@@ -79,5 +88,33 @@ fn materials_and_substances_are_read_in_order(rt: HostRuntime) -> Result<(), Fai
     assert_eq!(rt; cadmium.mass, 999);
     assert_eq!(rt; lead.substance.as_bytes(), b"lead".as_slice());
     assert_eq!(rt; lead.mass, 0);
+    Ok(())
+}
+
+const FIFTY: &str = "aaaaaaaaaaaaaaaaaaaaaaaaaaaaaaaaaaaaaaaaaaaaaaaaaa";
+
+/// A declaration of 256 materials with names of 200 bytes, filled up to 65,536 bytes with empty lines.
+fn longest_text(alloc: Global) -> Result<Vec<u8>, AllocError> {
+    let mut text = b"D,1,ACME,7,2024-01-23\n".to_vec(alloc)?;
+    for number in 0..256 {
+        let rows = format!(in alloc;
+            "M,M{number},{FIFTY}{FIFTY}{FIFTY}{FIFTY},1000000\nS,M{number},lead,1\n"
+        )?;
+        text.extend_from_slice(rows.as_bytes())?;
+    }
+    text.resize(65_536, b'\n')?;
+    Ok(text)
+}
+
+#[test]
+fn the_longest_text_is_read(rt: HostRuntime) -> Result<(), Fail> {
+    let text = longest_text(rt.alloc())?;
+    assert_eq!(rt; text.len(), 65_536);
+    let read = read_declaration(rt.alloc(), &text)?;
+    assert_eq!(rt; read.materials().len(), 256);
+    for material in read.materials() {
+        assert_eq!(rt; material.name.as_bytes().len(), 200);
+        assert_eq!(rt; material.substances.as_slice().len(), 1);
+    }
     Ok(())
 }

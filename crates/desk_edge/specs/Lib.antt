@@ -1,3 +1,4 @@
+pub mod Failed
 pub mod Faults
 pub mod Memory
 pub mod Transfer

@@ -8,8 +8,9 @@ use std::io::{Read, Write};
 
 /// A link over a reader and a writer of the standard library.
 ///
-/// It tells what they tell, and counts a fault for each call that they refuse and for a writer
-/// that takes nothing. The writer should not keep bytes back: nothing is flushed.
+/// It tells what they tell, and counts a fault exactly where it answers `Failed`: where they refuse
+/// a call, and where the writer takes nothing of a piece that isn't empty. The writer should not
+/// keep bytes back: nothing is flushed.
 #[derive(Drop)]
 pub struct StdLink<I, O> {
     input: I,

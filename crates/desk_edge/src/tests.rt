@@ -80,6 +80,23 @@ fn reading_stops_with_the_byte_after_the_limit(rt: HostRuntime) -> Result<(), Fa
 }
 
 #[test]
+fn the_largest_input_and_output_find_memory(rt: HostRuntime) -> Result<(), Fail> {
+    for length in [65_536, 65_537] {
+        let input = vec![in rt.alloc(); b'x'; length]?;
+        let mut reading = link(rt.alloc(), input.as_slice(), 100_000, 0, &[])?;
+        let bytes = read_up_to(rt.alloc(), &mut reading, 65_536)
+            .ok()
+            .ok_or("a fault")?;
+        assert_eq!(rt; bytes.len(), length);
+    }
+    let output = vec![in rt.alloc(); b'x'; 70_000]?;
+    let mut writing = link(rt.alloc(), b"", 1, 70_000, &[])?;
+    assert_eq!(rt; write_all(&mut writing, output.as_slice()), Ok(()));
+    assert_eq!(rt; writing.written().len(), 70_000);
+    Ok(())
+}
+
+#[test]
 fn a_fault_ends_reading_and_writing(rt: HostRuntime) -> Result<(), Fail> {
     let mut reading = link(rt.alloc(), b"abc", 1, 0, &[3])?;
     let fault = read_up_to(rt.alloc(), &mut reading, 8).err();

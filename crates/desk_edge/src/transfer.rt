@@ -54,6 +54,10 @@ pub fn read_up_to<L: Link>(alloc: Global, link: &mut L, limit: usize) -> Result<
 
     // Whatever comes of it, no byte past the one after the limit is taken.
     ensures taken { (bytes : List ℕ) × Consumes (L.unread link.old) (L.unread link.new) bytes × (length bytes ≤ limit + 1) }
+
+    // The byte after the limit ends the reading: no call after it can fail.
+    ensures failed_within { IsErrOf result ReadFault.Failed →
+        (bytes : List ℕ) × Consumes (L.unread link.old) (L.unread link.new) bytes × (length bytes ≤ limit) }
     ensures output_stays { L.written link.new ≡ L.written link.old }
     ensures never_falls { L.faults link.old ≤ L.faults link.new }
     ensures steady { result ≢ Err ReadFault.Failed → L.faults link.new ≡ L.faults link.old }

@@ -1,18 +1,33 @@
 -- The bytes of replies.
-use Rattle.std.specs.Prelude.{ℕ, Bool, true, false, not, List, [], ◌∷◌, ◌++◌, length, Option, Some, None, ◌==◌, codes, unwrap_or}
+use Rattle.std.specs.Prelude.{ℕ, Bool, true, false, not, List, [], ◌∷◌, ◌++◌, length, Option, Some, None, ◌==◌, codes, find}
 use Rattle.std.specs.Fmt.{decimal}
 use Rattle.std.specs.List.{list_any}
+use Rattle.std.specs.Option.{option_map_or}
 use Rattle.httparse.specs.Ascii.{line_feed, crlf_bytes}
-use Rattle.http.specs.StatusCode.{code_digits, reason_phrase}
+use Rattle.http.specs.StatusCode.{code_digits}
 use Rattle.desk_http.specs.declared.method.Method.{Method}
 use Rattle.desk_http.specs.declared.method.Method.TheVariants.{Get, Post, Other}
 use Rattle.desk_http.specs.declared.fixed.Fixed.{Fixed}
 use Rattle.desk_http.specs.declared.fixed.Fixed.TheVariants.{BadHead, LengthRequired, BodyTooLong, HeadTooLong, NoRoute, WrongMethod, StoreFault, Memory}
 
--- the statuses that the desk answers
+-- the statuses that the desk answers, each with its phrase: those of RFC 7231, of RFC 6585 (431) and of RFC 4918 (507)
+abbrev pub statuses : List (ℕ × List ℕ)
+statuses =
+    (200, codes "OK")
+    ∷ (400, codes "Bad Request")
+    ∷ (404, codes "Not Found")
+    ∷ (405, codes "Method Not Allowed")
+    ∷ (409, codes "Conflict")
+    ∷ (411, codes "Length Required")
+    ∷ (413, codes "Payload Too Large")
+    ∷ (431, codes "Request Header Fields Too Large")
+    ∷ (503, codes "Service Unavailable")
+    ∷ (507, codes "Insufficient Storage")
+    ∷ []
+
+-- the status is one that the desk answers
 abbrev pub is_reply_status : ℕ → Bool
-is_reply_status status =
-    list_any (λ s. s == status) (200 ∷ 400 ∷ 404 ∷ 405 ∷ 409 ∷ 411 ∷ 413 ∷ 431 ∷ 503 ∷ 507 ∷ [])
+is_reply_status status = list_any (λ row. row.0 == status) statuses
 
 -- 405 names the method that is allowed, one of the two that the desk knows, and no other status names one
 abbrev pub fits_status : ℕ → Option Method → Bool
@@ -25,9 +40,9 @@ fits_status status (Some Other) = false
 abbrev pub head_line : List ℕ → List ℕ
 head_line text = text ++ crlf_bytes
 
--- the phrase that goes with a status (RFC 9110, section 15)
+-- the phrase that goes with a status that the desk answers
 unfoldable pub phrase_of : ℕ → List ℕ
-phrase_of status = unwrap_or (reason_phrase status) []
+phrase_of status = option_map_or (λ row. row.1) (find (λ row. row.0 == status) statuses) []
 
 -- the line that a reply begins with
 unfoldable pub status_line : ℕ → List ℕ

@@ -40,6 +40,7 @@ pub fn write_reply(
 
 /// The line that a reply begins with.
 fn push_status_line(reply: &mut Bytes, status: StatusCode) -> Result<(), OutOfMemory>
+    requires { IsTrue (is_reply_status status) }
     ensures { OnOk result (reply.new ≡ reply.old ++ status_line status) }
 {
     reply.push_all(b"HTTP/1.1 ")?;
@@ -58,8 +59,9 @@ fn push_body_lines(reply: &mut Bytes, body_len: usize) -> Result<(), OutOfMemory
     reply.push_all(b"\r\n")
 }
 
-/// The phrase that goes with a status.
+/// The phrase that goes with a status that the desk answers.
 fn phrase_of(status: StatusCode) -> &'static str
+    requires { IsTrue (is_reply_status status) }
     ensures { result.now ≡ phrase_of status }
 {
     status.canonical_reason().unwrap_or("")

@@ -243,6 +243,19 @@ fn replies_are_written_so(rt: HostRuntime) -> Result<(), Fail> {
     Ok(())
 }
 
+#[test]
+fn a_long_reply_is_written_behind_another(rt: HostRuntime) -> Result<(), Fail> {
+    let alloc = rt.alloc();
+    let body = vec![in alloc; b'x'; 70_000]?;
+    let mut out = Bytes::start(alloc);
+    write_reply(alloc, StatusCode::OK, &body, None, false, &mut out)?;
+    write_reply(alloc, StatusCode::OK, &body, None, false, &mut out)?;
+    // the head takes 83 bytes
+    assert_eq!(rt; out.len(), 2 * 70_083);
+    assert!(rt; out.as_slice().ends_with(&body));
+    Ok(())
+}
+
 /// Whether the reply with this status has this first line, and these lines behind its length.
 fn is_written_so(
     alloc: Global,

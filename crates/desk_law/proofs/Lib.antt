@@ -3,4 +3,6 @@ pub mod FirstDays
 pub mod KindMarks
 pub mod KindSets
 pub mod KindTexts
+pub mod Orders
+pub mod Told
 pub mod Verdicts

@@ -78,11 +78,11 @@ first_in (Some row) = row.first
 unfoldable pub first_day : Rule → Kind → Option Date
 first_day rule kind = first_in (find (speaks_of rule kind) first_days)
 
--- a first day has come
-abbrev pub has_come : Option Date → Date → Bool
-has_come None day = false
-has_come (Some first) day = is_not_after first day
+-- what is in force from this first day on is in force on the day; where there is no first day, it never is
+abbrev pub in_force_from : Option Date → Date → Bool
+in_force_from None day = false
+in_force_from (Some first) day = is_not_after first day
 
 -- whether the rule is in force for the kind on an askable day
 unfoldable pub is_in_force : Rule → Kind → Date → Bool
-is_in_force rule kind day = has_come (first_day rule kind) day
+is_in_force rule kind day = in_force_from (first_day rule kind) day

@@ -1,6 +1,8 @@
 -- The kinds of electrical and electronic equipment, after Annex I to Directive 2011/65/EU.
 use Rattle.std.specs.Prelude.{ℕ, Bool, ◌==◌, List, [], ◌∷◌, Option, find, codes}
+use Rattle.std.specs.Ordering.{nat_cmp, on}
 use Rattle.std.specs.Str.{bytes_eq}
+use Rattle.std.specs.declared.cmp.Ordering.{Ordering}
 use Rattle.desk_law.specs.declared.kind.Kind.{Kind}
 use Rattle.desk_law.specs.declared.kind.Kind.TheVariants.{LargeHousehold, SmallHousehold, Telecommunications, Consumer, Lighting, Tool, ToyLeisureSports, Toy, MedicalDevice, InVitroDiagnostic, ControlInstrument, IndustrialInstrument, Dispenser, Other}
 
@@ -47,6 +49,10 @@ kind_place ControlInstrument = 10
 kind_place IndustrialInstrument = 11
 kind_place Dispenser = 12
 kind_place Other = 13
+
+-- kinds are ordered by their places in the annex
+abbrev pub kind_cmp : Kind → Kind → Ordering
+kind_cmp = on kind_place nat_cmp
 
 -- two kinds are one
 abbrev pub same_kind : Kind → Kind → Bool

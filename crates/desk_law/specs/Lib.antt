@@ -1,9 +1,11 @@
 pub mod Annex
+pub mod Claim
 pub mod Exemption
 pub mod InForce
 pub mod Kind
 pub mod KindMarks
 pub mod KindSet
 pub mod Limit
+pub mod Restriction
 pub mod Rule
 pub mod Verdict

@@ -1,6 +1,8 @@
 -- The rules: the restricted substances of Annex II to Directive 2011/65/EU, as amended by Delegated Directive (EU) 2015/863.
 use Rattle.std.specs.Prelude.{ℕ, Bool, ◌==◌, List, [], ◌∷◌, Option, find, codes}
+use Rattle.std.specs.Ordering.{nat_cmp, on}
 use Rattle.std.specs.Str.{bytes_eq}
+use Rattle.std.specs.declared.cmp.Ordering.{Ordering}
 use Rattle.desk_law.specs.declared.rule.Rule.{Rule}
 use Rattle.desk_law.specs.declared.rule.Rule.TheVariants.{Lead, Mercury, Cadmium, ChromiumVi, Pbb, Pbde, Dehp, Bbp, Dbp, Dibp}
 
@@ -16,6 +18,10 @@ rule_number Dehp = 7
 rule_number Bbp = 8
 rule_number Dbp = 9
 rule_number Dibp = 10
+
+-- rules are ordered by their numbers
+abbrev pub rule_cmp : Rule → Rule → Ordering
+rule_cmp = on rule_number nat_cmp
 
 -- two rules are one
 abbrev pub same_rule : Rule → Rule → Bool

@@ -6,13 +6,15 @@ use Rattle.desk_text.specs.Code.{code_cmp}
 use Rattle.desk_text.specs.Day.{Date}
 use Rattle.desk_law.specs.declared.claim.Claim.{Claim}
 use Rattle.desk_law.specs.declared.kind.Kind.{Kind}
+use Rattle.desk_law.specs.declared.restriction.Restriction.{Restriction}
 use Rattle.desk_law.specs.declared.rule.Rule.{Rule}
 use Rattle.desk_law.specs.declared.terms.Terms.{Terms}
 use Rattle.desk_law.specs.declared.verdict.Verdict.{Verdict}
 use Rattle.desk_law.specs.declared.verdict.Verdict.TheVariants.{Within, NotInForce, Exempt, Breach}
 use Rattle.desk_law.specs.Exemption.{covers}
-use Rattle.desk_law.specs.InForce.{is_in_force}
-use Rattle.desk_law.specs.Limit.{is_over, limit_of}
+use Rattle.desk_law.specs.InForce.{in_force_from}
+use Rattle.desk_law.specs.Limit.{is_over}
+use Rattle.desk_law.specs.Restriction.{restriction_of}
 
 -- the place of the first row that covers: where the rows stand in order of code, the one with the least code
 abbrev pub covering_place : List Terms → List Claim → Rule → Kind → Date → ℕ → ℕ → Option ℕ
@@ -23,12 +25,16 @@ abbrev pub exempt_or_breach : Option ℕ → Verdict
 exempt_or_breach None = Breach
 exempt_or_breach (Some place) = Exempt place
 
--- the verdict: the first that applies of within, not in force, exempt and breach
+-- the verdict by a restriction: the first that applies of within, not in force, exempt and breach
+unfoldable pub verdict_by : ℕ → ℕ → List Claim → Restriction → Date → List Terms → Verdict
+verdict_by share mass claims by day rows =
+    if not (is_over share mass by.ppm) then Within
+    else (if not (in_force_from by.first day) then NotInForce
+    else exempt_or_breach (covering_place rows claims by.rule by.kind day share mass))
+
+-- the verdict for a rule and a kind, by the restriction that the law has for them
 unfoldable pub verdict : ℕ → ℕ → List Claim → Rule → Kind → Date → List Terms → Verdict
-verdict share mass claims rule kind day rows =
-    if not (is_over share mass (limit_of rule)) then Within
-    else (if not (is_in_force rule kind day) then NotInForce
-    else exempt_or_breach (covering_place rows claims rule kind day share mass))
+verdict share mass claims rule kind day rows = verdict_by share mass claims (restriction_of rule kind) day rows
 
 -- the named row passes, and no row that passes has a lesser code
 abbrev pub IsLeast : (Terms → Bool) → List Terms → Terms → Type 0

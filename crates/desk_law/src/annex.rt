@@ -6,7 +6,7 @@ use crate::{Kind, KindSet};
 use std::fmt;
 
 /// The annex to Directive 2011/65/EU that an exemption stands in.
-#[derive(Clone, Copy, Debug, PartialEq, Eq, PartialOrd, Ord)]
+#[derive(Clone, Copy, Debug, PartialEq, Eq)]
 pub enum Annex {
     /// Annex III, for equipment of every kind.
     Three,

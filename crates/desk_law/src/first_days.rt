@@ -4,7 +4,7 @@ ghost use Rattle.std.specs.Prelude.{◌≡◌, IsTrue, Some};
 ghost use Rattle.desk_text.specs.Day.{is_askable};
 ghost use Rattle.desk_law.specs.InForce.{first_day, is_in_force};
 
-use crate::{Kind, Rule};
+use crate::{Kind, Restriction, Rule};
 use desk_text::Day;
 
 /// Whether the rule is in force for equipment of the kind that is placed on the market on the day.
@@ -12,19 +12,16 @@ use desk_text::Day;
 /// Article 4(3) of Directive 2011/65/EU, as amended by Directive (EU) 2017/2102, and Annex II with
 /// Delegated Directive (EU) 2015/863. The day is askable: what was in force before 22 July 2014 is
 /// not told.
-#[tactic(auto, unfolding(crate::specs::InForce::is_in_force))]
+#[tactic(auto, unfolding(crate::specs::InForce::is_in_force, crate::specs::Restriction::restriction_of))]
 pub fn in_force(rule: Rule, kind: Kind, day: Day) -> bool
     requires { IsTrue (is_askable day) }
     ensures { result ≡ is_in_force rule kind day }
 {
-    match first_day(rule, kind) {
-        Some(first) => first <= day,
-        None => false,
-    }
+    Restriction::of(rule, kind).in_force(day)
 }
 
 /// The first askable day on which the rule is in force for the kind, if it ever is.
-fn first_day(rule: Rule, kind: Kind) -> Option<Day>
+pub(crate) fn first_day(rule: Rule, kind: Kind) -> Option<Day>
     ensures { result ≡ first_day rule kind }
 {
     match rule {

@@ -67,7 +67,8 @@ impl KindSet {
 
     /// Whether the set has no kind.
     pub fn is_empty(&self) -> bool
-        ensures { IsTrue result ↔ (self.now ≡ []) }
+        ensures empty { IsTrue result ↔ (self.now ≡ []) }
+        ensures form { self.now ≡ set_of self.now }
     {
         self.marks == [false; 14]
     }

@@ -2,7 +2,8 @@ ghost use Rattle.std.specs.List.Sorted.{IsSortedByKey};
 ghost use Rattle.desk_text.specs.Code.{code_cmp};
 
 use crate::{
-    Annex, Claim, Kind, KindSet, Rule, Terms, Verdict, covers, in_force, judge, limit_ppm, over,
+    Annex, Claim, Kind, KindSet, Restriction, Rule, Terms, Verdict, covers, in_force, judge,
+    judge_by, limit_ppm, over,
 };
 use desk_text::{Code, Day, ExemptionNumber};
 use std::process::Abort;
@@ -353,6 +354,28 @@ fn a_phthalate_is_a_breach_from_its_first_day_on(rt: HostRuntime) -> Result<(), 
         assert_eq!(rt; verdict, want, "{rule} for {kind} on {day}");
     }
     Ok(())
+}
+
+#[test]
+fn a_restriction_of_any_limit_and_first_day_is_judged_by_them(rt: HostRuntime) {
+    let before = Day::new(2024, 12, 31);
+    let first = Day::new(2025, 1, 1);
+    let cases = [
+        (500, Some(first), before, Verdict::NotInForce),
+        (500, Some(first), first, Verdict::Breach),
+        (500, None, first, Verdict::NotInForce),
+        (501, Some(first), first, Verdict::Within),
+    ];
+    for (ppm, first, day, want) in cases {
+        let restriction = Restriction {
+            rule: Rule::Lead,
+            kind: Kind::Telecommunications,
+            ppm,
+            first,
+        };
+        let verdict = judge_by(501_000_000, 1_000_000, &[], &restriction, day, &[]);
+        assert_eq!(rt; verdict, want, "{ppm} ppm on {day}");
+    }
 }
 
 #[test]

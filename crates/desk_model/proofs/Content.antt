@@ -9,7 +9,8 @@ use Rattle.desk_text.specs.Code.{code_cmp}
 use Rattle.desk_rows.specs.Rows.{IsByKey}
 use Rattle.desk_model.specs.declared.limits.TheConstants.{CLAIM_LIMIT, CONTENT_LIMIT, MASS_LIMIT}
 use Rattle.desk_model.specs.declared.substance_mass.SubstanceMass.{SubstanceMass}
-use Rattle.desk_model.specs.Content.{are_claims, are_substances, claim_cmp, is_content, rises}
+use Rattle.desk_law.specs.Claim.{claim_cmp}
+use Rattle.desk_model.specs.Content.{are_claims, are_substances, is_content, rises}
 use Rattle.desk_model.proofs.Order.{rises_from_sorted, sorted_from_rises}
 
 -- a substance's mass is in its range

@@ -12,7 +12,7 @@ use Rattle.desk_model.specs.declared.limits.TheConstants.{DECLARED_LIMIT, MASS_L
 use Rattle.desk_model.specs.declared.material_decl.MaterialDecl.{MaterialDecl}
 use Rattle.desk_model.specs.Content.{is_content, rises}
 use Rattle.desk_model.specs.Declaration.{Declared, is_declaration}
-use Rattle.desk_model.specs.Declaring.{entered, material_added}
+use Rattle.desk_model.specs.Declaring.{with_new, material_added}
 use Rattle.desk_model.proofs.Entering.{entered_keeps, list_all-with_row}
 use Rattle.desk_model.proofs.Order.{rises_from_sorted, sorted_from_rises}
 
@@ -57,7 +57,7 @@ pub empty_content : (mass : ℕ) → 1 ≤ mass → mass ≤ MASS_LIMIT → is_c
 empty_content mass least greatest = rw (le-leb 1 mass least, le-leb mass MASS_LIMIT greatest) refl
 
 -- with one more material
-entered_declaration : (d : Declared) (new : MaterialDecl) (all : List MaterialDecl) → Parts d → is_good new ≡ true → entered (λ material. material.code) code_cmp DECLARED_LIMIT new d.materials ≡ Ok all → is_declaration (record d { materials = all }) ≡ true
+entered_declaration : (d : Declared) (new : MaterialDecl) (all : List MaterialDecl) → Parts d → is_good new ≡ true → with_new (λ material. material.code) code_cmp DECLARED_LIMIT new d.materials ≡ Ok all → is_declaration (record d { materials = all }) ≡ true
 entered_declaration d new all p good e =
     let keeps = entered_keeps (λ material. material.code) code_cmp nat_list_cmp_total DECLARED_LIMIT new d.materials all e p.by_key in
     from_parts (record d { materials = all }) (record {
@@ -68,19 +68,19 @@ entered_declaration d new all p good e =
     })
 
 -- a call that enters a material, or leaves the list, leaves a declaration
-pub after_entering : {U : Type 0} (d : Declared) (new : MaterialDecl) (all : List MaterialDecl) (r : Result U DeclError) → is_declaration d ≡ true → is_good new ≡ true → OnOk r (entered (λ material. material.code) code_cmp DECLARED_LIMIT new d.materials ≡ Ok all) → OnErr r (all ≡ d.materials) → is_declaration (record d { materials = all }) ≡ true
+pub after_entering : {U : Type 0} (d : Declared) (new : MaterialDecl) (all : List MaterialDecl) (r : Result U DeclError) → is_declaration d ≡ true → is_good new ≡ true → OnOk r (with_new (λ material. material.code) code_cmp DECLARED_LIMIT new d.materials ≡ Ok all) → OnErr r (all ≡ d.materials) → is_declaration (record d { materials = all }) ≡ true
 after_entering d new all (Ok done) h good ok err = entered_declaration d new all (parts d h) good ok
 after_entering d new all (Err fault) h good ok err = subst (λ ms. is_declaration (record d { materials = ms }) ≡ true) (sym err) h
 
 -- and answers as the declaration with one more material does
-pub added_ok : {U : Type 0} (d seen : Declared) → d ≡ seen → (new wanted : MaterialDecl) → new ≡ wanted → (all : List MaterialDecl) (r : Result U DeclError) → OnOk r (entered (λ material. material.code) code_cmp DECLARED_LIMIT new d.materials ≡ Ok all) → OnOk r (material_added wanted seen ≡ Ok (record d { materials = all }))
+pub added_ok : {U : Type 0} (d seen : Declared) → d ≡ seen → (new wanted : MaterialDecl) → new ≡ wanted → (all : List MaterialDecl) (r : Result U DeclError) → OnOk r (with_new (λ material. material.code) code_cmp DECLARED_LIMIT new d.materials ≡ Ok all) → OnOk r (material_added wanted seen ≡ Ok (record d { materials = all }))
 unfolding material_added
 added_ok d seen is new wanted same all (Ok done) ok =
     subst (λ s. material_added wanted s ≡ Ok (record d { materials = all })) is
     (subst (λ m. material_added m d ≡ Ok (record d { materials = all })) same (rw ok refl))
 added_ok d seen is new wanted same all (Err fault) ok = tt
 
-pub added_error : {U : Type 0} (d seen : Declared) → d ≡ seen → (new wanted : MaterialDecl) → new ≡ wanted → (r : Result U DeclError) → IfErr r (λ e. e ≢ OutOfMemory → entered (λ material. material.code) code_cmp DECLARED_LIMIT new d.materials ≡ Err e) → IfErr r (λ e. e ≢ OutOfMemory → material_added wanted seen ≡ Err e)
+pub added_error : {U : Type 0} (d seen : Declared) → d ≡ seen → (new wanted : MaterialDecl) → new ≡ wanted → (r : Result U DeclError) → IfErr r (λ e. e ≢ OutOfMemory → with_new (λ material. material.code) code_cmp DECLARED_LIMIT new d.materials ≡ Err e) → IfErr r (λ e. e ≢ OutOfMemory → material_added wanted seen ≡ Err e)
 unfolding material_added
 added_error d seen is new wanted same (Ok done) error = tt
 added_error d seen is new wanted same (Err fault) error =

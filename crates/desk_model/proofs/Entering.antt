@@ -1,4 +1,4 @@
--- What a row entered into a list by key makes of the list.
+-- What a row with_new into a list by key makes of the list.
 use Rattle.std.proofs.Common.{◌≡◌, ℕ, ◌+◌, ◌<◌, ◌≤◌, Bool, true, false, List, [], ◌∷◌, length, is_some, Result, Ok, Err, refl, sym, subst, Ordering, Less, Equal, Greater, arith}
 use Rattle.std.specs.Prelude.{if◌then◌else◌, nat_lt}
 use Rattle.std.specs.Cmp.{IsTotalOrder}
@@ -9,7 +9,7 @@ use Rattle.desk_rows.specs.Rows.{IsByKey, row_of, with_row}
 use Rattle.desk_rows.proofs.Edits.{IsByKey-with_row}
 use Rattle.desk_model.specs.declared.decl_error.DeclError.{DeclError}
 use Rattle.desk_model.specs.declared.decl_error.DeclError.TheVariants.{Repeated, TooMany}
-use Rattle.desk_model.specs.Declaring.{entered}
+use Rattle.desk_model.specs.Declaring.{with_new}
 
 -- two answers are one
 abbrev Same : {X : Type 0} → Result X DeclError → Result X DeclError → Type 0
@@ -48,13 +48,13 @@ module _ {R K : Type 0} (key : R → K) (cmp : K → K → Ordering) where
   list_all-with_row p new (row ∷ rows) n h =
       all_step p new row rows (cmp (key row) (key new)) refl n h (list_all-with_row p new rows n (and_parts (p row) (list_all p rows) h).1)
 
-  -- the list with a row entered
+  -- the list with a row with_new
   pub record Keeps (limit : ℕ) (new : R) (rows all : List R) : Type 0 where
     pub put : all ≡ with_row key cmp new rows
     pub fits : length all ≤ limit
     pub by_key : IsByKey key cmp all
 
-  pub entered_keeps : IsTotalOrder cmp → (limit : ℕ) (new : R) (rows all : List R) → entered key cmp limit new rows ≡ Ok all → IsByKey key cmp rows → Keeps limit new rows all
+  pub entered_keeps : IsTotalOrder cmp → (limit : ℕ) (new : R) (rows all : List R) → with_new key cmp limit new rows ≡ Ok all → IsByKey key cmp rows → Keeps limit new rows all
   entered_keeps o limit new rows all e h =
       let so = entered_so (is_some (row_of key cmp (key new) rows)) (nat_lt (length rows) limit) (with_row key cmp new rows) all e in
       let room : length rows < limit = ltb-true (length rows) limit so.1 in
@@ -67,5 +67,5 @@ module _ {R K : Type 0} (key : R → K) (cmp : K → K → Ordering) where
       }
 
   -- a list that has the key
-  pub entered_repeated : (limit : ℕ) (new : R) (rows seen : List R) (at : ℕ) → rows ≡ seen → Replaces key cmp new rows at → entered key cmp limit new seen ≡ Err Repeated
+  pub entered_repeated : (limit : ℕ) (new : R) (rows seen : List R) (at : ℕ) → rows ≡ seen → Replaces key cmp new rows at → with_new key cmp limit new seen ≡ Err Repeated
   entered_repeated limit new rows seen at is place = rw (sym is, place.found new) refl

@@ -9,7 +9,7 @@ use Rattle.std.proofs.lemmas.Str.{IsUtf8-from_ascii, chars-IsAscii, is_utf8-from
 use Rattle.std.proofs.lemmas.Str.Ascii.{IsAscii-cons, IsAscii-nil}
 use Rattle.desk_text.specs.Name.{name_of}
 use Rattle.desk_text.specs.declared.name.TheConstants.{NAME_LIMIT}
-use Rattle.desk_model.specs.Forms.{is_name}
+use Rattle.desk_model.specs.Values.{is_name}
 
 ascii_from : (bytes : List ℕ) → list_all (λ b. nat_lt b 128) bytes ≡ true → IsAscii bytes
 ascii_from [] e = IsAscii-nil

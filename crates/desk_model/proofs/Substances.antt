@@ -9,7 +9,7 @@ use Rattle.desk_model.specs.declared.decl_error.DeclError.{DeclError}
 use Rattle.desk_model.specs.declared.limits.TheConstants.{CONTENT_LIMIT, MASS_LIMIT}
 use Rattle.desk_model.specs.declared.material_decl.MaterialDecl.{MaterialDecl}
 use Rattle.desk_model.specs.declared.substance_mass.SubstanceMass.{SubstanceMass}
-use Rattle.desk_model.specs.Declaring.{entered}
+use Rattle.desk_model.specs.Declaring.{with_new}
 use Rattle.desk_model.proofs.Changing.{Part}
 use Rattle.desk_model.proofs.Content.{content_parts, from_content_parts, from_substance_parts, is_light, substance_parts}
 use Rattle.desk_model.proofs.Declaring.{is_good}
@@ -24,7 +24,7 @@ substances = record {
 }
 
 abbrev pub one_substance : SubstanceMass → List SubstanceMass → Result (List SubstanceMass) DeclError
-one_substance = entered (λ held. held.substance) code_cmp CONTENT_LIMIT
+one_substance = with_new (λ held. held.substance) code_cmp CONTENT_LIMIT
 
 pub by_substance : (m : MaterialDecl) → is_good m ≡ true → IsByKey (λ held. held.substance) code_cmp m.substances
 by_substance m good = (substance_parts m.substances (content_parts m.mass m.substances m.claims good).substances).by_key

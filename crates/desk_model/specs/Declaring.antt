@@ -10,7 +10,7 @@ use Rattle.desk_model.specs.declared.decl_error.DeclError.TheVariants.{Repeated,
 use Rattle.desk_model.specs.declared.limits.TheConstants.{DECLARED_LIMIT, CONTENT_LIMIT, CLAIM_LIMIT}
 use Rattle.desk_model.specs.declared.material_decl.MaterialDecl.{MaterialDecl}
 use Rattle.desk_model.specs.declared.substance_mass.SubstanceMass.{SubstanceMass}
-use Rattle.desk_model.specs.Content.{claim_cmp}
+use Rattle.desk_law.specs.Claim.{claim_cmp}
 use Rattle.desk_model.specs.Declaration.{Declared}
 
 -- what an answer holds, changed; an error stays
@@ -20,8 +20,8 @@ and_then (Err e) f = Err e
 
 module _ {R K : Type 0} (key : R → K) (cmp : K → K → Ordering) where
   -- a list in order of its keys with one more row, unless the key is there or the list is full
-  abbrev pub entered : ℕ → R → List R → Result (List R) DeclError
-  entered limit new rows =
+  abbrev pub with_new : ℕ → R → List R → Result (List R) DeclError
+  with_new limit new rows =
       if is_some (row_of key cmp (key new) rows) then Err Repeated
       else (if nat_lt (length rows) limit then Ok (with_row key cmp new rows) else Err TooMany)
 
@@ -36,7 +36,7 @@ empty_material code name mass = record { code = code; name = name; mass = mass; 
 -- the declaration with one more material
 unfoldable pub material_added : MaterialDecl → Declared → Result Declared DeclError
 material_added new d =
-    and_then (entered (λ material. material.code) code_cmp DECLARED_LIMIT new d.materials) (λ all. record d { materials = all })
+    and_then (with_new (λ material. material.code) code_cmp DECLARED_LIMIT new d.materials) (λ all. record d { materials = all })
 
 -- the material that the declaration lists under a code
 abbrev pub declared_material : Declared → List ℕ → Option MaterialDecl
@@ -52,12 +52,12 @@ material_changed change (Some material) d =
 unfoldable pub substance_added : List ℕ → SubstanceMass → Declared → Result Declared DeclError
 substance_added material new d =
     material_changed
-    (λ m. and_then (entered (λ held. held.substance) code_cmp CONTENT_LIMIT new m.substances) (λ all. record m { substances = all }))
+    (λ m. and_then (with_new (λ held. held.substance) code_cmp CONTENT_LIMIT new m.substances) (λ all. record m { substances = all }))
     (declared_material d material) d
 
 -- the declaration with one more claim for a material
 unfoldable pub claim_added : List ℕ → Claim → Declared → Result Declared DeclError
 claim_added material new d =
     material_changed
-    (λ m. and_then (entered (λ claim. claim) claim_cmp CLAIM_LIMIT new m.claims) (λ all. record m { claims = all }))
+    (λ m. and_then (with_new (λ claim. claim) claim_cmp CLAIM_LIMIT new m.claims) (λ all. record m { claims = all }))
     (declared_material d material) d

@@ -23,6 +23,10 @@ use Rattle.desk_model.specs.Declaration.{Declared}
 abbrev pub joined : List (List ℕ) → List ℕ
 joined fields = join_with_byte 9 fields
 
+-- each field behind a TAB
+abbrev pub tabbed : List (List ℕ) → List ℕ
+tabbed fields = flat_map (λ field. 9 ∷ field) fields
+
 -- an absent value is an empty field
 abbrev pub optional_field : Option (List ℕ) → List ℕ
 optional_field text = unwrap_or text []

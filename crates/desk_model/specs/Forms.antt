@@ -1,11 +1,7 @@
 -- Values of their form and in their range, in rows and in edits.
-use Rattle.std.specs.Prelude.{ℕ, ◌^◌, Bool, true, ◌&&◌, List, Option, Some, None, is_ok, nat_le, nat_lt}
-use Rattle.std.specs.List.{list_all}
+use Rattle.std.specs.Prelude.{ℕ, Bool, true, false, ◌&&◌, List, Option, Some, None, is_ok, nat_le}
 use Rattle.desk_text.specs.Cas.{cas_of}
-use Rattle.desk_text.specs.Code.{code_of, exemption_number_of}
 use Rattle.desk_text.specs.Day.{is_day}
-use Rattle.desk_text.specs.Name.{name_of}
-use Rattle.desk_law.specs.declared.claim.Claim.{Claim}
 use Rattle.desk_law.specs.declared.terms.Terms.{Terms}
 use Rattle.desk_model.specs.declared.edit.Edit.{Edit}
 use Rattle.desk_model.specs.declared.edit.Edit.TheVariants.{Substance, Member, Declare, Part, Line, Unline, Product, Exemption, Unexempt, Candidate, Ship, Unship}
@@ -19,22 +15,12 @@ use Rattle.desk_model.specs.declared.rows.product.ProductRow.{ProductRow}
 use Rattle.desk_model.specs.declared.rows.exemption.ExemptionRow.{ExemptionRow}
 use Rattle.desk_model.specs.declared.rows.candidate.CandidateRow.{CandidateRow}
 use Rattle.desk_model.specs.declared.rows.shipment.ShipmentRow.{ShipmentRow}
-use Rattle.desk_model.specs.declared.substance_mass.SubstanceMass.{SubstanceMass}
 use Rattle.desk_model.specs.Content.{is_content}
-use Rattle.desk_model.specs.Declaration.{Declared, is_declaration}
 use Rattle.desk_model.specs.Terms.{are_terms_in_range}
-
--- the bytes are a code
-abbrev pub is_code : List ℕ → Bool
-is_code bytes = is_ok (code_of bytes)
-
--- the bytes are a name
-abbrev pub is_name : List ℕ → Bool
-is_name bytes = is_ok (name_of bytes)
-
--- the bytes are the number of an exemption
-abbrev pub is_exemption_number : List ℕ → Bool
-is_exemption_number bytes = is_ok (exemption_number_of bytes)
+pub use Rattle.desk_model.specs.Content.{is_content_in_form}
+pub use Rattle.desk_model.specs.Declaration.{is_declaration_number}
+unfoldable pub use Rattle.desk_model.specs.Declaration.{is_declaration_in_form}
+pub use Rattle.desk_model.specs.Values.{is_code, is_exemption_number, is_name}
 
 -- there is no CAS number, or it is one
 abbrev pub is_optional_cas : Option (List ℕ) → Bool
@@ -45,6 +31,10 @@ is_optional_cas (Some bytes) = is_ok (cas_of bytes)
 abbrev pub is_count : ℕ → Bool
 is_count n = nat_le 1 n && nat_le n COUNT_LIMIT
 
+-- the factor of an edit, from 0, which takes the member out, to 1,000,000
+abbrev pub is_factor : ℕ → Bool
+is_factor n = nat_le n WHOLE_FACTOR
+
 -- the year of a shipment, from 2008 to 2099
 abbrev pub is_year : ℕ → Bool
 is_year n = nat_le FIRST_SHIPMENT_YEAR n && nat_le n LAST_SHIPMENT_YEAR
@@ -52,15 +42,6 @@ is_year n = nat_le FIRST_SHIPMENT_YEAR n && nat_le n LAST_SHIPMENT_YEAR
 -- the units of a shipment, from 1 to 1,000,000,000,000
 abbrev pub are_units : ℕ → Bool
 are_units n = nat_le 1 n && nat_le n UNITS_LIMIT
-
--- the numbers of declarations
-abbrev pub is_declaration_number : ℕ → Bool
-is_declaration_number n = nat_le 1 n && nat_lt n (2 ^ 64)
-
--- what a material holds, by codes and claims in form
-abbrev pub is_content_in_form : List SubstanceMass → List Claim → Bool
-is_content_in_form held claims =
-    list_all (λ one. is_code one.substance) held && list_all (λ claim. is_exemption_number claim.number) claims
 
 -- a substance, its values of their form and in their range, as those of the rows below
 abbrev pub is_substance_row : SubstanceRow → Bool
@@ -105,16 +86,20 @@ is_candidate_row row = is_code row.substance && is_day row.day
 abbrev pub is_shipment_row : ShipmentRow → Bool
 is_shipment_row row = is_year row.year && is_code row.product && are_units row.units
 
--- a declaration whose values are of their form and in their range
-unfoldable pub is_declaration_in_form : Declared → Bool
-is_declaration_in_form d =
-    is_code d.supplier && is_declaration_number d.number && is_day d.day && is_declaration d
-    && list_all (λ m. is_code m.code && is_name m.name && is_content_in_form m.substances m.claims) d.materials
+-- the edit is of a part, a line, a product or its shipments
+abbrev pub is_of_bill : Edit → Bool
+is_of_bill (Part ticket code sort name) = true
+is_of_bill (Line ticket parent child count) = true
+is_of_bill (Unline ticket parent child) = true
+is_of_bill (Product ticket part kind) = true
+is_of_bill (Ship ticket product year units) = true
+is_of_bill (Unship ticket product year units) = true
+is_of_bill _ = false
 
 -- edits whose values are of their form and in their range
 unfoldable pub is_edit_in_form : Edit → Bool
 is_edit_in_form (Substance ticket code name cas) = is_code ticket && is_code code && is_name name && is_optional_cas cas
-is_edit_in_form (Member ticket substance rule factor) = is_code ticket && is_code substance && nat_le factor WHOLE_FACTOR
+is_edit_in_form (Member ticket substance rule factor) = is_code ticket && is_code substance && is_factor factor
 is_edit_in_form (Declare declaration) = is_declaration_in_form declaration
 is_edit_in_form (Part ticket code sort name) = is_code ticket && is_code code && is_name name
 is_edit_in_form (Line ticket parent child count) = is_code ticket && is_code parent && is_code child && is_count count

@@ -2,7 +2,7 @@ ghost use Rattle.std.specs.Prelude.{◌≡◌, ◌≢◌, ◌≤◌, true, IfErr
 ghost use Rattle.desk_text.specs.Code.{code_cmp};
 ghost use Rattle.desk_rows.specs.Place.{StandsAt};
 ghost use Rattle.desk_rows.specs.Rows.{IsByKey, row_of};
-ghost use Rattle.desk_model.specs.Declaration.{is_declaration};
+ghost use Rattle.desk_model.specs.Declaration.{is_declaration, is_declaration_in_form};
 ghost use Rattle.desk_model.specs.Declaring.{claim_added, declaration_start, empty_material, material_added, substance_added};
 
 use crate::enter::enter;
@@ -25,7 +25,7 @@ pub struct Declaration {
 
 impl Model for Declaration {
     ghost use Rattle.std.specs.Prelude.{◌≡◌, true};
-    ghost use Rattle.desk_model.specs.Declaration.{Declared, is_declaration};
+    ghost use Rattle.desk_model.specs.Declaration.{Declared, is_declaration_in_form};
 
     ghost Value = { Declared };
 
@@ -36,7 +36,7 @@ impl Model for Declaration {
       materials = d.materials.items;
     } };
 
-    ghost invariant = { λ d. is_declaration (record {
+    ghost invariant = { λ d. is_declaration_in_form (record {
       supplier = d.supplier;
       number = d.number;
       day = d.day;
@@ -47,6 +47,7 @@ impl Model for Declaration {
 impl Declaration {
     /// A supplier's declaration of this number and day, without materials. The number is at least 1. It takes no memory
     /// yet, so that it doesn't fail.
+    #[tactic(auto, unfolding(crate::specs::Declaration::is_declaration_in_form))]
     pub fn start(
         alloc: Global,
         supplier: Code,
@@ -56,6 +57,9 @@ impl Declaration {
         requires { 1 ≤ number }
         ensures { result ≡ Ok (declaration_start supplier number day) }
     {
+        // What is kept is of its form: these calls do nothing but say so.
+        supplier.as_bytes();
+        day.year();
         Ok(Declaration {
             supplier,
             number,
@@ -99,6 +103,8 @@ impl Declaration {
             → substance_added material.now (record { substance = substance; mass = mass }) self.old ≡ Err e) }
         ensures err { OnErr result (self.new ≡ self.old) }
     {
+        // The call does nothing but say that the code is of its form.
+        substance.as_bytes();
         let held = SubstanceMass { substance, mass };
         let at = place_of(self.materials.as_slice(), material)?;
         let material = &mut self.materials[at];
@@ -116,6 +122,8 @@ impl Declaration {
             → claim_added material.now claim self.old ≡ Err e) }
         ensures err { OnErr result (self.new ≡ self.old) }
     {
+        // The call does nothing but say that the number is of its form.
+        claim.number.as_bytes();
         let at = place_of(self.materials.as_slice(), material)?;
         let material = &mut self.materials[at];
         material.claims.enter_claim(claim)
@@ -129,6 +137,7 @@ impl Declaration {
     }
 
     /// The declaration's number, which is at least 1.
+    #[tactic(auto, unfolding(crate::specs::Declaration::is_declaration_in_form))]
     pub fn number(&self) -> u64
         ensures value { result ≡ self.now.number }
         ensures least { 1 ≤ result }
@@ -143,10 +152,13 @@ impl Declaration {
         self.day
     }
 
-    /// The materials, in order of code. What they hold is in its range and order.
+    /// The materials, in order of code. What they hold is in its range and order, and each value of the declaration is of
+    /// its form.
+    #[tactic(auto, unfolding(crate::specs::Declaration::is_declaration_in_form))]
     pub fn materials(&self) -> &[MaterialDecl]
         ensures value { result.now ≡ self.now.materials }
         ensures in_range { is_declaration self.now ≡ true }
+        ensures form { is_declaration_in_form self.now ≡ true }
     {
         self.materials.as_slice()
     }

@@ -1,8 +1,8 @@
 ghost use Rattle.std.specs.Prelude.{◌≡◌, ◌≢◌, ◌<◌, ◌≤◌, insert, length, IfErr, MatchResult, OnErr, OnOk};
 ghost use Rattle.desk_rows.specs.Place.{Enters, Replaces};
 ghost use Rattle.desk_rows.specs.Rows.{IsByKey};
-ghost use Rattle.desk_model.specs.Content.{claim_cmp};
-ghost use Rattle.desk_model.specs.Declaring.{entered};
+ghost use Rattle.desk_law.specs.Claim.{claim_cmp};
+ghost use Rattle.desk_model.specs.Declaring.{with_new};
 
 use crate::DeclError;
 use crate::limits::CLAIM_LIMIT;
@@ -12,9 +12,9 @@ use desk_rows::{Keyed, place_of_row};
 /// Puts the new row into its place in a list by key, unless its key is there or the list is full.
 pub fn enter<R: Keyed>(rows: &mut Vec<R>, new: R, limit: usize) -> Result<(), DeclError>
     requires { IsByKey R.key R.Key.cmp rows.old.items }
-    ensures ok { OnOk result (entered R.key R.Key.cmp limit new rows.old.items ≡ Ok rows.new.items) }
+    ensures ok { OnOk result (with_new R.key R.Key.cmp limit new rows.old.items ≡ Ok rows.new.items) }
     ensures error { IfErr result (λ e. e ≢ DeclError.OutOfMemory
-        → entered R.key R.Key.cmp limit new rows.old.items ≡ Err e) }
+        → with_new R.key R.Key.cmp limit new rows.old.items ≡ Err e) }
     ensures err { OnErr result (rows.new.items ≡ rows.old.items) }
 {
     match place_of_row(rows.as_slice(), &new) {
@@ -26,9 +26,9 @@ pub fn enter<R: Keyed>(rows: &mut Vec<R>, new: R, limit: usize) -> Result<(), De
 /// Puts the new claim into its place, unless it is there or there are as many as a material may have.
 pub fn enter_claim(claims: &mut Vec<Claim>, new: Claim) -> Result<(), DeclError>
     requires { IsByKey (λ claim. claim) claim_cmp claims.old.items }
-    ensures ok { OnOk result (entered (λ claim. claim) claim_cmp CLAIM_LIMIT new claims.old.items ≡ Ok claims.new.items) }
+    ensures ok { OnOk result (with_new (λ claim. claim) claim_cmp CLAIM_LIMIT new claims.old.items ≡ Ok claims.new.items) }
     ensures error { IfErr result (λ e. e ≢ DeclError.OutOfMemory
-        → entered (λ claim. claim) claim_cmp CLAIM_LIMIT new claims.old.items ≡ Err e) }
+        → with_new (λ claim. claim) claim_cmp CLAIM_LIMIT new claims.old.items ≡ Err e) }
     ensures err { OnErr result (claims.new.items ≡ claims.old.items) }
 {
     match place_of_claim(claims.as_slice(), &new) {

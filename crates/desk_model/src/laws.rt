@@ -3,7 +3,7 @@
 ghost use Rattle.std.specs.Prelude.{◌≡◌};
 ghost use Rattle.desk_text.specs.Code.{code_cmp};
 ghost use Rattle.desk_model.specs.Lists.{line_key, line_key_cmp, member_key, member_key_cmp, shipment_key, shipment_key_cmp};
-ghost use Rattle.desk_model.specs.Laws.{DepthIsEnough, ReachesByLines, MassByLines, CarriedByLines, ChainByNext, StoredRollUpIsRight, StoredMarkIsRight, ChainLeads, FirstsAreLeast, CarriedWithinMass, OnlyNewEditsChange, RefusalsAreTold, AcceptedEditsAreKept, NumbersStayWhole, NumbersNamePrefixes, TablesStaySound, OthersStay, AffectedAreListed};
+ghost use Rattle.desk_model.specs.Laws.{BaseSubstances};
 
 use crate::{
     CandidateRow, ExemptionRow, LineRow, MaterialRow, MemberRow, PartRow, ProductRow, ShipmentRow,
@@ -31,95 +31,7 @@ pub fn rows_have_their_keys()
     ensures tickets { ⟦<Bytes as Ord>⟧.cmp ≡ code_cmp }
 {}
 
-/// On sound tables the recursions over the bill of materials come to the same at any greater depth.
-pub fn depth_is_enough()
-    ensures { DepthIsEnough }
-{}
-
-/// On sound tables a part reaches the children of its lines, what these reach, and nothing else.
-pub fn reaches_by_lines()
-    ensures { ReachesByLines }
-{}
-
-/// On sound tables the mass of a code is its own and, for each line, count times the child's mass.
-pub fn mass_by_lines()
-    ensures { MassByLines }
-{}
-
-/// On sound tables what a code carries is its own load and, for each line, count times what the child carries.
-pub fn carried_by_lines()
-    ensures { CarriedByLines }
-{}
-
-/// On sound tables a chain is the part alone, or the part and the chain of its next child.
-pub fn chain_by_next()
-    ensures { ChainByNext }
-{}
-
-/// On sound tables a stored value that is right by the values stored at the children is what rolls up.
-pub fn stored_roll_up_is_right()
-    ensures { StoredRollUpIsRight }
-{}
-
-/// On sound tables a stored mark that is right by the marks stored at the children says whether a part reaches the target.
-pub fn stored_mark_is_right()
-    ensures { StoredMarkIsRight }
-{}
-
-/// On sound tables a chain begins with the part, goes from line to line, and ends with the target exactly where the part is
-/// it or reaches it.
-pub fn chain_leads()
-    ensures { ChainLeads }
-{}
-
-/// The next child of a chain, the part that is told to be too heavy and the year that is have the least code or number of all
-/// that might be taken.
-pub fn firsts_are_least()
-    ensures { FirstsAreLeast }
-{}
-
-/// On sound tables what a part carries of a substance never exceeds its mass.
-pub fn carried_within_mass()
-    ensures { CarriedWithinMass }
-{}
-
-/// A refused edit changes nothing, and neither does a repeated one, which gets its kept number.
-pub fn only_new_edits_change()
-    ensures { OnlyNewEditsChange }
-{}
-
-/// An edit that isn't kept is refused by the first rule that it breaks, with that rule's values, and by nothing else.
-pub fn refusals_are_told()
-    ensures { RefusalsAreTold }
-{}
-
-/// An accepted edit gets the next number, is kept with it from then on, and adds one ticket.
-pub fn accepted_edits_are_kept()
-    ensures { AcceptedEditsAreKept }
-{}
-
-/// Ticket numbers stay 1 to n, each once, through every step.
-pub fn numbers_stay_whole()
-    ensures { NumbersStayWhole }
-{}
-
-/// Each number of a history names one beginning of it and no other, which is a history of that number.
-pub fn numbers_name_prefixes()
-    ensures { NumbersNamePrefixes }
-{}
-
-/// The start tables are sound, a step keeps tables sound, and a history leaves sound tables.
-pub fn tables_stay_sound()
-    ensures { TablesStaySound }
-{}
-
-/// A material or part that an accepted edit doesn't affect weighs, reaches, carries and is found to have what it did, by
-/// the same chains; a part has its lines, and a material is the same, with the same share for each rule.
-pub fn others_stay()
-    ensures { OthersStay }
-{}
-
-/// Each kept material and part that an accepted edit affects is listed once, and nothing else is.
-pub fn affected_are_listed()
-    ensures { AffectedAreListed }
+/// The substances of the start tables are those that have a rule's code, each a member of its own rule.
+pub fn base_substances_are_those_of_rules()
+    ensures { BaseSubstances }
 {}

@@ -6,6 +6,8 @@ mod copy_tests;
 mod decl_error;
 mod declaration;
 mod edit;
+mod edit_form;
+mod edit_text;
 mod enter;
 pub mod examples;
 mod exemption;
@@ -20,6 +22,9 @@ mod rule_fault;
 mod substance_mass;
 #[cfg(test)]
 mod tests;
+pub mod text_laws;
+#[cfg(test)]
+mod text_tests;
 mod within;
 
 pub use decl_error::DeclError;
@@ -36,4 +41,4 @@ pub use rows::{
 };
 pub use rule_fault::RuleFault;
 pub use substance_mass::SubstanceMass;
-pub use within::{Count, Factor, Units, Within, Year};
+pub use within::{Count, Factor, Units, Within, Year, count_of, factor_of, units_of, year_of};

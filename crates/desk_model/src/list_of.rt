@@ -1,7 +1,7 @@
 ghost use Rattle.std.specs.Prelude.{◌≡◌, ◌≢◌, Err, IfErr, IfOk, Ok, OnErr, OnOk};
 ghost use Rattle.desk_rows.specs.Rows.{IsByKey};
-ghost use Rattle.desk_model.specs.Content.{claim_cmp};
-ghost use Rattle.desk_model.specs.Declaring.{entered};
+ghost use Rattle.desk_law.specs.Claim.{claim_cmp};
+ghost use Rattle.desk_model.specs.Declaring.{with_new};
 
 use crate::DeclError;
 use crate::enter::{enter, enter_claim};
@@ -69,9 +69,9 @@ impl<R: Keyed> ListOf<R> {
     /// Puts the new row into its place, unless its key is there or the list is full.
     pub(crate) fn enter(&mut self, new: R, limit: usize) -> Result<(), DeclError>
         requires { IsByKey R.key R.Key.cmp self.old }
-        ensures ok { OnOk result (entered R.key R.Key.cmp limit new self.old ≡ Ok self.new) }
+        ensures ok { OnOk result (with_new R.key R.Key.cmp limit new self.old ≡ Ok self.new) }
         ensures error { IfErr result (λ e. e ≢ DeclError.OutOfMemory
-            → entered R.key R.Key.cmp limit new self.old ≡ Err e) }
+            → with_new R.key R.Key.cmp limit new self.old ≡ Err e) }
         ensures err { OnErr result (self.new ≡ self.old) }
     {
         enter(&mut self.items, new, limit)
@@ -82,9 +82,9 @@ impl ListOf<Claim> {
     /// Puts the new claim into its place, unless it is there or there are as many as a material may have.
     pub(crate) fn enter_claim(&mut self, new: Claim) -> Result<(), DeclError>
         requires { IsByKey (λ claim. claim) claim_cmp self.old }
-        ensures ok { OnOk result (entered (λ claim. claim) claim_cmp CLAIM_LIMIT new self.old ≡ Ok self.new) }
+        ensures ok { OnOk result (with_new (λ claim. claim) claim_cmp CLAIM_LIMIT new self.old ≡ Ok self.new) }
         ensures error { IfErr result (λ e. e ≢ DeclError.OutOfMemory
-            → entered (λ claim. claim) claim_cmp CLAIM_LIMIT new self.old ≡ Err e) }
+            → with_new (λ claim. claim) claim_cmp CLAIM_LIMIT new self.old ≡ Err e) }
         ensures err { OnErr result (self.new ≡ self.old) }
     {
         enter_claim(&mut self.items, new)

@@ -1,5 +1,6 @@
-ghost use Rattle.std.specs.Prelude.{◌≡◌, sum_by};
+ghost use Rattle.std.specs.Prelude.{◌≡◌, sum_by, true};
 ghost use Rattle.desk_model.specs.Content.{holds_too_much};
+ghost use Rattle.desk_model.specs.Declaration.{is_material_in_form};
 ghost use Rattle.desk_model.specs.Declaring.{empty_material};
 
 use crate::{ListOf, SubstanceMass};
@@ -27,8 +28,12 @@ pub struct MaterialDecl {
 impl MaterialDecl {
     /// A material of this mass in micrograms that holds nothing yet. It takes no memory beyond its name.
     pub fn empty(alloc: Global, code: Code, name: Name, mass: u64) -> MaterialDecl
-        ensures { result ≡ empty_material code name mass }
+        ensures value { result ≡ empty_material code name mass }
+        ensures form { is_material_in_form result ≡ true }
     {
+        // What is kept is of its form: these calls do nothing but say so.
+        code.as_bytes();
+        name.as_bytes();
         MaterialDecl {
             code,
             name,

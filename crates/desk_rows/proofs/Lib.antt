@@ -1,4 +1,6 @@
 pub mod Order
+pub mod Runs
 pub mod Search
+pub mod Sums
 pub mod Edits
 pub mod Lookups

@@ -6,16 +6,16 @@ use std::test::Fail;
 
 #[derive(Clone, Copy, Debug, PartialEq, Eq)]
 struct Price {
-    item: u8,
+    item: u16,
     cents: u32,
 }
 
 impl Keyed for Price {
-    type Key = u8;
+    type Key = u16;
 
     ghost key = { λ row. row.item };
 
-    fn compare(&self, sought: &u8) -> Ordering {
+    fn compare(&self, sought: &u16) -> Ordering {
         self.item.cmp(sought)
     }
 
@@ -28,7 +28,7 @@ impl Keyed for Price {
     }
 }
 
-fn cost(item: u8, cents: u32) -> Price {
+fn cost(item: u16, cents: u32) -> Price {
     Price { item, cents }
 }
 
@@ -103,6 +103,23 @@ fn a_copy_has_the_same_rows(rt: HostRuntime) -> Result<(), Fail> {
     let table = three_prices(alloc)?;
     let copy = table.copied(alloc)?;
     assert_eq!(rt; copy.as_slice(), table.as_slice());
+    Ok(())
+}
+
+#[test]
+fn thousands_of_rows_go_in_and_are_copied(rt: HostRuntime) -> Result<(), Fail> {
+    let alloc = rt.alloc();
+    let mut table = Table::new(alloc);
+    let mut more = Vec::new(alloc);
+    for item in 0..2_000 {
+        table.put(cost(item, 10))?;
+        more.push(cost(2_000 + item, 20))?;
+    }
+    table.put_all(more)?;
+    let copy = table.copied(alloc)?;
+    assert_eq!(rt; copy.as_slice().len(), 4_000);
+    assert_eq!(rt; copy.get(&1_999), Some(&cost(1_999, 10)));
+    assert_eq!(rt; copy.get(&3_999), Some(&cost(3_999, 20)));
     Ok(())
 }
 

@@ -14,7 +14,7 @@ use Rattle.desk_law.specs.declared.rule.Rule.TheVariants.{Lead, Mercury, Cadmium
 use Rattle.desk_law.specs.Rule.{all_rules, rule_code, rule_number, same_rule}
 use Rattle.desk_model.specs.declared.limits.TheConstants.{WHOLE_FACTOR}
 use Rattle.desk_model.specs.Lists.{member_key, member_key_cmp}
-use Rattle.desk_model.specs.Share.{factor_of}
+use Rattle.desk_findings.specs.Share.{factor_of}
 use Rattle.desk_model.specs.Start.{base_member, rules_by_code, start}
 use Rattle.desk_rows.specs.Rows.{row_of}
 

@@ -15,8 +15,8 @@ use Rattle.desk_model.specs.declared.rows.material.MaterialRow.{MaterialRow}
 use Rattle.desk_model.specs.Declaration.{Declared}
 use Rattle.desk_model.specs.Effect.{declared_row}
 use Rattle.desk_model.specs.Lists.{Lists}
-use Rattle.desk_model.specs.Share.{share}
-use Rattle.desk_model.specs.Verdicts.{terms_of, verdict_on}
+use Rattle.desk_findings.specs.Share.{share}
+use Rattle.desk_findings.specs.Verdicts.{terms_of, verdict_on}
 use Rattle.desk_scratch.specs.CheckText.{EndsIn, check_line, check_text, compliance_line, some_breach}
 use Rattle.desk_scratch.specs.MaterialBlock.{material_block, material_line, material_line_with, rule_line, rule_line_with, verdict_words}
 

@@ -8,7 +8,7 @@ use Rattle.desk_law.specs.declared.verdict.Verdict.TheVariants.{Within, NotInFor
 use Rattle.desk_law.specs.Rule.{all_rules}
 use Rattle.desk_model.specs.declared.rows.material.MaterialRow.{MaterialRow}
 use Rattle.desk_model.specs.Lists.{Lists}
-use Rattle.desk_model.specs.Verdicts.{verdict_on}
+use Rattle.desk_findings.specs.Verdicts.{verdict_on}
 
 -- the verdict is a breach, and none of the other three
 abbrev pub is_breach : Verdict → Bool

@@ -12,8 +12,8 @@ use Rattle.desk_law.specs.Limit.{limit_of}
 use Rattle.desk_law.specs.Rule.{all_rules, rule_code}
 use Rattle.desk_model.specs.declared.rows.material.MaterialRow.{MaterialRow}
 use Rattle.desk_model.specs.Lists.{Lists}
-use Rattle.desk_model.specs.Share.{share}
-use Rattle.desk_model.specs.Verdicts.{terms_of, verdict_on}
+use Rattle.desk_findings.specs.Share.{share}
+use Rattle.desk_findings.specs.Verdicts.{terms_of, verdict_on}
 
 -- the row that an exemption names; a verdict names no place past the rows
 abbrev pub exempt_words : Option Terms → List ℕ

@@ -6,7 +6,7 @@ ghost use Rattle.desk_model.specs.Content.{is_content};
 ghost use Rattle.desk_model.specs.Declaration.{Declared};
 ghost use Rattle.desk_model.specs.Start.{start};
 ghost use Rattle.desk_model.specs.Effect.{declared_row};
-ghost use Rattle.desk_model.specs.Verdicts.{verdict_on};
+ghost use Rattle.desk_findings.specs.Verdicts.{verdict_on};
 ghost use Rattle.desk_scratch.specs.Judgement.{has_breach, is_breach};
 ghost use Rattle.desk_scratch.specs.MaterialBlock.{material_block, material_line_with, rule_line, rule_line_with, verdict_words};
 

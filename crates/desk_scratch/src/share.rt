@@ -1,6 +1,6 @@
 ghost use Rattle.std.specs.Prelude.{◌≡◌, ◌*◌, ◌≤◌, length, sum_by};
 ghost use Rattle.desk_model.specs.declared.limits.TheConstants.{CONTENT_LIMIT};
-ghost use Rattle.desk_model.specs.Share.{factor_of};
+ghost use Rattle.desk_findings.specs.Share.{factor_of};
 ghost use Rattle.desk_model.specs.Start.{start};
 
 use desk_law::Rule;

@@ -4,6 +4,7 @@ pub mod DayLemmas
 pub mod DayTextLemmas
 pub mod DigitLemmas
 pub mod FieldLemmas
+pub mod Fields
 pub mod NameLemmas
 pub mod NumberLemmas
 pub mod NumberTextLemmas

@@ -2,6 +2,7 @@ pub mod Cas
 pub mod Civil
 pub mod Code
 pub mod Day
+pub mod Faults
 pub mod Name
 pub mod Number
 pub mod Padding

@@ -33,6 +33,11 @@ impl Bytes {
         }
     }
 
+    /// The allocator of which the list takes its memory.
+    pub fn allocator(&self) -> &Global {
+        self.list.allocator()
+    }
+
     /// Appends all the bytes, or changes nothing.
     pub fn push_all(&mut self, bytes: &[u8]) -> Result<(), OutOfMemory>
         ensures ok { OnOk result (self.new ≡ self.old ++ bytes.now) }

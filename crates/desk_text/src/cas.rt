@@ -122,6 +122,11 @@ impl fmt::Display for Cas {
 }
 
 impl fmt::Display for CasFault {
+    ghost use Rattle.std.specs.Prelude.{Some};
+    ghost use Rattle.desk_text.specs.Faults.{cas_fault_words};
+
+    ghost output = { λ fault. Some (cas_fault_words fault) };
+
     fn fmt<W: fmt::Write>(&self, f: &mut fmt::Formatter<W>) -> fmt::Result {
         f.write_str(match self {
             CasFault::Shape => "not the form of a CAS number",

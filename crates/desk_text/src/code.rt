@@ -90,6 +90,11 @@ impl fmt::Display for Code {
 }
 
 impl fmt::Display for CodeFault {
+    ghost use Rattle.std.specs.Prelude.{Some};
+    ghost use Rattle.desk_text.specs.Faults.{code_fault_words};
+
+    ghost output = { λ fault. Some (code_fault_words fault) };
+
     fn fmt<W: fmt::Write>(&self, f: &mut fmt::Formatter<W>) -> fmt::Result {
         match self {
             CodeFault::Empty => f.write_str("no byte"),

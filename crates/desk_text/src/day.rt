@@ -1,4 +1,4 @@
-ghost use Rattle.std.specs.Prelude.{◌≡◌, ◌+◌, ◌%◌, ◌≤◌, pos, IsTrue, Some, None, if◌then◌else◌};
+ghost use Rattle.std.specs.Prelude.{◌≡◌, ◌+◌, ◌%◌, ◌≤◌, true, pos, IsTrue, Some, None, if◌then◌else◌};
 ghost use Rattle.jiff.specs.Words.{IsBetween};
 ghost use Rattle.desk_text.specs.Civil.{date_from_civil};
 ghost use Rattle.desk_text.specs.Day.{is_calendar_date, is_in_profile, date_text, months_after};
@@ -89,7 +89,8 @@ impl Day {
 
     /// The year, from 2000 to 2099.
     pub fn year(self) -> u16
-        ensures { result ≡ self.year }
+        ensures value { result ≡ self.year }
+        ensures form { is_day self ≡ true }
     {
         self.year
     }
@@ -205,6 +206,11 @@ impl fmt::Display for Day {
 }
 
 impl fmt::Display for DayFault {
+    ghost use Rattle.std.specs.Prelude.{Some};
+    ghost use Rattle.desk_text.specs.Faults.{day_fault_words};
+
+    ghost output = { λ fault. Some (day_fault_words fault) };
+
     fn fmt<W: fmt::Write>(&self, f: &mut fmt::Formatter<W>) -> fmt::Result {
         f.write_str(match self {
             DayFault::Shape => "not a day as YYYY-MM-DD",

@@ -9,6 +9,11 @@ use std::fmt;
 pub struct OutOfMemory;
 
 impl fmt::Display for OutOfMemory {
+    ghost use Rattle.std.specs.Prelude.{Some};
+    ghost use Rattle.desk_text.specs.Faults.{memory_words};
+
+    ghost output = { λ _. Some memory_words };
+
     fn fmt<W: fmt::Write>(&self, f: &mut fmt::Formatter<W>) -> fmt::Result {
         f.write_str("out of memory")
     }

@@ -51,10 +51,12 @@ pub enum NameFault {
 impl Name {
     ghost use Rattle.desk_text.specs.Name.{name_of};
 
-    /// The name that these bytes spell. The faults are tried in the order in which `NameFault` lists them.
+    /// The name that these bytes spell. The faults are tried in the order in which `NameFault` lists them, so that
+    /// memory is wanting only for bytes that are a name.
     #[tactic(auto, unfolding(crate::specs::Name::name_of))]
     pub fn read(alloc: Global, bytes: &[u8]) -> Result<Name, NameFault>
-        ensures { result ≢ Err NameFault.OutOfMemory → result ≡ name_of bytes.now }
+        ensures name { result ≢ Err NameFault.OutOfMemory → result ≡ name_of bytes.now }
+        ensures memory { result ≡ Err NameFault.OutOfMemory → name_of bytes.now ≡ Ok bytes.now }
     {
         if bytes.is_empty() {
             return Err(NameFault::Empty);
@@ -154,6 +156,11 @@ impl From<AllocError> for NameFault {
 }
 
 impl fmt::Display for NameFault {
+    ghost use Rattle.std.specs.Prelude.{Some};
+    ghost use Rattle.desk_text.specs.Faults.{name_fault_words};
+
+    ghost output = { λ fault. Some (name_fault_words fault) };
+
     fn fmt<W: fmt::Write>(&self, f: &mut fmt::Formatter<W>) -> fmt::Result {
         f.write_str(match self {
             NameFault::Empty => "no byte",

@@ -87,6 +87,11 @@ pub(crate) fn short_value_of(digits: &[u8]) -> u16
 }
 
 impl fmt::Display for NumberFault {
+    ghost use Rattle.std.specs.Prelude.{Some};
+    ghost use Rattle.desk_text.specs.Faults.{number_fault_words};
+
+    ghost output = { λ fault. Some (number_fault_words fault) };
+
     fn fmt<W: fmt::Write>(&self, f: &mut fmt::Formatter<W>) -> fmt::Result {
         f.write_str(match self {
             NumberFault::Shape => "not a number",

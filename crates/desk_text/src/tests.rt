@@ -269,6 +269,21 @@ fn numbers_are_appended_in_decimal(rt: HostRuntime) -> Result<(), Fail> {
 }
 
 #[test]
+fn what_takes_memory_takes_it_for_long_texts(rt: HostRuntime) -> Result<(), Fail> {
+    let alloc = rt.alloc();
+    let long = vec![in alloc; b'x'; 70_000]?;
+    let mut out = Bytes::start(alloc);
+    out.push_all(&long)?;
+    out.push_all(&long)?;
+    push_u128(&mut out, u128::MAX)?;
+    assert_eq!(rt; out.len(), 140_039);
+    assert!(rt; out.copied(alloc)? == out);
+    let name = Name::read(alloc, &long_name(alloc, 200, b"")?)?;
+    assert_eq!(rt; name.clone()?.as_bytes().len(), 200);
+    Ok(())
+}
+
+#[test]
 fn bytes_are_ordered_as_texts_are(rt: HostRuntime) -> Result<(), Fail> {
     for (first, second) in [("", "a"), ("a", "ab"), ("ab", "b"), ("Z", "a")] {
         let first = Bytes::from(first.as_bytes().to_vec(rt.alloc())?);

@@ -1,13 +1,15 @@
 -- What the program answers: how it ends, and all that it writes.
 use Rattle.std.specs.Prelude.{◌≡◌, ℕ, ◌⊎◌, if◌then◌else◌, ◌==◌, List, codes, Option, None, Some, Result, Ok, Err}
-use Rattle.std.specs.Io.KnownBytes.{Appends}
-use Rattle.desk_edge.specs.Transfer.{AppendsBeginning}
+use Rattle.std.specs.Io.KnownBytes.{Appends, Keeps}
+use Rattle.desk_edge.specs.Transfer.{AppendsBeginning, AppendsPart}
 use Rattle.desk_top.specs.Check.{checked}
 use Rattle.desk_top.specs.declared.command.Check.{Check}
 use Rattle.desk_top.specs.declared.refusal.Refusal.{Refusal}
 use Rattle.desk_top.specs.declared.refusal.Refusal.TheVariants.{InputTooLong, NotADeclaration}
 use Rattle.desk_top.specs.declared.status.Status.{Status}
 use Rattle.desk_top.specs.declared.status.Status.TheVariants.{Done, BadWords, ConsoleFault, Refused, OutOfMemory}
+use Rattle.desk_top.specs.declared.words.WordsFault.{WordsFault}
+use Rattle.desk_top.specs.declared.words.WordsFault.TheVariants as unread
 
 -- the exit statuses by number; there are no others
 abbrev pub status_code : Status → ℕ
@@ -36,6 +38,20 @@ answer_of_check (Err refusal) = record { status = Refused; text = refusal_line r
 abbrev pub answer_to_other_words : Answer
 answer_to_other_words = record { status = BadWords; text = codes "desk: words\n" }
 
+-- the answer where there was no memory
+abbrev pub answer_without_memory : Answer
+answer_without_memory = record { status = OutOfMemory; text = codes "desk: memory\n" }
+
+-- the answer to words that weren't read: words that are no text are no command
+abbrev pub answer_to_unread_words : WordsFault → Answer
+answer_to_unread_words unread.NotText = answer_to_other_words
+answer_to_unread_words unread.OutOfMemory = answer_without_memory
+
+-- the bytes are those that a console has left, where it tells them, and any bytes where it doesn't
+abbrev pub IsInput : Option (List ℕ) → List ℕ → Type 0
+IsInput None input = Unit {0}
+IsInput (Some told) input = input ≡ told
+
 -- the answer to a command for the bytes that come
 abbrev pub answer_to : Option Check → List ℕ → Answer
 answer_to None bytes = answer_to_other_words
@@ -43,7 +59,7 @@ answer_to (Some check) bytes = answer_of_check (checked check bytes)
 
 -- what is written where the program ends with this status: the answer's text, or the line that memory was wanting
 abbrev pub text_with : ℕ → Answer → List ℕ
-text_with ended answer = if ended == status_code OutOfMemory then codes "desk: memory\n" else answer.text
+text_with ended answer = if ended == status_code OutOfMemory then answer_without_memory.text else answer.text
 
 -- the program ended with this status, and made the old output the new one, as the answer says: or it
 -- met a fault of the console, or had no memory
@@ -55,3 +71,5 @@ pub record Answers (answer : Answer) (ended : ℕ) (old new : Option (List ℕ))
   pub steady : (rose → ⊥) → Appends old new (text_with ended answer)
   -- whatever happened, what was written is a beginning of that, and nothing else
   pub beginning : AppendsBeginning old new (text_with ended answer)
+  -- a fault of the console is told where nothing was written, or where the text of a success was written in part
+  pub fault : ended ≡ status_code ConsoleFault → Keeps old new ⊎ ((answer.status ≡ Done) × AppendsPart old new answer.text)

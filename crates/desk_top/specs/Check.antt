@@ -1,6 +1,8 @@
 -- What `check` writes for the bytes of a declaration.
 use Rattle.std.specs.Prelude.{◌≡◌, ℕ, if◌then◌else◌, nat_lt, List, length, Result, Ok, Err}
 use Rattle.desk_model.specs.Declaration.{Declared}
+use Rattle.desk_model.specs.declared.edit.Edit.TheVariants.{Declare}
+use Rattle.desk_model.specs.Effect.{entered}
 use Rattle.desk_model.specs.Start.{start}
 use Rattle.desk_declare.specs.Declaration.{declaration_of}
 use Rattle.desk_declare.specs.declared.read.DeclareFault.{DeclareFault}
@@ -15,9 +17,9 @@ use Rattle.desk_top.specs.declared.refusal.Refusal.TheVariants.{InputTooLong, No
 abbrev pub input_limit : ℕ
 input_limit = 65536
 
--- the text on a declaration that was read, or that the bytes are none
+-- the text on a declaration that was read, over the start tables after it, or that the bytes are none
 abbrev pub text_or_refusal : Check → Result Declared DeclareFault → Result (List ℕ) Refusal
-text_or_refusal check (Ok d) = Ok (check_text start check.kind check.day d)
+text_or_refusal check (Ok d) = Ok (check_text (entered start (Declare d)) check.kind check.day d)
 text_or_refusal check (Err fault) = Err NotADeclaration
 
 -- the text for the bytes of an input, or why there is none

@@ -1,13 +1,16 @@
-ghost use Rattle.std.specs.Prelude.{◌≡◌, ◌≢◌, ◌+◌, ◌≤◌, List, ℕ, length, true, IfSome, OnOk, IsErrOf, Err};
+ghost use Rattle.std.specs.Prelude.{◌≡◌, ◌≢◌, ◌+◌, ◌≤◌, List, ℕ, length, true, OnOk, IsErrOf, Err, Some};
 ghost use Rattle.std.specs.Io.KnownBytes.{Consumes, IsAtEnd};
 ghost use Rattle.desk_text.specs.Day.{is_askable};
 ghost use Rattle.desk_edge.specs.Faults.{Rose};
+ghost use Rattle.desk_top.specs.Answer.{Answers, IsInput, answer_to, status_code};
 ghost use Rattle.desk_top.specs.Check.{Agrees, checked, input_limit};
 
 use crate::command::Check;
 use crate::refusal::Refusal;
+use crate::status::Status;
+use crate::tell::{answer_no_memory, tell};
 use desk_declare::{DeclareFault, read_declaration};
-use desk_edge::{Link, ReadFault, read_up_to};
+use desk_edge::{Link, ReadFault, read_up_to, write_all};
 use desk_scratch::{Asked, check_text};
 use desk_text::{Bytes, OutOfMemory};
 use std::alloc::Global;
@@ -65,6 +68,34 @@ impl From<OutOfMemory> for CheckFault {
     }
 }
 
+/// Reads a declaration from the console and writes the answer to `check`.
+///
+/// It has no runtime, so it waits for nobody but the console's own calls, and returns.
+pub fn answer_check<L: Link>(alloc: Global, check: &Check, console: &mut L) -> Status
+    requires { is_askable check.now.day ≡ true }
+    ensures words { result ≢ Status.BadWords }
+    ensures console_fault { result ≡ Status.ConsoleFault → Rose (L.faults console.old) (L.faults console.new) }
+    ensures end { result ≡ Status.Done → IsAtEnd (L.unread console.new) }
+    ensures no_fault { result ≡ Status.Done → L.faults console.new ≡ L.faults console.old }
+    ensures answer { (input : List ℕ) × IsInput (L.unread console.old) input
+        × Answers (answer_to (Some check.now) input) (status_code result)
+        (L.written console.old) (L.written console.new) (Rose (L.faults console.old) (L.faults console.new)) }
+    ensures taken { (bytes : List ℕ) × Consumes (L.unread console.old) (L.unread console.new) bytes × (length bytes ≤ input_limit + 1) }
+    ensures fault_taken { result ≡ Status.ConsoleFault →
+        (bytes : List ℕ) × Consumes (L.unread console.old) (L.unread console.new) bytes × (length bytes ≤ input_limit) }
+    ensures never_falls { L.faults console.old ≤ L.faults console.new }
+{
+    match check_input(alloc, check, console) {
+        Ok(text) => match write_all(console, text.as_slice()) {
+            Ok(()) => Status::Done,
+            Err(_) => Status::ConsoleFault,
+        },
+        Err(CheckFault::Refused(refusal)) => tell(console, Status::Refused, refusal.line()),
+        Err(CheckFault::Failed) => Status::ConsoleFault,
+        Err(CheckFault::OutOfMemory) => answer_no_memory(console),
+    }
+}
+
 /// The answer to `check` for the bytes that the console gives. After an error nothing was written.
 pub fn check_input<L: Link>(
     alloc: Global,
@@ -72,10 +103,13 @@ pub fn check_input<L: Link>(
     console: &mut L,
 ) -> Result<Bytes, CheckFault>
     requires { is_askable check.now.day ≡ true }
-    ensures answer { result ≢ Err CheckFault.Failed →
-        IfSome (L.unread console.old) (λ bytes. Agrees result (checked check.now bytes)) }
+    ensures answer { (input : List ℕ) × IsInput (L.unread console.old) input
+        × (result ≢ Err CheckFault.Failed → Agrees result (checked check.now input)) }
     ensures end { OnOk result (IsAtEnd (L.unread console.new)) }
     ensures taken { (bytes : List ℕ) × Consumes (L.unread console.old) (L.unread console.new) bytes × (length bytes ≤ input_limit + 1) }
+    ensures within { OnOk result ((bytes : List ℕ) × Consumes (L.unread console.old) (L.unread console.new) bytes × (length bytes ≤ input_limit)) }
+    ensures failed_within { IsErrOf result CheckFault.Failed →
+        (bytes : List ℕ) × Consumes (L.unread console.old) (L.unread console.new) bytes × (length bytes ≤ input_limit) }
     ensures output_stays { L.written console.new ≡ L.written console.old }
     ensures never_falls { L.faults console.old ≤ L.faults console.new }
     ensures steady { result ≢ Err CheckFault.Failed → L.faults console.new ≡ L.faults console.old }

@@ -1,9 +1,11 @@
 ghost use Rattle.std.specs.Prelude.{◌≤◌};
 
-use crate::run::run;
+use crate::run::{launch, run};
+use crate::words::{WordsFault, words};
 use desk_edge::MemoryLink;
 use desk_text::Bytes;
 use std::alloc::Global;
+use std::env::{Env, FillError};
 use std::sync::Wait;
 use std::test::Fail;
 use std::thread::Threads;
@@ -22,12 +24,22 @@ fn outcome<R: Wait + Sync + Threads>(
 ) -> Result<(u8, Vec<u8>), Fail>
     requires { 1 ≤ piece }
 {
+    let input = Bytes::from(input.to_vec(alloc)?);
+    let console = MemoryLink::new(alloc, input, piece, ROOM, failing.to_vec(alloc)?)?;
+    outcome_over(rt, alloc, words, console)
+}
+
+// The status for these words over this console, and what was written.
+fn outcome_over<R: Wait + Sync + Threads>(
+    rt: &R,
+    alloc: Global,
+    words: &[&str],
+    mut console: MemoryLink,
+) -> Result<(u8, Vec<u8>), Fail> {
     let mut list = Vec::new(alloc);
     for word in words {
         list.push(word.to_string(alloc)?)?;
     }
-    let input = Bytes::from(input.to_vec(alloc)?);
-    let mut console = MemoryLink::new(alloc, input, piece, ROOM, failing.to_vec(alloc)?)?;
     let status = run(rt, alloc, &list, &mut console);
     Ok((status, console.written().to_vec(alloc)?))
 }
@@ -37,6 +49,8 @@ const HEAD: &[u8] = b"D,1,ACME,7,2024-01-23";
 const ANSWER: &str = "check 2024-01-23 kind 3 supplier ACME declaration 7\ncompliant\n";
 
 const NO_DECLARATION: &str = "bad-declaration not-a-declaration\n";
+
+const TOO_LONG: &str = "refused input-too-long\n";
 
 #[test]
 fn check_answers_a_declaration_however_it_is_cut(rt: HostRuntime) -> Result<(), Fail> {
@@ -101,8 +115,8 @@ fn check_reads_65536_bytes_and_no_more(rt: HostRuntime) -> Result<(), Fail> {
     let mut input = HEAD.to_vec(rt.alloc())?;
     for (length, status, line) in [
         (65_536, 0, ANSWER),
-        (65_537, 6, "refused input-too-long\n"),
-        (70_000, 6, "refused input-too-long\n"),
+        (65_537, 6, TOO_LONG),
+        (70_000, 6, TOO_LONG),
     ] {
         input.resize(length, b'\n')?;
         let (ended, text) = outcome(&rt, rt.alloc(), &words, input.as_slice(), 100_000, &[])?;
@@ -145,19 +159,117 @@ fn other_words_are_no_command_line(rt: HostRuntime) -> Result<(), Fail> {
     Ok(())
 }
 
-#[test]
-fn a_console_that_fails_ends_the_check(rt: HostRuntime) -> Result<(), Fail> {
-    let words = ["check", "2024-01-23", "3"];
-    for piece in [1, 100_000] {
-        let (status, text) = outcome(&rt, rt.alloc(), &words, HEAD, piece, &[2])?;
-        assert_eq!(rt; status, 3);
-        assert!(rt; text.is_empty());
+// Whether a check that reads its input in so many calls, and then writes once, ends as it should where
+// each of its calls fails in turn: with 3 and nothing written at a read, with 3 in place of 0 and
+// nothing written at the write, and as meant where a call fails that it doesn't make.
+fn ends_well<R: Wait + Sync + Threads>(
+    rt: &R,
+    alloc: Global,
+    input: &[u8],
+    piece: usize,
+    reads: u32,
+    meant: u8,
+    text: &str,
+) -> Result<bool, Fail>
+    requires { 1 ≤ piece }
+{
+    let reads = u64::from(reads);
+    for call in 1..reads + 3 {
+        let words = ["check", "2024-01-23", "3"];
+        let (status, written) = outcome(rt, alloc, &words, input, piece, &[call])?;
+        let is_heard = call > reads + 1;
+        let is_fault = call <= reads || (meant == 0 && !is_heard);
+        let is_written = if is_heard {
+            written.as_slice() == text.as_bytes()
+        } else {
+            written.is_empty()
+        };
+        if !is_written || status != if is_fault { 3 } else { meant } {
+            return Ok(false);
+        }
     }
-    // The third call is the write: of the answer, or of the line of a refusal.
-    let (status, _) = outcome(&rt, rt.alloc(), &words, HEAD, 100_000, &[3])?;
-    assert_eq!(rt; status, 3);
-    let (refused, _) = outcome(&rt, rt.alloc(), &words, b"x", 100_000, &[3])?;
-    assert_eq!(rt; refused, 6);
+    Ok(true)
+}
+
+#[test]
+fn each_call_of_the_console_may_fail(rt: HostRuntime) -> Result<(), Fail> {
+    let alloc = rt.alloc();
+    let long = vec![in alloc; b'\n'; 65_537]?;
+    assert!(rt; ends_well(&rt, alloc, HEAD, 100_000, 2, 0, ANSWER)?);
+    assert!(rt; ends_well(&rt, alloc, HEAD, 1, 22, 0, ANSWER)?);
+    assert!(rt; ends_well(&rt, alloc, b"x", 1, 2, 6, NO_DECLARATION)?);
+    assert!(rt; ends_well(&rt, alloc, long.as_slice(), 100_000, 9, 6, TOO_LONG)?);
+    Ok(())
+}
+
+#[test]
+fn a_line_that_is_cut_short_changes_no_status(rt: HostRuntime) -> Result<(), Fail> {
+    let alloc = rt.alloc();
+    let check = ["check", "2024-01-23", "3"].as_slice();
+    for (words, input, status, written) in [
+        (check, HEAD, 3, "chec"),
+        (check, b"x", 6, "bad-"),
+        (["fly"].as_slice(), b"x", 2, "desk"),
+    ] {
+        let input = Bytes::from(input.to_vec(alloc)?);
+        let console = MemoryLink::new(alloc, input, 64, 4, Vec::new(alloc))?;
+        let (ended, text) = outcome_over(&rt, alloc, words, console)?;
+        assert_eq!(rt; ended, status, "where {written} is written");
+        assert_eq!(rt; text.as_slice(), written.as_bytes());
+    }
+    Ok(())
+}
+
+// An environment of three words, of which the last may be no text.
+#[derive(Drop)]
+struct ThreeWords {
+    last: u8,
+}
+
+impl Env for ThreeWords {
+    fn arg(&self, i: usize, buf: &mut [u8]) -> Result<usize, FillError> {
+        if i > 2 {
+            return Err(FillError::NotPresent);
+        }
+        match buf.first_mut() {
+            Some(first) => {
+                *first = if i == 2 { self.last } else { b'w' };
+                Ok(1)
+            }
+            None => Err(FillError::TooLong),
+        }
+    }
+
+    fn var(&self, _name: &str, _buf: &mut [u8]) -> Result<usize, FillError> {
+        Err(FillError::NotPresent)
+    }
+
+    fn var_at(&self, _i: usize, _buf: &mut [u8]) -> Result<usize, FillError> {
+        Err(FillError::NotPresent)
+    }
+}
+
+#[test]
+fn words_that_are_no_text_are_no_command_line(rt: HostRuntime) -> Result<(), Fail> {
+    let alloc = rt.alloc();
+    let read = words(&(ThreeWords { last: b'x' }, alloc))
+        .ok()
+        .ok_or("a fault")?;
+    let found = format!(in alloc; "{read:?}")?;
+    assert_eq!(rt; found.as_str(), "[\"w\", \"x\"]");
+
+    let unread = words(&(ThreeWords { last: 0xff }, alloc));
+    assert!(rt; matches!(unread, Err(WordsFault::NotText)));
+    for (words, status, line) in [
+        (unread, 2, "desk: words\n"),
+        (Err(WordsFault::OutOfMemory), 8, "desk: memory\n"),
+        (Ok(Vec::new(alloc)), 2, "desk: words\n"),
+    ] {
+        let mut console = MemoryLink::new(alloc, Bytes::start(alloc), 1, 64, Vec::new(alloc))?;
+        let ended = launch(&rt, alloc, words, &mut console);
+        assert_eq!(rt; ended, status);
+        assert_eq!(rt; console.written(), line.as_bytes());
+    }
     Ok(())
 }
 
@@ -312,8 +424,11 @@ fn check_takes_256_materials(rt: HostRuntime) -> Result<(), Fail> {
         let row = format!(in alloc; "M,M{number},Steel,1000\n")?;
         input.extend_from_slice(row.as_bytes())?;
         if number >= 255 {
-            let (status, _) = outcome(&rt, alloc, &words, input.as_slice(), 100_000, &[])?;
-            assert_eq!(rt; status, if number == 255 { 0 } else { 6 });
+            let (status, text) = outcome(&rt, alloc, &words, input.as_slice(), 100_000, &[])?;
+            // 52 bytes of the first line, 447 of each block, 914 of the codes in them, 10 of the last line.
+            let (meant, length) = if number == 255 { (0, 115_408) } else { (6, 34) };
+            assert_eq!(rt; status, meant);
+            assert_eq!(rt; text.len(), length);
         }
     }
     Ok(())

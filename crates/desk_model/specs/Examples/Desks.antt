@@ -1,16 +1,14 @@
 -- Short spellings for the examples' edits, and small desks.
-use Rattle.std.specs.Prelude.{ℕ, List, [], Result}
+use Rattle.std.specs.Prelude.{ℕ, List, [], ◌∷◌}
 use Rattle.desk_text.specs.Day.{Date}
 use Rattle.desk_model.specs.declared.edit.Edit.{Edit}
 use Rattle.desk_model.specs.declared.edit.Edit.TheVariants.{Declare, Part}
 use Rattle.desk_model.specs.declared.material_decl.MaterialDecl.{MaterialDecl}
 use Rattle.desk_model.specs.declared.part_sort.PartSort.TheVariants.{Article, Assembly}
-use Rattle.desk_model.specs.declared.rule_fault.RuleFault.{RuleFault}
 use Rattle.desk_model.specs.declared.substance_mass.SubstanceMass.{SubstanceMass}
-use Rattle.desk_model.specs.History.{tables_after}
+use Rattle.desk_model.specs.Effect.{entered}
 use Rattle.desk_model.specs.Lists.{Lists}
 use Rattle.desk_model.specs.Start.{start}
-use Rattle.desk_model.specs.Step.{step}
 
 abbrev pub date : ℕ → ℕ → ℕ → Date
 date year month day = record { year = year; month = month; day = day }
@@ -31,10 +29,11 @@ article ticket code = Part ticket code Article code
 abbrev pub assembly : List ℕ → List ℕ → Edit
 assembly ticket code = Part ticket code Assembly code
 
--- the desk after these edits, from the start tables on
-abbrev pub desk_after : List Edit → Lists
-desk_after edits = tables_after start edits
+-- the tables with these edits made, one after another
+abbrev pub all_entered : Lists → List Edit → Lists
+all_entered t [] = t
+all_entered t (edit ∷ edits) = all_entered (entered t edit) edits
 
--- the answer to one more edit
-abbrev pub answer_at : Lists → Edit → Result ℕ RuleFault
-answer_at desk edit = (step desk edit).0
+-- the start tables with these edits made, whether or not a rule would refuse them
+abbrev pub desk_with : List Edit → Lists
+desk_with edits = all_entered start edits

@@ -1,5 +1,5 @@
 -- What each edit makes of the tables: rows that it enters, in order, and rows that it replaces or takes out.
-use Rattle.std.specs.Prelude.{◌≡◌, ℕ, List, [], ◌∷◌, ◌++◌, None, Some, codes, drop, map}
+use Rattle.std.specs.Prelude.{◌≡◌, ℕ, List, [], ◌∷◌, ◌++◌, None, Some, codes, drop, length, map}
 use Rattle.std.specs.List.{join_with_byte}
 use Rattle.desk_text.specs.Day.{Date}
 use Rattle.desk_law.specs.declared.annex.Annex.TheVariants.{Three}
@@ -11,10 +11,8 @@ use Rattle.desk_model.specs.declared.material_decl.MaterialDecl.{MaterialDecl}
 use Rattle.desk_model.specs.declared.part_sort.PartSort.TheVariants.{Article, Assembly}
 use Rattle.desk_model.specs.declared.rows.exemption.ExemptionRow.{ExemptionRow}
 use Rattle.desk_model.specs.declared.rows.material.MaterialRow.{MaterialRow}
-use Rattle.desk_model.specs.History.{number_of}
 use Rattle.desk_model.specs.Lists.{Lists, ticket_row}
-use Rattle.desk_model.specs.Start.{start}
-use Rattle.desk_model.specs.Examples.Desks.{date, desk_after, holds}
+use Rattle.desk_model.specs.Examples.Desks.{date, desk_with, holds}
 
 -- an exemption for lead, of a number and a last day
 abbrev pub exemption : List ℕ → List ℕ → Date → ExemptionRow
@@ -71,7 +69,7 @@ edits =
     ∷ []
 
 abbrev pub desk : Lists
-desk = desk_after edits
+desk = desk_with edits
 
 abbrev pub copper_row : MaterialRow
 copper_row = record {
@@ -86,7 +84,7 @@ copper_row = record {
 }
 
 pub record EntryExamples : Type 0 where
-  pub twenty_edits : number_of (record { opening = start; edits = edits }) ≡ 20
+  pub twenty_edits : length desk.tickets ≡ 20
   -- after the ten base substances and their members
   pub substances : drop 10 desk.substances ≡ record { code = codes "tin"; name = codes "Tin"; cas = Some (codes "7440-31-5") } ∷ []
   -- mercury's rule has the lesser number
@@ -157,10 +155,10 @@ changes =
     ∷ []
 
 abbrev pub later : Lists
-later = desk_after (edits ++ changes)
+later = desk_with (edits ++ changes)
 
 pub record ReplacementExamples : Type 0 where
-  pub all_edits : number_of (record { opening = start; edits = edits ++ changes }) ≡ 34
+  pub all_edits : length later.tickets ≡ 34
   pub substances : drop 10 later.substances ≡ record { code = codes "tin"; name = codes "Stannum"; cas = None } ∷ []
   -- a factor of 0 takes the entry out
   pub members : drop 10 later.members ≡ record { substance = codes "tin"; rule = Pbb; factor = 1 } ∷ []

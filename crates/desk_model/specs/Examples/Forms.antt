@@ -19,8 +19,8 @@ use Rattle.desk_model.specs.declared.rows.shipment.ShipmentRow.{ShipmentRow}
 use Rattle.desk_model.specs.declared.rows.substance.SubstanceRow.{SubstanceRow}
 use Rattle.desk_model.specs.declared.substance_mass.SubstanceMass.{SubstanceMass}
 use Rattle.desk_model.specs.Content.{are_claims, are_substances, holds_too_much, is_content}
-use Rattle.desk_model.specs.Declaration.{Declared, is_declaration}
-use Rattle.desk_model.specs.Forms.{are_units, is_candidate_row, is_count, is_declaration_number, is_edit_in_form, is_exemption_row, is_line_row, is_material_row, is_member_row, is_part_row, is_product_row, is_shipment_row, is_substance_row, is_year}
+use Rattle.desk_model.specs.Declaration.{Declared, is_declaration, is_declaration_number}
+use Rattle.desk_model.specs.Forms.{are_units, is_candidate_row, is_count, is_edit_in_form, is_exemption_row, is_line_row, is_material_row, is_member_row, is_part_row, is_product_row, is_shipment_row, is_substance_row, is_year}
 use Rattle.desk_model.specs.Terms.{are_kinds, is_ppm}
 use Rattle.desk_model.specs.Examples.Desks.{date, holds, material}
 

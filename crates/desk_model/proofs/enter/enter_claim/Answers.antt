@@ -1,4 +1,4 @@
-use Rattle.desk_model.specs.Content.{claim_cmp}
+use Rattle.desk_law.specs.Claim.{claim_cmp}
 use Rattle.desk_model.specs.declared.limits.TheConstants.{CLAIM_LIMIT}
 use Rattle.desk_model.proofs.Entering.{entered_repeated}
 use Rattle.desk_model.proofs.enter.enter_claim.Goals as goal

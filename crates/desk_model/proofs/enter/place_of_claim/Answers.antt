@@ -1,8 +1,9 @@
 use Rattle.std.proofs.Common.{subst}
 use Rattle.std.specs.List.Sorted.{IsBinarySearchResult}
 use Rattle.desk_rows.proofs.Edits.{place_of_row}
-use Rattle.desk_model.specs.Content.{claim_cmp}
-use Rattle.desk_model.proofs.Claims.{claim_total, claims_in_order}
+use Rattle.desk_law.specs.Claim.{claim_cmp}
+use Rattle.desk_law.proofs.Orders.{claims_in_order}
+use Rattle.desk_model.proofs.Claims.{claim_total}
 use Rattle.desk_model.proofs.enter.place_of_claim.Goals as goal
 
 pub returns : goal.returns

@@ -1,8 +1,8 @@
 -- The start tables have no exemption, and their share is the base share.
 use Rattle.std.proofs.Common.{◌∙◌, refl}
-use Rattle.desk_model.specs.Share.{share}
+use Rattle.desk_findings.specs.Share.{share}
 use Rattle.desk_model.specs.Start.{start}
-use Rattle.desk_model.specs.Verdicts.{verdict_on}
+use Rattle.desk_findings.specs.Verdicts.{verdict_on}
 use Rattle.desk_scratch.proofs.Content.{substance-count}
 use Rattle.desk_scratch.proofs.material_block.base_verdict.Goals as goal
 

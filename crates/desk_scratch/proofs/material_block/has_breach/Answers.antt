@@ -6,7 +6,7 @@ use Rattle.desk_law.specs.declared.rule.Rule.TheVariants.{Lead}
 use Rattle.desk_law.specs.Rule.{all_rules}
 use Rattle.desk_model.specs.Start.{start}
 use Rattle.desk_model.specs.Effect.{declared_row}
-use Rattle.desk_model.specs.Verdicts.{verdict_on}
+use Rattle.desk_findings.specs.Verdicts.{verdict_on}
 use Rattle.desk_scratch.specs.Judgement.{is_breach}
 use Rattle.desk_scratch.proofs.Lines.{none-more}
 use Rattle.desk_scratch.proofs.material_block.has_breach.Goals as goal

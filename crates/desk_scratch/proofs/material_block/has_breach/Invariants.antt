@@ -5,7 +5,7 @@ use Rattle.desk_law.specs.Rule.{all_rules}
 use Rattle.desk_model.specs.Declaration.{Declared}
 use Rattle.desk_model.specs.Start.{start}
 use Rattle.desk_model.specs.Effect.{declared_row}
-use Rattle.desk_model.specs.Verdicts.{verdict_on}
+use Rattle.desk_findings.specs.Verdicts.{verdict_on}
 use Rattle.desk_scratch.specs.Judgement.{is_breach}
 use Rattle.desk_scratch.proofs.material_block.has_breach.Given as goal
 

@@ -1,7 +1,7 @@
 -- The parts of the line, whatever else the declaration says.
 use Rattle.std.proofs.Common.{◌∙◌, refl}
 use Rattle.std.proofs.lemmas.Result.{IfOk-weaker}
-use Rattle.desk_model.specs.Share.{share}
+use Rattle.desk_findings.specs.Share.{share}
 use Rattle.desk_model.specs.Start.{start}
 use Rattle.desk_scratch.specs.MaterialBlock.{rule_line}
 use Rattle.desk_scratch.proofs.Content.{substance-count}

@@ -1,7 +1,7 @@
 -- The share so far, which each substance makes greater by less than 2^84.
 use Rattle.std.proofs.Common.{◌≡◌, ◌*◌, ◌≤◌, ◌^◌, take}
 use Rattle.std.specs.Prelude.{sum_by}
-use Rattle.desk_model.specs.Share.{factor_of}
+use Rattle.desk_findings.specs.Share.{factor_of}
 use Rattle.desk_model.specs.Start.{start}
 use Rattle.desk_scratch.proofs.share.base_share.Given as goal
 

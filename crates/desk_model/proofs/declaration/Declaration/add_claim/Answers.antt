@@ -1,16 +1,17 @@
-use Rattle.std.proofs.Common.{subst, sym}
+use Rattle.std.proofs.Common.{ap, is_ok, subst, sym}
 use Rattle.std.proofs.lemmas.Result.{err_from_is_err_and}
 use Rattle.desk_text.specs.Code.{code_cmp}
 use Rattle.desk_rows.specs.Rows.{IsByKey}
 use Rattle.desk_model.specs.contracts.declaration.Declaration.{the_view}
 use Rattle.desk_model.specs.Declaring.{claim_added}
-use Rattle.desk_model.proofs.Changing.{err_answer, error_answer, found, kept, ok_answer, orphan_answer}
+use Rattle.desk_model.proofs.Changing.{err_answer, error_answer, found, ok_answer, orphan_answer}
 use Rattle.desk_model.proofs.Declaring.{parts}
+use Rattle.desk_model.proofs.InForm.{claim_in_form, declared, found_in_form, kept_in_form}
 use Rattle.desk_model.proofs.Claims.{by_claim, good_with_claim, one_claim, claims_list}
 use Rattle.desk_model.proofs.declaration.Declaration.add_claim.Goals as goal
 
 pub place_of-requires : goal.place_of-requires
-place_of-requires c = subst (IsByKey (λ material. material.code) code_cmp) (sym c.as_slice.ensures.value) (parts (the_view c.self.inside) c.self.invariant).by_key
+place_of-requires c = subst (IsByKey (λ material. material.code) code_cmp) (sym c.as_slice.ensures.value) (parts (the_view c.self.inside) (declared (the_view c.self.inside) c.self.invariant)).by_key
 
 pub returns-in_err-at-clause-error : goal.returns-in_err-at-clause-error
 unfolding claim_added
@@ -21,29 +22,31 @@ returns-in_err-at-clause-error c =
 
 pub enter_claim-requires : goal.enter_claim-requires
 enter_claim-requires c =
-    let f = found (the_view c.self.inside) c.args.material.now c.in_ok-at.at c.index_mut-material.result.now c.as_slice.result.now c.self.invariant c.as_slice.ensures.value c.in_ok-at.ensures c.index_mut-material.ensures.value in
+    let f = found (the_view c.self.inside) c.args.material.now c.in_ok-at.at c.index_mut-material.result.now c.as_slice.result.now (declared (the_view c.self.inside) c.self.invariant) c.as_slice.ensures.value c.in_ok-at.ensures c.index_mut-material.ensures.value in
     by_claim c.index_mut-material.result.now f.good
 
 pub invariant_of-self : goal.invariant_of-self
 invariant_of-self c =
     let m = c.index_mut-material.result.now in
-    let f = found (the_view c.self.inside) c.args.material.now c.in_ok-at.at c.index_mut-material.result.now c.as_slice.result.now c.self.invariant c.as_slice.ensures.value c.in_ok-at.ensures c.index_mut-material.ensures.value in
-    kept claims_list (one_claim c.args.claim) (the_view c.self.inside) c.args.material.now c.in_ok-at.at m c.enter_claim.new.self c.enter_claim.result c.self.invariant f
-    (good_with_claim m _ c.enter_claim.new.self f.good) c.enter_claim.ensures.ok c.enter_claim.ensures.err
+    let f = found (the_view c.self.inside) c.args.material.now c.in_ok-at.at c.index_mut-material.result.now c.as_slice.result.now (declared (the_view c.self.inside) c.self.invariant) c.as_slice.ensures.value c.in_ok-at.ensures c.index_mut-material.ensures.value in
+    kept_in_form claims_list (one_claim c.args.claim) (the_view c.self.inside) c.args.material.now c.in_ok-at.at m c.enter_claim.new.self c.enter_claim.result c.self.invariant f
+    (good_with_claim m _ c.enter_claim.new.self f.good)
+    (claim_in_form m _ c.enter_claim.new.self f.good (found_in_form (the_view c.self.inside) c.args.material.now c.in_ok-at.at m c.self.invariant f) (ap is_ok c.as_bytes.ensures.form))
+    c.enter_claim.ensures.ok c.enter_claim.ensures.err
 
 pub returns-clause-ok : goal.returns-clause-ok
 unfolding claim_added
 returns-clause-ok c =
     let m = c.index_mut-material.result.now in
-    ok_answer claims_list (one_claim c.args.claim) (the_view c.self.inside) c.args.self.now c.self.view_is c.args.material.now c.in_ok-at.at m (found (the_view c.self.inside) c.args.material.now c.in_ok-at.at c.index_mut-material.result.now c.as_slice.result.now c.self.invariant c.as_slice.ensures.value c.in_ok-at.ensures c.index_mut-material.ensures.value) c.enter_claim.new.self c.enter_claim.result c.enter_claim.ensures.ok
+    ok_answer claims_list (one_claim c.args.claim) (the_view c.self.inside) c.args.self.now c.self.view_is c.args.material.now c.in_ok-at.at m (found (the_view c.self.inside) c.args.material.now c.in_ok-at.at c.index_mut-material.result.now c.as_slice.result.now (declared (the_view c.self.inside) c.self.invariant) c.as_slice.ensures.value c.in_ok-at.ensures c.index_mut-material.ensures.value) c.enter_claim.new.self c.enter_claim.result c.enter_claim.ensures.ok
 
 pub returns-clause-error : goal.returns-clause-error
 unfolding claim_added
 returns-clause-error c =
     let m = c.index_mut-material.result.now in
-    error_answer claims_list (one_claim c.args.claim) (the_view c.self.inside) c.args.self.now c.self.view_is c.args.material.now c.in_ok-at.at m (found (the_view c.self.inside) c.args.material.now c.in_ok-at.at c.index_mut-material.result.now c.as_slice.result.now c.self.invariant c.as_slice.ensures.value c.in_ok-at.ensures c.index_mut-material.ensures.value) c.enter_claim.new.self c.enter_claim.result c.enter_claim.ensures.error
+    error_answer claims_list (one_claim c.args.claim) (the_view c.self.inside) c.args.self.now c.self.view_is c.args.material.now c.in_ok-at.at m (found (the_view c.self.inside) c.args.material.now c.in_ok-at.at c.index_mut-material.result.now c.as_slice.result.now (declared (the_view c.self.inside) c.self.invariant) c.as_slice.ensures.value c.in_ok-at.ensures c.index_mut-material.ensures.value) c.enter_claim.new.self c.enter_claim.result c.enter_claim.ensures.error
 
 pub returns-clause-err : goal.returns-clause-err
 returns-clause-err c =
     let m = c.index_mut-material.result.now in
-    err_answer claims_list (one_claim c.args.claim) (the_view c.self.inside) c.args.self.now c.self.view_is c.args.material.now c.in_ok-at.at m (found (the_view c.self.inside) c.args.material.now c.in_ok-at.at c.index_mut-material.result.now c.as_slice.result.now c.self.invariant c.as_slice.ensures.value c.in_ok-at.ensures c.index_mut-material.ensures.value) c.enter_claim.new.self c.enter_claim.result c.enter_claim.ensures.err
+    err_answer claims_list (one_claim c.args.claim) (the_view c.self.inside) c.args.self.now c.self.view_is c.args.material.now c.in_ok-at.at m (found (the_view c.self.inside) c.args.material.now c.in_ok-at.at c.index_mut-material.result.now c.as_slice.result.now (declared (the_view c.self.inside) c.self.invariant) c.as_slice.ensures.value c.in_ok-at.ensures c.index_mut-material.ensures.value) c.enter_claim.new.self c.enter_claim.result c.enter_claim.ensures.err

@@ -1,0 +1,12 @@
+pub mod Bill
+pub mod Chains
+pub mod Children
+pub mod ExampleProofs
+pub mod FindingRolls
+pub mod FindingsOnce
+pub mod FindingsStored
+pub mod Firsts
+pub mod Groups
+pub mod Lighter
+pub mod Loads
+pub mod Local

@@ -1,0 +1,16 @@
+pub mod Above
+pub mod Articles
+pub mod Bill
+pub mod Carried
+pub mod Chain
+pub mod Duties
+pub mod Examples
+pub mod Findings
+pub mod Laws
+pub mod Mass
+pub mod Reaches
+pub mod Rolled
+pub mod Share
+pub mod Tonnage
+pub mod Totals
+pub mod Verdicts

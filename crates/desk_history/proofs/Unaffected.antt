@@ -1,0 +1,134 @@
+-- Codes that an accepted edit doesn't affect stay as they were.
+use Rattle.std.proofs.Common.{◌≡◌, ℕ, zero, suc, ◌+◌, ◌-◌, false, List, [], Some, is_some, refl, sym, ap, ◌∙◌, subst}
+use Rattle.std.specs.Prelude.{if◌then◌else◌}
+use Rattle.std.specs.List.{list_any}
+use Rattle.desk_model.specs.declared.edit.Edit.{Edit}
+use Rattle.desk_model.specs.declared.edit.Edit.TheVariants.{Substance, Member, Declare, Part, Line, Unline, Product, Exemption, Unexempt, Candidate, Ship, Unship}
+use Rattle.desk_findings.specs.Above.{is_candidate}
+use Rattle.desk_history.specs.Affected.{is_affected, seeds_of_new}
+use Rattle.desk_findings.specs.Carried.{carried}
+use Rattle.desk_findings.specs.Chain.{chain}
+use Rattle.desk_model.specs.Effect.{entered, made, units_of, with_units}
+use Rattle.desk_findings.specs.Findings.{findings}
+use Rattle.desk_history.specs.History.{PassesRows}
+use Rattle.desk_law.specs.declared.rule.Rule.{Rule}
+use Rattle.desk_model.specs.declared.rows.material.MaterialRow.{MaterialRow}
+use Rattle.desk_model.specs.Lists.{Lists, is_part, material_row}
+use Rattle.desk_findings.specs.Mass.{mass}
+use Rattle.desk_findings.specs.Reaches.{is_or_reaches, lines_of, reaches}
+use Rattle.desk_findings.specs.Share.{share}
+use Rattle.desk_history.specs.Laws.{Stays}
+use Rattle.desk_history.specs.Sound.{IsConsistent}
+use Rattle.desk_history.proofs.Affects.{IsFree, agrees-candidate, agrees-declare, agrees-line, agrees-member, agrees-part, agrees-unline, agrees_plain}
+use Rattle.desk_history.proofs.Good.{bill_of, good_of}
+use Rattle.desk_model.proofs.Kept.{found_each}
+use Rattle.desk_findings.proofs.Local.{Agrees, same_carried, same_chain, same_findings, same_mass, same_reached}
+use Rattle.desk_history.proofs.MadeBill.{kind_kept}
+use Rattle.desk_history.proofs.Rules.{unrefused}
+use Rattle.desk_history.proofs.SoundSteps.{IsConsistent-entered}
+
+-- shipments change nothing that rolls up
+shipped : (t : Lists) (edit : Edit) (year : ℕ) (product : List ℕ) (units : ℕ) → IsConsistent (entered t edit) → (made t edit) ≡ with_units t year product units → Agrees t (entered t edit) (IsFree (entered t edit) [])
+unfolding entered
+shipped t edit year product units r is =
+    agrees_plain t (entered t edit) r []
+    (ap (λ v. v.lines) is ∙ lines units) (ap (λ v. v.parts) is ∙ parts units) (ap (λ v. v.materials) is ∙ materials units) (ap (λ v. v.members) is ∙ members units) (ap (λ v. v.candidates) is ∙ candidates units)
+  where
+    lines : (n : ℕ) → (with_units t year product n).lines ≡ t.lines
+    lines zero = refl
+    lines (suc n) = refl
+
+    parts : (n : ℕ) → (with_units t year product n).parts ≡ t.parts
+    parts zero = refl
+    parts (suc n) = refl
+
+    materials : (n : ℕ) → (with_units t year product n).materials ≡ t.materials
+    materials zero = refl
+    materials (suc n) = refl
+
+    members : (n : ℕ) → (with_units t year product n).members ≡ t.members
+    members zero = refl
+    members (suc n) = refl
+
+    candidates : (n : ℕ) → (with_units t year product n).candidates ≡ t.candidates
+    candidates zero = refl
+    candidates (suc n) = refl
+
+made-ship : (t : Lists) (ticket product : List ℕ) (year units : ℕ) → made t (Ship ticket product year units) ≡ with_units t year product (units_of t year product + units)
+unfolding made
+made-ship t ticket product year units = refl
+
+made-unship : (t : Lists) (ticket product : List ℕ) (year units : ℕ) → made t (Unship ticket product year units) ≡ with_units t year product (units_of t year product - units)
+unfolding made
+made-unship t ticket product year units = refl
+
+-- the tables before and after an accepted edit agree on the codes that are free of its seeds
+agrees : (t : Lists) (s : IsConsistent t) (edit : Edit) → PassesRows t edit → IsConsistent (entered t edit) → Agrees t (entered t edit) (IsFree (entered t edit) (seeds_of_new t edit))
+unfolding seeds_of_new entered made
+agrees t s (Substance ticket code name cas) a r = agrees_plain t (entered t (Substance ticket code name cas)) r [] refl refl refl refl refl
+agrees t s (Member ticket substance rule factor) a r = agrees-member t ticket substance rule factor r
+agrees t s (Declare declaration) a r = agrees-declare t declaration r
+agrees t s (Part ticket code sort name) a r =
+    agrees-part t s ticket code name sort r (kind_kept t (good_of t s) ticket code name sort (unrefused t (Part ticket code sort name) a).kind_changed) (is_part t code) refl
+agrees t s (Line ticket parent child count) a r = agrees-line t ticket parent child count r
+agrees t s (Unline ticket parent child) a r = agrees-unline t ticket parent child r
+agrees t s (Product ticket part kind) a r = agrees_plain t (entered t (Product ticket part kind)) r [] refl refl refl refl refl
+agrees t s (Exemption ticket exemption) a r = agrees_plain t (entered t (Exemption ticket exemption)) r [] refl refl refl refl refl
+agrees t s (Unexempt ticket row) a r = agrees_plain t (entered t (Unexempt ticket row)) r [] refl refl refl refl refl
+agrees t s (Candidate ticket substance day) a r = agrees-candidate t s ticket substance day r (is_candidate t substance) refl
+agrees t s (Ship ticket product year units) a r = shipped t (Ship ticket product year units) year product (units_of t year product + units) r (made-ship t ticket product year units)
+agrees t s (Unship ticket product year units) a r = shipped t (Unship ticket product year units) year product (units_of t year product - units) r (made-unship t ticket product year units)
+
+-- an unaffected code is free of the seeds
+free_of : (t : Lists) (edit : Edit) → PassesRows t edit → (code : List ℕ) → is_affected t edit code ≡ false → IsFree (entered t edit) (seeds_of_new t edit) code
+unfolding is_affected
+free_of t edit a code e =
+    sym (ap (λ o. list_any (λ seed. is_or_reaches (entered t edit) code seed) (if is_some o then [] else seeds_of_new t edit)) a.is_new) ∙ e
+
+module _ (t : Lists) (s : IsConsistent t) (edit : Edit) (a : PassesRows t edit) (code : List ℕ) (unaffected : is_affected t edit code ≡ false) where
+  consistent_after : IsConsistent (entered t edit)
+  consistent_after = IsConsistent-entered t edit s a
+
+  both_agree : Agrees t (entered t edit) (IsFree (entered t edit) (seeds_of_new t edit))
+  both_agree = agrees t s edit a consistent_after
+
+  pub mass_stays : mass (entered t edit) code ≡ mass t code
+  mass_stays = same_mass t (entered t edit) (bill_of t s) (bill_of (entered t edit) consistent_after) (IsFree (entered t edit) (seeds_of_new t edit)) both_agree code (free_of t edit a code unaffected)
+
+  pub reached_stays : (target : List ℕ) → reaches (entered t edit) code target ≡ reaches t code target
+  reached_stays target = same_reached t (entered t edit) (bill_of t s) (bill_of (entered t edit) consistent_after) (IsFree (entered t edit) (seeds_of_new t edit)) both_agree target code (free_of t edit a code unaffected)
+
+  pub chain_stays : (target : List ℕ) → chain (entered t edit) code target ≡ chain t code target
+  chain_stays target = same_chain t (entered t edit) (bill_of t s) (bill_of (entered t edit) consistent_after) (IsFree (entered t edit) (seeds_of_new t edit)) both_agree target code (free_of t edit a code unaffected)
+
+  pub carried_stays : (substance : List ℕ) → carried (entered t edit) substance code ≡ carried t substance code
+  carried_stays substance = same_carried t (entered t edit) (bill_of t s) (bill_of (entered t edit) consistent_after) (IsFree (entered t edit) (seeds_of_new t edit)) both_agree substance code (free_of t edit a code unaffected)
+
+  pub findings_stay : findings (entered t edit) code ≡ findings t code
+  findings_stay = same_findings t (entered t edit) (bill_of t s) (bill_of (entered t edit) consistent_after) (IsFree (entered t edit) (seeds_of_new t edit)) both_agree code (free_of t edit a code unaffected)
+
+  pub lines_stay : lines_of (entered t edit).lines code ≡ lines_of t.lines code
+  lines_stay = both_agree.lines code (free_of t edit a code unaffected)
+
+  pub material_stays : material_row (entered t edit) code ≡ material_row t code
+  material_stays = both_agree.materials code (free_of t edit a code unaffected)
+
+  pub share_stays : (material : MaterialRow) → material_row t code ≡ Some material → (rule : Rule) → share (entered t edit) rule material ≡ share t rule material
+  share_stays material found rule =
+      let is =
+      found_each (λ row. row.code)
+      (λ row. IsFree (entered t edit) (seeds_of_new t edit) row.code → (rule : Rule) → share (entered t edit) rule row ≡ share t rule row)
+      code t.materials material both_agree.shares found in
+      is.0 (subst (λ c. IsFree (entered t edit) (seeds_of_new t edit) c) (sym is.1) (free_of t edit a code unaffected)) rule
+
+pub stays : (t : Lists) → IsConsistent t → (edit : Edit) → PassesRows t edit → (code : List ℕ) → is_affected t edit code ≡ false → Stays t edit code
+stays t s edit a code unaffected = record {
+  masses = mass_stays t s edit a code unaffected;
+  reached = reached_stays t s edit a code unaffected;
+  chains = chain_stays t s edit a code unaffected;
+  loads = carried_stays t s edit a code unaffected;
+  found = findings_stay t s edit a code unaffected;
+  lines = lines_stay t s edit a code unaffected;
+  material = material_stays t s edit a code unaffected;
+  shares = share_stays t s edit a code unaffected;
+}

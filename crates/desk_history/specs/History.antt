@@ -1,0 +1,59 @@
+-- Histories: opening tables, and the edits that were accepted since, in order.
+use Rattle.std.specs.Prelude.{◌≡◌, ℕ, ◌-◌, true, List, [], ◌∷◌, ◌++◌, None, length, take, ⊤}
+use Rattle.desk_model.specs.declared.edit.Edit.{Edit}
+use Rattle.desk_model.specs.Forms.{is_edit_in_form}
+use Rattle.desk_model.specs.Lists.{Lists}
+use Rattle.desk_history.specs.Refused.{closes_cycle, refused, refused_by_rows}
+use Rattle.desk_history.specs.Sound.{Sound}
+use Rattle.desk_history.specs.Step.{kept_number, step}
+
+-- opening tables and edits, in order
+pub record History : Type 0 where
+  pub opening : Lists
+  pub edits : List Edit
+
+-- the tables after the edits
+abbrev pub tables_after : Lists → List Edit → Lists
+tables_after t [] = t
+tables_after t (edit ∷ edits) = tables_after (step t edit).1 edits
+
+-- the tables at the end of a history
+abbrev pub after : History → Lists
+after history = tables_after history.opening history.edits
+
+-- the edit is in form and new at the tables, and no rule refuses it
+pub record IsAccepted (t : Lists) (edit : Edit) : Type 0 where
+  pub in_form : is_edit_in_form edit ≡ true
+  pub is_new : kept_number t edit ≡ None
+  pub is_unrefused : refused t edit ≡ None
+
+-- the edit is in form and new at the tables, and none of the rules 1 to 20 refuses it: what may still refuse it are the sums
+pub record PassesRows (t : Lists) (edit : Edit) : Type 0 where
+  pub in_form : is_edit_in_form edit ≡ true
+  pub is_new : kept_number t edit ≡ None
+  pub by_rows : refused_by_rows t edit ≡ None
+  pub by_cycle : closes_cycle t edit ≡ None
+
+-- each edit is accepted at the tables that the ones before it leave
+abbrev pub AreAccepted : Lists → List Edit → Type 0
+AreAccepted t [] = ⊤
+AreAccepted t (edit ∷ edits) = IsAccepted t edit × AreAccepted (step t edit).1 edits
+
+-- a list of accepted edits that opens with sound tables
+pub record IsHistory (history : History) : Type 0 where
+  pub sound : Sound history.opening
+  pub accepted : AreAccepted history.opening history.edits
+
+-- the number of a history is the number of tickets at its end
+abbrev pub number_of : History → ℕ
+number_of history = length (after history).tickets
+
+-- the history up to a number: each edit adds one ticket, so a number names one prefix
+abbrev pub up_to : History → ℕ → History
+up_to history number = record history { edits = take (number - length history.opening.tickets) history.edits }
+
+-- the first begins the second
+pub record Begins (first second : History) : Type 0 where
+  pub opening : first.opening ≡ second.opening
+  pub rest : List Edit
+  pub edits : second.edits ≡ first.edits ++ rest

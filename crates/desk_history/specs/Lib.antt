@@ -1,0 +1,10 @@
+pub mod Affected
+pub mod Breaches
+pub mod Examples
+pub mod History
+pub mod Laws
+pub mod Limits
+pub mod Refused
+pub mod Rising
+pub mod Sound
+pub mod Step

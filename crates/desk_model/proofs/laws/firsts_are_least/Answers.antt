@@ -1,5 +1,0 @@
-use Rattle.desk_model.proofs.Firsts.{heavy-least, next-least, year-least}
-use Rattle.desk_model.proofs.laws.firsts_are_least.Goals as goal
-
-pub returns : goal.returns
-returns c = record { child = next-least; part = heavy-least; year = year-least }
