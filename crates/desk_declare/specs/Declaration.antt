@@ -1,5 +1,6 @@
 -- A plain declaration: a head, then materials and base substances, in rows that name nothing before it is listed.
-use Rattle.std.specs.Prelude.{ℕ, ◌^◌, ◌==◌, ◌&&◌, Bool, not, if◌then◌else◌, List, [], ◌∷◌, length, codes, nat_le, Option, None, Some, Result, is_some, option_and_then}
+use Rattle.std.specs.Prelude.{ℕ, ◌^◌, ◌==◌, ◌&&◌, Bool, not, if◌then◌else◌, List, [], ◌∷◌, length, codes, nat_le}
+use Rattle.std.specs.Prelude.{Option, None, Some, Result, is_some, option_and_then}
 use Rattle.std.specs.List.{list_any}
 use Rattle.std.specs.Option.{ok_or}
 use Rattle.std.specs.Result.{result_ok}
@@ -56,12 +57,12 @@ substance_of row =
     then substance_with (result_ok (code_of (field row 1))) (base_code_of (field row 2)) (mass_from 0 (field row 3))
     else None
 
--- the declaration with what a row lists
+-- the declaration with the material that a row lists, where it lists one that fits in
 abbrev pub with_material : Option ListedMaterial → Declared → Option Declared
 with_material None d = None
 with_material (Some m) d = result_ok (material_added (empty_material m.code m.name m.mass) d)
 
--- the declaration with the substance that a row lists
+-- the declaration with the substance that a row lists, where it lists one that fits in
 abbrev pub with_substance : Option ListedSubstance → Declared → Option Declared
 with_substance None d = None
 with_substance (Some s) d = result_ok (substance_added s.material (record { substance = s.substance; mass = s.mass }) d)
@@ -81,7 +82,7 @@ rows_added (row ∷ rows) d = option_and_then (rows_added rows) (row_added row d
 abbrev pub has_sound_masses : Declared → Bool
 has_sound_masses d = not (list_any (λ m. holds_too_much m.mass m.substances) d.materials)
 
--- the declaration under a head
+-- the declaration that a head and the rows below it spell
 abbrev pub declaration_under : List Row → Option Head → Option Declared
 declaration_under rows None = None
 declaration_under rows (Some head) =

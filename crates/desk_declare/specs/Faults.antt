@@ -5,7 +5,8 @@ use Rattle.desk_model.specs.declared.decl_error.DeclError.TheVariants as error
 use Rattle.desk_declare.specs.declared.read.DeclareFault.{DeclareFault}
 use Rattle.desk_declare.specs.declared.read.DeclareFault.TheVariants.{NotADeclaration, OutOfMemory}
 
--- a row that does not fit in is no declaration, and want of memory stays what it is
+-- the fault for an error of the declaration that grows: a row that doesn't fit in makes the text no declaration, and
+-- want of memory stays what it is
 abbrev pub fault_of : DeclError → DeclareFault
 fault_of error.Repeated = NotADeclaration
 fault_of error.TooMany = NotADeclaration

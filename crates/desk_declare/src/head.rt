@@ -23,7 +23,7 @@ const HEAD_FIELDS: usize = 5;
 impl Head {
     ghost use Rattle.desk_declare.specs.Head.{head_of};
 
-    // The head that a row spells.
+    /// The head that a row spells.
     #[tactic(auto, unfolding(crate::specs::Head::head_of))]
     pub(crate) fn from_row(row: &ByteRecord) -> Option<Head>
         ensures value { result ≡ head_of (fields_of row.now) }
@@ -46,7 +46,7 @@ impl Head {
     }
 }
 
-// A declaration's number is at least 1.
+/// A declaration's number is at least 1.
 fn declaration_number(bytes: &[u8]) -> Option<u64>
     ensures value { result ≡ declaration_number_of bytes.now }
     ensures range { IfSome result (λ number. 1 ≤ number) }

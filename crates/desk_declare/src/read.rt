@@ -84,7 +84,7 @@ pub fn read_declaration(alloc: Global, bytes: &[u8]) -> Result<Declaration, Decl
     }
 }
 
-// The declaration of the rows under a head.
+/// The declaration of the rows under a head.
 fn read_under(alloc: Global, head: Head, rows: &mut Rows<'_>) -> Result<Declaration, DeclareFault>
     requires { 1 ≤ head.number }
     ensures { result ≢ Err DeclareFault.OutOfMemory → result ≡ ok_or (declaration_under rows.old (Some head)) DeclareFault.NotADeclaration }
@@ -98,7 +98,7 @@ fn read_under(alloc: Global, head: Head, rows: &mut Rows<'_>) -> Result<Declarat
     }
 }
 
-// Adds what each of the rows lists.
+/// Adds what each of the rows lists.
 fn add_rows(
     alloc: Global,
     declaration: &mut Declaration,
@@ -114,7 +114,7 @@ fn add_rows(
     Ok(())
 }
 
-// Adds what a row lists.
+/// Adds what a row lists.
 #[tactic(auto, unfolding(crate::specs::Declaration::row_added))]
 fn add_row(
     alloc: Global,
@@ -138,7 +138,7 @@ fn add_row(
     }
 }
 
-// Whether in no material the substances weigh more than the material.
+/// Whether in no material the substances weigh more than the material.
 fn has_sound_masses(declaration: &Declaration) -> bool
     ensures { result ≡ has_sound_masses declaration.now }
 {

@@ -29,7 +29,7 @@ fails_next m = list_any (λ n. n == counted m.calls) m.failing
 abbrev pub refuses : Memory → List ℕ → Bool
 refuses m bytes = fails_next m || ((m.room == 0) && not (length bytes == 0))
 
--- a call that failed was counted twice, as a call and as a fault
+-- the link after a call that failed, which is counted twice, as a call and as a fault
 abbrev pub after_fault : Memory → Memory
 after_fault m = record m { calls = counted m.calls; faults = counted m.faults }
 

@@ -32,7 +32,7 @@ impl<I: Read, O: Write> StdLink<I, O> {
         }
     }
 
-    // Counts a fault, up to the last value of the count.
+    /// Counts a fault, up to the last value of the count.
     fn refused(&mut self) -> Failed
         ensures input_stays { self.new.input ≡ self.old.input }
         ensures output_stays { self.new.output ≡ self.old.output }

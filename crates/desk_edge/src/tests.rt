@@ -172,7 +172,7 @@ fn a_link_over_std_hands_on_what_its_reader_and_writer_do(rt: HostRuntime) -> Re
     Ok(())
 }
 
-// A link over a slice tells the slice as unread, so this contract holds.
+/// A link over a slice tells the slice as unread, so this contract holds.
 fn read_slice(alloc: Global, text: &[u8]) -> Result<Bytes, ReadFault>
     requires { length text.now < usize.MAX }
     ensures { IfOk result (λ bytes. bytes ≡ text.now) }
@@ -181,7 +181,7 @@ fn read_slice(alloc: Global, text: &[u8]) -> Result<Bytes, ReadFault>
     read_up_to(alloc, &mut link, text.len())
 }
 
-// A link over a vector tells the vector as written, so this contract holds.
+/// A link over a vector tells the vector as written, so this contract holds.
 fn write_vector(output: Vec<u8>, text: &[u8]) -> Result<StdLink<io::Empty, Vec<u8>>, Failed>
     ensures { IfOk result (λ link.
         ⟦<StdLink<io::Empty, Vec<u8>> as Link>⟧.written link ≡ Some (output.items ++ text.now)) }

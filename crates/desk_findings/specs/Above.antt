@@ -17,7 +17,8 @@ abbrev pub mass_in : Lists → List ℕ → List ℕ → ℕ
 mass_in t substance code =
     option_map_or (λ material. held_mass substance material.substances) (material_row t code) 0
 
--- X: the sum over the article's lines of count times the mass of the substance in the material
+-- what an article holds of a substance, X for short: the sum over the article's lines of count times the mass of the
+-- substance in the material
 unfoldable pub content : Lists → List ℕ → List ℕ → ℕ
 content t article substance = sum_by (λ line. line.count * mass_in t substance line.child) (lines_of t.lines article)
 

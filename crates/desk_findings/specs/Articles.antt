@@ -8,12 +8,12 @@ use Rattle.desk_model.specs.declared.rows.part.PartRow.{PartRow}
 use Rattle.desk_model.specs.Lists.{Lists, part_row}
 use Rattle.desk_findings.specs.Reaches.{is_or_reaches, reaches}
 
--- the sort is that of an article
+-- the sort of a part is that of an article
 abbrev pub is_article_sort : PartSort → Bool
 is_article_sort Article = true
 is_article_sort Assembly = false
 
--- two sorts are one
+-- the two are the same sort of part
 abbrev pub same_sort : PartSort → PartSort → Bool
 same_sort Article Article = true
 same_sort Article Assembly = false

@@ -6,7 +6,8 @@ use Rattle.desk_findings.specs.Articles.{is_article}
 use Rattle.desk_model.specs.Lists.{Lists}
 use Rattle.desk_findings.specs.Rolled.{rolled}
 
--- an article has X of a substance that is above in it, and nothing of any other
+-- what a code carries of a substance by itself: an article X, which it holds of it, where the substance is above in the
+-- article; all else nothing
 abbrev pub own_load : Lists → List ℕ → List ℕ → ℕ
 own_load t substance code = if is_article t code && is_above t code substance then content t code substance else 0
 

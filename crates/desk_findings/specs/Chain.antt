@@ -27,18 +27,18 @@ next_to t part target = next_within t.lines (enough t) part target
 abbrev pub chain : Lists → List ℕ → List ℕ → List (List ℕ)
 chain t part target = chain_within t.lines (enough t) (enough t) part target
 
--- each two neighbours are a line of the tables
+-- each two neighbours in a list of codes are the parent and the child of a kept line
 abbrev pub are_linked : Lists → List (List ℕ) → Bool
 are_linked t [] = true
 are_linked t (part ∷ []) = true
 are_linked t (part ∷ child ∷ codes) = is_line t part child && are_linked t (child ∷ codes)
 
--- the first code is this one
+-- the list of codes begins with this one
 abbrev pub begins_with : List ℕ → List (List ℕ) → Bool
 begins_with code [] = false
 begins_with code (first ∷ codes) = same_code first code
 
--- the last code is this one
+-- the list of codes ends with this one
 abbrev pub ends_with : List ℕ → List (List ℕ) → Bool
 ends_with code [] = false
 ends_with code (last ∷ []) = same_code last code

@@ -41,7 +41,7 @@ findings t part = flat_map (findings_on t) (materials_in t part) ++ flat_map (fi
 unfoldable pub finding_count : Lists → ℕ
 finding_count t = sum_by (λ part. length (findings t part.code)) t.parts
 
--- two findings are one
+-- the two are the same finding
 abbrev pub same_finding : Finding → Finding → Bool
 same_finding (over material rule) (over other another) = same_code material other && same_rule rule another
 same_finding (over material rule) (above article substance) = false
@@ -52,7 +52,7 @@ same_finding (above article substance) (above other another) = same_code article
 abbrev pub is_in : Finding → List Finding → Bool
 is_in finding list = list_any (same_finding finding) list
 
--- what a material or an article has of its own; anything else has nothing
+-- what is found at a code by itself: on a material, or on an article; anything else has nothing
 unfoldable pub own_findings : Lists → List ℕ → List Finding
 own_findings t code =
     option_map_or (findings_on t) (material_row t code) []

@@ -20,9 +20,11 @@ use Rattle.desk_findings.specs.Totals.{too_heavy_part, too_heavy_year, year_mass
 
 -- the recursions over the bill come to the same at any greater depth
 pub record DepthIsEnough : Type 0 where
-  pub reached : (t : Lists) → are_parents_kept t ≡ true → (more : ℕ) (part target : List ℕ) → reaches_within t.lines (more + enough t) part target ≡ reaches t part target
+  pub reached : (t : Lists) → are_parents_kept t ≡ true → (more : ℕ) (part target : List ℕ) →
+      reaches_within t.lines (more + enough t) part target ≡ reaches t part target
   pub rolled_up : (t : Lists) → IsBill t → (own : List ℕ → ℕ) (more : ℕ) (code : List ℕ) → rolled_within t.lines own (more + enough t) code ≡ rolled t own code
-  pub chained : (t : Lists) → IsBill t → (deeper more : ℕ) (part target : List ℕ) → chain_within t.lines (deeper + enough t) (more + enough t) part target ≡ chain t part target
+  pub chained : (t : Lists) → IsBill t → (deeper more : ℕ) (part target : List ℕ) →
+      chain_within t.lines (deeper + enough t) (more + enough t) part target ≡ chain t part target
 
 -- a part reaches the children of its lines and what these reach
 abbrev pub ReachesByLines : Type 0
@@ -77,7 +79,8 @@ pub record FirstsAreLeast : Type 0 where
 -- just its findings, and what is neither a material nor an article has none of its own
 pub record FindingsByLines : Type 0 where
   pub by_lines : (t : Lists) → IsOrdered t → are_parents_kept t ≡ true → (code : List ℕ) (finding : Finding) →
-      is_in finding (findings_at t code) ≡ (is_in finding (own_findings t code) || list_any (λ line. is_in finding (findings_at t line.child)) (lines_of t.lines code))
+      is_in finding (findings_at t code)
+      ≡ (is_in finding (own_findings t code) || list_any (λ line. is_in finding (findings_at t line.child)) (lines_of t.lines code))
   pub once : (t : Lists) → IsOrdered t → are_parents_kept t ≡ true → are_codes_apart t ≡ true → (code : List ℕ) (finding : Finding) →
       count_by (same_finding finding) (findings_at t code) ≡ (if is_in finding (findings_at t code) then 1 else 0)
   pub of_part : (t : Lists) → are_codes_apart t ≡ true → (code : List ℕ) → is_part t code ≡ true → findings_at t code ≡ findings t code
@@ -90,13 +93,14 @@ pub record StoredFindingsAreRight (t : Lists) (stored : List ℕ → List Findin
   pub lengths : (code : List ℕ) → is_kept t code ≡ true → length (stored code) ≡ length (findings_at t code)
   pub all : sum_by (λ part. length (stored part.code)) t.parts ≡ finding_count t
 
--- each of its own and of its children's, once
+-- the list stored at each material and part holds each of its own findings and of those stored at its lines' children,
+-- once, and no other
 abbrev pub IsStoredByLines : Lists → (List ℕ → List Finding) → Type 0
 IsStoredByLines t stored = (code : List ℕ) → is_kept t code ≡ true → (finding : Finding) →
     count_by (same_finding finding) (stored code)
     ≡ (if is_in finding (own_findings t code) || list_any (λ line. is_in finding (stored line.child)) (lines_of t.lines code) then 1 else 0)
 
--- the law on stored findings
+-- lists of findings that are stored by lines at the materials and parts are right: they hold what is found there
 abbrev pub FindingsAreStored : Type 0
 FindingsAreStored = (t : Lists) → IsOrdered t → IsBill t → are_children_kept t ≡ true → are_codes_apart t ≡ true → (stored : List ℕ → List Finding) →
     IsStoredByLines t stored → StoredFindingsAreRight t stored
@@ -106,7 +110,8 @@ abbrev pub FindingsByHolder : Type 0
 FindingsByHolder = (t : Lists) →
     finding_count t
     ≡ sum_by (λ material. length (findings_on t material) * count_by (λ part. reaches t part.code material.code) t.parts) t.materials
-    + sum_by (λ article. if is_article_sort article.sort then length (findings_of_article t article) * count_by (λ part. is_or_reaches t part.code article.code) t.parts else 0) t.parts
+    + sum_by (λ article. if is_article_sort article.sort
+    then length (findings_of_article t article) * count_by (λ part. is_or_reaches t part.code article.code) t.parts else 0) t.parts
 
 -- the lines of a part, the shipments of a year and the members of a substance are each one run of their table, so that a search for
 -- its two ends finds them

@@ -15,7 +15,7 @@ reaches_within lines zero part target = false
 reaches_within lines (suc k) part target =
     list_any (λ line. same_code line.child target || reaches_within lines k line.child target) (lines_of lines part)
 
--- more lines than this no chain has
+-- a depth that suffices: no chain has more lines than this
 abbrev pub enough : Lists → ℕ
 enough t = length t.parts + 1
 

@@ -7,7 +7,7 @@ use Rattle.desk_model.specs.declared.rows.shipment.ShipmentRow.{ShipmentRow}
 use Rattle.desk_findings.specs.Carried.{carried}
 use Rattle.desk_model.specs.Lists.{Lists}
 
--- what was shipped in a year
+-- the shipments of a year
 abbrev pub shipments_in : Lists → ℕ → List ShipmentRow
 shipments_in t year = filter (λ shipment. shipment.year == year) t.shipments
 
@@ -20,7 +20,7 @@ unfoldable pub notices : Lists → ℕ → Date → List CandidateRow
 notices t year day =
     filter (λ candidate. is_not_after candidate.day day && nat_lt TONNE (tonnage t year candidate.substance)) t.candidates
 
--- Article 7(7): notices are due from this day on
+-- the first day on which a notice can be due: 1 June 2011, Article 7(7)
 abbrev pub first_due : Date
 first_due = record { year = 2011; month = 6; day = 1 }
 

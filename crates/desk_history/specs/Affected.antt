@@ -20,7 +20,7 @@ lists_substance substance material = list_any (λ held. same_code held.substance
 abbrev pub materials_listing : Lists → List ℕ → List (List ℕ)
 materials_listing t substance = map (λ material. material.code) (filter (lists_substance substance) t.materials)
 
--- a line of the part leads to one of these
+-- some line of the part leads to one of these codes
 abbrev pub leads_to_some : Lists → List ℕ → List (List ℕ) → Bool
 leads_to_some t part targets = list_any (λ line. list_any (same_code line.child) targets) (lines_of t.lines part)
 
@@ -30,7 +30,7 @@ articles_listing t substance =
     map (λ part. part.code)
     (filter (λ part. is_article_sort part.sort && leads_to_some t part.code (materials_listing t substance)) t.parts)
 
--- where the change of a new edit begins
+-- the materials and parts at which the change of a new edit begins
 unfoldable pub seeds_of_new : Lists → Edit → List (List ℕ)
 seeds_of_new t (Member ticket substance rule factor) = materials_listing t substance
 seeds_of_new t (Declare declaration) = map (λ material. material.code) declaration.materials
@@ -40,7 +40,8 @@ seeds_of_new t (Unline ticket parent child) = parent ∷ []
 seeds_of_new t (Candidate ticket substance day) = if is_candidate t substance then [] else articles_listing t substance
 seeds_of_new t _ = []
 
--- an edit that is kept already changes nothing
+-- the materials and parts at which the change of an edit begins: none where it is kept already, since it changes
+-- nothing then
 abbrev pub seeds : Lists → Edit → List (List ℕ)
 seeds t edit = if is_some (kept_number t edit) then [] else seeds_of_new t edit
 
@@ -52,6 +53,6 @@ is_affected t edit code = list_any (λ seed. same_code code seed || reaches (ent
 abbrev pub nodes : Lists → List (List ℕ)
 nodes t = map (λ material. material.code) t.materials ++ map (λ part. part.code) t.parts
 
--- the seeds and each part that reaches one, each once
+-- the codes that an edit affects: the seeds, and each part that reaches one, each once
 abbrev pub affected : Lists → Edit → List (List ℕ)
 affected t edit = filter (is_affected t edit) (nodes (entered t edit))

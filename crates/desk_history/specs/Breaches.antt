@@ -15,7 +15,8 @@ use Rattle.desk_model.specs.declared.rows.candidate.CandidateRow.{CandidateRow}
 use Rattle.desk_model.specs.declared.rows.shipment.ShipmentRow.{ShipmentRow}
 use Rattle.desk_model.specs.declared.rows.ticket.TicketRow.{TicketRow}
 use Rattle.desk_model.specs.Content.{holds_too_much}
-use Rattle.desk_model.specs.Forms.{is_candidate_row, is_exemption_row, is_line_row, is_material_row, is_member_row, is_part_row, is_product_row, is_shipment_row, is_substance_row}
+use Rattle.desk_model.specs.Forms.{is_candidate_row, is_exemption_row, is_line_row, is_material_row, is_member_row}
+use Rattle.desk_model.specs.Forms.{is_part_row, is_product_row, is_shipment_row, is_substance_row}
 use Rattle.desk_model.specs.Lists.{Lists, is_material, is_part, is_product, is_substance}
 use Rattle.desk_model.specs.Rows.{record_code, rows_of, table_number}
 use Rattle.desk_model.specs.Terms.{breaks_annex, breaks_span}
@@ -31,15 +32,16 @@ use Rattle.desk_history.specs.Sound.{IsTicketOfEdit}
 abbrev pub is_overfull : Lists → ℕ → Bool
 is_overfull t table = list_any (λ over. over == table) (tables_over t)
 
--- a substance out of form or range, as the first test of each row below, or any of a table that is overfull, as the last
+-- a row of table 1 breaks a clause of soundness: it is out of form or range, or its table is overfull, which both are
+-- tested of each row below too
 abbrev pub breaks_substance : Lists → SubstanceRow → Bool
 breaks_substance t row = not (is_substance_row row) || is_overfull t 1
 
--- a member whose substance isn't kept
+-- a row of table 2 breaks a clause: its substance isn't kept
 abbrev pub breaks_member : Lists → MemberRow → Bool
 breaks_member t row = not (is_member_row row) || not (is_substance t row.substance) || is_overfull t 2
 
--- a material that lists a substance that isn't kept, or substances that weigh more than it
+-- a row of table 3 breaks a clause: a substance that it lists isn't kept, or its substances weigh more than it
 abbrev pub breaks_material : Lists → MaterialRow → Bool
 breaks_material t row =
     not (is_material_row row)
@@ -47,7 +49,8 @@ breaks_material t row =
     || holds_too_much row.mass row.substances
     || is_overfull t 3
 
--- a part that has a material's code or is too heavy; or one with findings, where all parts have too many
+-- a row of table 4 breaks a clause: it has the code of a material or is too heavy; or it has findings, where all parts
+-- have too many
 abbrev pub breaks_part : Lists → PartRow → Bool
 breaks_part t row =
     not (is_part_row row)
@@ -56,7 +59,8 @@ breaks_part t row =
     || has_too_many_findings t && nat_lt 0 (length (findings t row.code))
     || is_overfull t 4
 
--- a line to a child of the wrong sort or one that isn't kept, a line on a cycle, or one of a parent that has too many
+-- a row of table 5 breaks a clause: its child is of the wrong sort or isn't kept, it is on a cycle, or its parent has
+-- too many lines
 abbrev pub breaks_line : Lists → LineRow → Bool
 breaks_line t row =
     not (is_line_row row)
@@ -65,19 +69,20 @@ breaks_line t row =
     || nat_lt LINES_OF_PARENT_LIMIT (length (lines_of t.lines row.parent))
     || is_overfull t 5
 
--- a product that is no kept part
+-- a row of table 6 breaks a clause: its part is no kept part
 abbrev pub breaks_product : Lists → ProductRow → Bool
 breaks_product t row = not (is_product_row row) || not (is_part t row.part) || is_overfull t 6
 
--- an exemption that ends before it begins, has a floor over its cap, or names a kind that its annex isn't for
+-- a row of table 7 breaks a clause: it ends before it begins, has a floor over its cap, or names a kind that its annex
+-- isn't for
 abbrev pub breaks_exemption : Lists → ExemptionRow → Bool
 breaks_exemption t row = not (is_exemption_row row) || breaks_span row.terms || breaks_annex row.terms || is_overfull t 7
 
--- a candidate whose substance isn't kept
+-- a row of table 8 breaks a clause: its substance isn't kept
 abbrev pub breaks_candidate : Lists → CandidateRow → Bool
 breaks_candidate t row = not (is_candidate_row row) || not (is_substance t row.substance) || is_overfull t 8
 
--- a shipment of what is no product, or of a year that is too heavy
+-- a row of table 9 breaks a clause: it is of what is no product, or of a year that is too heavy
 abbrev pub breaks_shipment : Lists → ShipmentRow → Bool
 breaks_shipment t row = not (is_shipment_row row) || not (is_product t row.product) || nat_le (2 ^ 128) (year_mass t row.year) || is_overfull t 9
 
@@ -86,7 +91,7 @@ abbrev pub is_number_once : List TicketRow → ℕ → Bool
 is_number_once tickets number =
     nat_le 1 number && nat_le number (length tickets) && count_by (λ ticket. ticket.number == number) tickets == 1
 
--- a ticket whose number isn't one of 1 to n or stands twice, or any where the texts are too long
+-- a row of table 10 breaks a clause: its number isn't one of 1 to n or stands twice, or the texts are too long together
 abbrev pub breaks_ticket : Lists → TicketRow → Bool
 breaks_ticket t row = not (is_number_once t.tickets row.number) || has_too_much_text t || is_overfull t 10
 

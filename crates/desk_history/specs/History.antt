@@ -7,12 +7,12 @@ use Rattle.desk_history.specs.Refused.{closes_cycle, refused, refused_by_rows}
 use Rattle.desk_history.specs.Sound.{Sound}
 use Rattle.desk_history.specs.Step.{kept_number, step}
 
--- opening tables and edits, in order
+-- a history: the tables that it opens with, and its edits in order
 pub record History : Type 0 where
   pub opening : Lists
   pub edits : List Edit
 
--- the tables after the edits
+-- the tables after these edits, one step after the other
 abbrev pub tables_after : Lists → List Edit → Lists
 tables_after t [] = t
 tables_after t (edit ∷ edits) = tables_after (step t edit).1 edits
@@ -39,7 +39,7 @@ abbrev pub AreAccepted : Lists → List Edit → Type 0
 AreAccepted t [] = ⊤
 AreAccepted t (edit ∷ edits) = IsAccepted t edit × AreAccepted (step t edit).1 edits
 
--- a list of accepted edits that opens with sound tables
+-- the history opens with sound tables, and its edits are accepted in turn
 pub record IsHistory (history : History) : Type 0 where
   pub sound : Sound history.opening
   pub accepted : AreAccepted history.opening history.edits
@@ -52,7 +52,8 @@ number_of history = length (after history).tickets
 abbrev pub up_to : History → ℕ → History
 up_to history number = record history { edits = take (number - length history.opening.tickets) history.edits }
 
--- the first begins the second
+-- the first history begins the second: both open with the same tables, and the first's edits are the first of the
+-- second's
 pub record Begins (first second : History) : Type 0 where
   pub opening : first.opening ≡ second.opening
   pub rest : List Edit

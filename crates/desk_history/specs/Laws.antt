@@ -114,7 +114,8 @@ pub record Stays (t : Lists) (edit : Edit) (code : List ℕ) : Type 0 where
 abbrev pub OthersStay : Type 0
 OthersStay = (t : Lists) → IsConsistent t → (edit : Edit) → PassesRows t edit → (code : List ℕ) → is_affected t edit code ≡ false → Stays t edit code
 
--- each kept material and part that such an edit affects is listed once, and nothing else is
+-- each kept material and part that an edit affects, where it passes the rules 1 to 20, is listed once, and nothing else
+-- is
 abbrev pub AffectedAreListed : Type 0
 AffectedAreListed = (t : Lists) → IsConsistent t → (edit : Edit) → PassesRows t edit → (code : List ℕ) →
     count_by (λ listed. same_code listed code) (affected t edit) ≡ (if is_affected t edit code && is_kept (entered t edit) code then 1 else 0)

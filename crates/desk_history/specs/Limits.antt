@@ -1,7 +1,10 @@
 -- Limits of whole tables.
 use Rattle.std.specs.Prelude.{ℕ, Bool, List, [], ◌∷◌, ◌++◌, length, nat_lt, sum_by, if◌then◌else◌}
 use Rattle.std.specs.List.{list_any}
-use Rattle.desk_model.specs.declared.limits.TheConstants.{SUBSTANCE_LIMIT, MEMBER_LIMIT, MATERIAL_LIMIT, PART_LIMIT, LINE_LIMIT, LINES_OF_PARENT_LIMIT, PRODUCT_LIMIT, EXEMPTION_LIMIT, CANDIDATE_LIMIT, SHIPMENT_LIMIT, TICKET_LIMIT, TEXT_LIMIT}
+use Rattle.desk_model.specs.declared.limits.TheConstants.{SUBSTANCE_LIMIT, MEMBER_LIMIT, MATERIAL_LIMIT, PART_LIMIT}
+use Rattle.desk_model.specs.declared.limits.TheConstants.{LINE_LIMIT, LINES_OF_PARENT_LIMIT, PRODUCT_LIMIT}
+use Rattle.desk_model.specs.declared.limits.TheConstants.{EXEMPTION_LIMIT, CANDIDATE_LIMIT, SHIPMENT_LIMIT}
+use Rattle.desk_model.specs.declared.limits.TheConstants.{TICKET_LIMIT, TEXT_LIMIT}
 use Rattle.desk_model.specs.Lists.{Lists}
 use Rattle.desk_findings.specs.Reaches.{lines_of}
 

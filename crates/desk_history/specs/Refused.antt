@@ -8,7 +8,13 @@ use Rattle.desk_model.specs.declared.edit.Edit.TheVariants.{Member, Declare, Par
 use Rattle.desk_model.specs.declared.limits.TheConstants.{UNITS_LIMIT}
 use Rattle.desk_model.specs.declared.material_decl.MaterialDecl.{MaterialDecl}
 use Rattle.desk_model.specs.declared.rule_fault.RuleFault.{RuleFault}
-use Rattle.desk_model.specs.declared.rule_fault.RuleFault.TheVariants.{TicketReused, UnknownSubstance, UnknownMaterial, UnknownPart, UnknownProduct, UnknownExemption, NameTaken, KindChanged, WrongChild, NoSuchLine, ForeignMaterial, StaleDeclaration, MassesExceed, ExemptionSpan, AnnexKinds, ShipBelowZero, UnitsTooLarge, TableFull, TextFull, ClosesCycle, TotalTooLarge, FindingsFull, YearTooLarge}
+use Rattle.desk_model.specs.declared.rule_fault.RuleFault.TheVariants.{TicketReused, UnknownSubstance, UnknownMaterial}
+use Rattle.desk_model.specs.declared.rule_fault.RuleFault.TheVariants.{UnknownPart, UnknownProduct, UnknownExemption}
+use Rattle.desk_model.specs.declared.rule_fault.RuleFault.TheVariants.{NameTaken, KindChanged, WrongChild, NoSuchLine}
+use Rattle.desk_model.specs.declared.rule_fault.RuleFault.TheVariants.{ForeignMaterial, StaleDeclaration, MassesExceed}
+use Rattle.desk_model.specs.declared.rule_fault.RuleFault.TheVariants.{ExemptionSpan, AnnexKinds, ShipBelowZero}
+use Rattle.desk_model.specs.declared.rule_fault.RuleFault.TheVariants.{UnitsTooLarge, TableFull, TextFull, ClosesCycle}
+use Rattle.desk_model.specs.declared.rule_fault.RuleFault.TheVariants.{TotalTooLarge, FindingsFull, YearTooLarge}
 use Rattle.desk_findings.specs.Articles.{is_article, is_assembly, same_sort}
 use Rattle.desk_findings.specs.Chain.{chain}
 use Rattle.desk_model.specs.Content.{holds_too_much}
@@ -30,7 +36,7 @@ abbrev pub first_of : {X : Type 0} → List X → Option X
 first_of [] = None
 first_of (x ∷ xs) = Some x
 
--- the first value that is there
+-- the first value that is there, in a list of values that may be absent
 abbrev pub first_some : {X : Type 0} → List (Option X) → Option X
 first_some [] = None
 first_some (None ∷ os) = first_some os

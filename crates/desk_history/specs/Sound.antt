@@ -5,7 +5,8 @@ use Rattle.desk_model.specs.declared.edit.Edit.{Edit}
 use Rattle.desk_model.specs.declared.rows.ticket.TicketRow.{TicketRow}
 use Rattle.desk_findings.specs.Bill.{are_children_right, are_codes_apart, do_contents_fit, is_acyclic}
 use Rattle.desk_model.specs.EditText.{edit_text, ticket_code}
-use Rattle.desk_model.specs.Forms.{is_substance_row, is_member_row, is_material_row, is_part_row, is_line_row, is_product_row, is_exemption_row, is_candidate_row, is_shipment_row, is_edit_in_form}
+use Rattle.desk_model.specs.Forms.{is_substance_row, is_member_row, is_material_row, is_part_row, is_line_row}
+use Rattle.desk_model.specs.Forms.{is_product_row, is_exemption_row, is_candidate_row, is_shipment_row, is_edit_in_form}
 use Rattle.desk_model.specs.Lists.{Lists, IsOrdered, is_part, is_product, is_substance}
 use Rattle.desk_model.specs.Terms.{breaks_annex, breaks_span}
 use Rattle.desk_findings.specs.Totals.{has_too_many_findings, too_heavy_part, too_heavy_year}

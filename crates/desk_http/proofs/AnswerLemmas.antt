@@ -13,9 +13,9 @@ use Rattle.desk_http.specs.declared.lines.BodyLength.TheVariants.{Missing, TooLo
 use Rattle.desk_http.specs.declared.request.Request.{Request}
 use Rattle.desk_http.specs.declared.taken.Taken.{Taken}
 use Rattle.desk_http.specs.declared.taken.Taken.TheVariants.{Whole, NotYet, BadHead, HeadTooLong, NoLength, BodyTooLong}
-use Rattle.desk_http.specs.Lines.{Line, lines_of, is_named, values_of, stated_length, bounded_length, method_of, body_length, is_closing}
+use Rattle.desk_http.specs.Lines.{Line, header_lines, is_named, values_of, stated_length, bounded_length, method_of, body_length, is_closing}
 use Rattle.desk_http.specs.Rest.{front, HasHead, HasHeadWith, IsHopeless, IsUnfinished, IsInDoubt, IsNotYet, Message, BeginsWith}
-use Rattle.desk_http.specs.Taken.{message_of, IsTakenFrom, Takes, Answer, whole, not_yet, bad_head, head_too_long, no_length, body_too_long, answer_of, may_replace}
+use Rattle.desk_http.specs.Taken.{message_of, IsTakenFrom, Takes, PlainAnswer, whole, not_yet, bad_head, head_too_long, no_length, body_too_long, answer_of, may_replace}
 use Rattle.desk_http.proofs.HeadLemmas.{print_request_len}
 use Rattle.desk_http.proofs.RestLemmas.{head_begins}
 
@@ -33,7 +33,7 @@ request_at rest h n = record {
   method = method_of h.method;
   target = h.target;
   body = slice_range rest (head_len h) (head_len h + n);
-  close = is_closing h.minor (lines_of h);
+  close = is_closing h.minor (header_lines h);
 }
 
 middle : (front body more : List ℕ) → slice_range (front ++ body ++ more) (length front) (length front + length body) ≡ body
@@ -66,7 +66,7 @@ pub same_request : (rest : List ℕ) (m n : Message) (more later : List ℕ) →
 same_request rest m n more later x y =
     let head : x.h ≡ y.h = same_head rest x.h y.h x.head.head y.head.head in
     let len : length m.body ≡ length n.body =
-    ap known_length (sym x.head.body_length ∙ ap (λ h. body_length (method_of h.method) (lines_of h)) head ∙ y.head.body_length) in (
+    ap known_length (sym x.head.body_length ∙ ap (λ h. body_length (method_of h.method) (header_lines h)) head ∙ y.head.body_length) in (
       request_is rest m more x ∙ (λ i. request_at rest (head i) (len i)) ∙ sym (request_is rest n later y),
       more_is rest m more x ∙ (λ i. drop (head_len (head i) + len i) rest) ∙ sym (more_is rest n later y),
     )
@@ -74,16 +74,16 @@ same_request rest m n more later x y =
 -- ---- answers
 
 -- the answer where the head is whole, by its lines and by what it says of its body
-abbrev pub body_answer : List ℕ → RequestHead → BodyLength → Answer
+abbrev pub body_answer : List ℕ → RequestHead → BodyLength → PlainAnswer
 body_answer rest h Missing = no_length
 body_answer rest h TooLong = body_too_long
 body_answer rest h (Known n) =
     cond (ltb (length rest) (head_len h + n)) not_yet (whole (request_at rest h n) (head_len h + n))
 
-abbrev pub head_answer : List ℕ → RequestHead → Answer
+abbrev pub head_answer : List ℕ → RequestHead → PlainAnswer
 head_answer rest h =
     cond (ltb line_limit (length h.fields)) head_too_long
-    (body_answer rest h (body_length (method_of h.method) (lines_of h)))
+    (body_answer rest h (body_length (method_of h.method) (header_lines h)))
 
 answer_with : (rest : List ℕ) (h : RequestHead) (body : BodyLength) → HasHeadWith rest h body → head_answer rest h ≡ body_answer rest h body
 answer_with rest h body x = cond-false _ _ _ (le-ltb _ _ x.lines) ∙ ap (body_answer rest h) x.body_length
@@ -127,7 +127,7 @@ pub in_doubt : (rest : List ℕ) → IsHopeless rest → IsUnfinished rest → I
 in_doubt rest never (none, inl x) = absurd (never x.0 x.1 [] x.2)
 in_doubt rest never (none, inr target) = (never, target)
 
-abbrev open_answer : List ℕ → Answer
+abbrev open_answer : List ℕ → PlainAnswer
 open_answer rest = cond (ltb (length rest) head_limit) not_yet head_too_long
 
 unfinished : (rest : List ℕ) (taken : Taken) → IsUnfinished rest → Takes rest taken
@@ -203,7 +203,7 @@ pub request_len : (rest : List ℕ) (r : Request) → IsTakenFrom rest r → (0 
 request_len rest r x =
     let b = x.begins in
     let head = head_begins rest b.h b.head.head.0 b.head.head.1 in
-    let body = body_bound (method_of b.h.method) (lines_of b.h) _ b.head.body_length in
+    let body = body_bound (method_of b.h.method) (header_lines b.h) _ b.head.body_length in
     let some = print_request_len b.h b.head.head.1.0.fields in
     let used = used_is rest r x in
     (omega (arith, some, used), omega (arith, head.bound, body, used))
@@ -213,5 +213,5 @@ pub not_yet_len : (rest : List ℕ) → IsNotYet rest → length rest < head_lim
 not_yet_len rest (inl x) = omega (arith, x.0)
 not_yet_len rest (inr x) =
     let head = head_begins rest x.0 x.2.head.0 x.2.head.1 in
-    let body = body_bound (method_of x.0.method) (lines_of x.0) x.1 x.2.body_length in
+    let body = body_bound (method_of x.0.method) (header_lines x.0) x.1 x.2.body_length in
     omega (arith, head.bound, body, x.3)

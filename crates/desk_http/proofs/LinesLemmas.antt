@@ -6,11 +6,11 @@ use Rattle.std.specs.List.{list_all}
 use Rattle.std.proofs.lemmas.Bool.{cond-true, cond-false}
 use Rattle.httparse.specs.declared.spans.HeaderSpan.{HeaderSpan}
 use Rattle.httparse.specs.Spans.{span_bytes, header_bytes}
-use Rattle.desk_http.specs.Lines.{is_named, values_of, number_of}
+use Rattle.desk_http.specs.Lines.{is_named, values_of, number_written}
 
-pub number_of_none : (ds : List ℕ) → list_all is_ascii_digit ds ≡ false → number_of ds ≡ None
-number_of_none [] fails = refl
-number_of_none (d ∷ ds) fails = cond-false _ _ _ fails
+pub number_written_none : (ds : List ℕ) → list_all is_ascii_digit ds ≡ false → number_written ds ≡ None
+number_written_none [] fails = refl
+number_written_none (d ∷ ds) fails = cond-false _ _ _ fails
 
 -- a line with the name adds its value
 values_of_more : (name front : List ℕ) (spans : List HeaderSpan) (i : ℕ) (d : HeaderSpan) → i < length spans

@@ -14,9 +14,9 @@ use Rattle.desk_http.specs.declared.request.Request.{Request}
 use Rattle.desk_http.specs.declared.taken.Taken.TheVariants.{Whole, NotYet, BadHead, HeadTooLong, NoLength, BodyTooLong}
 use Rattle.desk_http.specs.Rest.{HasHead, IsHopeless, IsUnfinished, IsInDoubt, IsNotYet, Message, BeginsWith}
 use Rattle.desk_http.specs.Stream as stream
-use Rattle.desk_http.specs.Stream.{End, EndsAs, IsStream, HasRequests, may_count_as, IsSameEnd, is_refusal, is_over}
+use Rattle.desk_http.specs.Stream.{End, EndsAs, IsStream, HasRequests, may_count_as, IsSameEnd, is_refusal, is_ended}
 use Rattle.desk_http.specs.Taken as answers
-use Rattle.desk_http.specs.Taken.{Answer, Takes, answer_of}
+use Rattle.desk_http.specs.Taken.{PlainAnswer, Takes, answer_of}
 use Rattle.desk_http.specs.Reader.{Event, came, took, bytes_of, pieces_of, requests_of, Reads, IsReadAs}
 use Rattle.desk_http.proofs.AnswerLemmas.{head_answer, headed, answer_whole, in_doubt, no_head, same_request}
 use Rattle.desk_http.proofs.HeadLemmas.{print_request_len}
@@ -34,7 +34,7 @@ taken_at stream.head_too_long = HeadTooLong
 taken_at stream.no_length = NoLength
 taken_at stream.body_too_long = BodyTooLong
 
-abbrev end_at : Answer → End
+abbrev end_at : PlainAnswer → End
 end_at (answers.whole m used) = stream.clean
 end_at answers.not_yet = stream.cut
 end_at answers.bad_head = stream.bad_head
@@ -173,14 +173,14 @@ refused_later rest more stream.no_length refused x = (x.0, HasHeadWith_later res
 refused_later rest more stream.body_too_long refused x = (x.0, HasHeadWith_later rest more x.0 _ x.1)
 
 over_behind : (rest more : List ℕ) (ms : List Message) (e : End) (close : Bool)
-    → (IsTrue (is_over ms e) → IsStream rest ms e → IsStream (rest ++ more) ms e) → IsTrue (close || is_over ms e)
+    → (IsTrue (is_ended ms e) → IsStream rest ms e → IsStream (rest ++ more) ms e) → IsTrue (close || is_ended ms e)
     → MatchBool close ((ms ≡ []) × (e ≡ stream.clean)) (IsStream rest ms e)
     → MatchBool close ((ms ≡ []) × (e ≡ stream.clean)) (IsStream (rest ++ more) ms e)
 over_behind rest more ms e true goes over x = x
 over_behind rest more ms e false goes over x = goes over x
 
 -- and what follows a stream that is over
-over_later : (bytes more : List ℕ) (ms : List Message) (e : End) → IsTrue (is_over ms e) → IsStream bytes ms e
+over_later : (bytes more : List ℕ) (ms : List Message) (e : End) → IsTrue (is_ended ms e) → IsStream bytes ms e
     → IsStream (bytes ++ more) ms e
 over_later bytes more [] e over x = refused_later bytes more e over x
 over_later bytes more (m ∷ ms) e over x = (
@@ -234,7 +234,7 @@ read_held held (took m ∷ events) end x = (
   read_later x.0 events end m.close (read_held x.0 events end) x.2,
 )
 
-unread_behind : (events : List Event) (unread : List ℕ) (end : End) → (unread ≡ []) ⊎ IsTrue (is_over (requests_of events) end)
+unread_behind : (events : List Event) (unread : List ℕ) (end : End) → (unread ≡ []) ⊎ IsTrue (is_ended (requests_of events) end)
     → IsStream (bytes_of events) (requests_of events) end → IsStream (bytes_of events ++ unread) (requests_of events) end
 unread_behind events unread end (inl none) x = rw (none, append-nil) x
 unread_behind events unread end (inr over) x = over_later (bytes_of events) unread (requests_of events) end over x

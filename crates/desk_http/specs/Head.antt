@@ -5,7 +5,7 @@ use Rattle.desk_http.specs.Limits.{line_limit}
 use Rattle.desk_http.specs.declared.head.Head.{Head}
 use Rattle.desk_http.specs.declared.head.Found.{Found}
 use Rattle.desk_http.specs.declared.head.Found.TheVariants.{Whole, TooManyLines, Unfinished, Hopeless}
-use Rattle.desk_http.specs.Lines.{lines_of, method_of, body_length, is_closing}
+use Rattle.desk_http.specs.Lines.{header_lines, method_of, body_length, is_closing}
 use Rattle.desk_http.specs.Taken.{span_bytes, IsWithin}
 
 -- the first found.len bytes of the buffer are the head h, and found has what the desk reads of it
@@ -15,10 +15,10 @@ pub record IsHeadAt (buffer : List ℕ) (found : Head) (h : RequestHead) : Type 
   pub within : IsWithin found.len found.target
   pub method : found.method ≡ method_of h.method
   pub target : span_bytes buffer found.target ≡ h.target
-  pub body : found.body ≡ body_length (method_of h.method) (lines_of h)
-  pub close : found.close ≡ is_closing h.minor (lines_of h)
+  pub body : found.body ≡ body_length (method_of h.method) (header_lines h)
+  pub close : found.close ≡ is_closing h.minor (header_lines h)
 
--- what is found is so
+-- what was found in the buffer is right: a whole head, one of too many lines, one that is unfinished, or none
 abbrev pub Finds : List ℕ → Found → Type 0
 Finds buffer (Whole found) =
     (h : RequestHead) × (after : List ℕ) × ReadsRequest buffer h after

@@ -18,8 +18,8 @@ abbrev pub Line : Type 0
 Line = List ℕ × List ℕ
 
 -- the header lines, in order
-abbrev pub lines_of : RequestHead → List Line
-lines_of h = map name_and_value h.fields
+abbrev pub header_lines : RequestHead → List Line
+header_lines h = map name_and_value h.fields
 
 -- the line has the name, in any case
 abbrev pub is_named : List ℕ → Line → Bool
@@ -35,9 +35,9 @@ method_of word =
     if bytes_eq word (codes "GET") then Get else (if bytes_eq word (codes "POST") then Post else Other)
 
 -- the number that one or more digits write
-abbrev pub number_of : List ℕ → Option ℕ
-number_of [] = None
-number_of (digit ∷ digits) =
+abbrev pub number_written : List ℕ → Option ℕ
+number_written [] = None
+number_written (digit ∷ digits) =
     if list_all is_ascii_digit (digit ∷ digits) then Some (digits_value 10 (digit ∷ digits)) else None
 
 -- the length that the values of Content-Length state: only a POST has to have one, and none may have two
@@ -45,7 +45,7 @@ abbrev pub stated_length : Method → List (List ℕ) → Option ℕ
 stated_length Get [] = Some 0
 stated_length Post [] = None
 stated_length Other [] = Some 0
-stated_length method (value ∷ []) = number_of value
+stated_length method (value ∷ []) = number_written value
 stated_length method (value ∷ second ∷ more) = None
 
 -- the length as the desk takes it, at most body_limit bytes

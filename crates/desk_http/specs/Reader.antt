@@ -1,7 +1,7 @@
 -- What a reader of a byte stream sees, in whatever pieces the stream comes.
 use Rattle.std.specs.Prelude.{◌≡◌, ◌⊎◌, ℕ, List, [], ◌∷◌, ◌++◌, IsTrue, MatchBool}
 use Rattle.desk_http.specs.Rest.{Message, BeginsWith}
-use Rattle.desk_http.specs.Stream.{End, clean, EndsAs, is_over}
+use Rattle.desk_http.specs.Stream.{End, clean, EndsAs, is_ended}
 
 -- a piece of the stream came, or the request at the front of the bytes held was taken
 pub data Event : Type 0 where
@@ -40,4 +40,4 @@ pub record IsReadAs (stream : List ℕ) (events : List Event) (end : End) : Type
   pub unread : List ℕ
   pub bytes : bytes_of events ++ unread ≡ stream
   pub reads : Reads [] events end
-  pub whole : (unread ≡ []) ⊎ IsTrue (is_over (requests_of events) end)
+  pub whole : (unread ≡ []) ⊎ IsTrue (is_ended (requests_of events) end)

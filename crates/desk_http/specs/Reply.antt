@@ -48,19 +48,19 @@ phrase_of status = option_map_or (λ row. row.1) (find (λ row. row.0 == status)
 unfoldable pub status_line : ℕ → List ℕ
 status_line status = head_line (codes "HTTP/1.1 " ++ code_digits status ++ codes " " ++ phrase_of status)
 
--- what the body is, and how long
+-- the lines of a reply's head that say what its body is, and how long
 unfoldable pub body_lines : ℕ → List ℕ
 body_lines len =
     head_line (codes "Content-Type: text/plain; charset=utf-8") ++ head_line (codes "Content-Length: " ++ decimal len)
 
--- the line that names the method allowed, where one is
+-- the line of a reply that names the method allowed, where one is
 abbrev pub allow_line : Option Method → List ℕ
 allow_line None = []
 allow_line (Some Get) = head_line (codes "Allow: GET")
 allow_line (Some Post) = head_line (codes "Allow: POST")
 allow_line (Some Other) = []
 
--- the line that says that the connection ends, where it does
+-- the line of a reply that says that the connection ends, where it does
 abbrev pub close_line : Bool → List ℕ
 close_line true = head_line (codes "Connection: close")
 close_line false = []
@@ -81,18 +81,18 @@ status_of (WrongMethod allow) = 405
 status_of StoreFault = 503
 status_of Memory = 507
 
--- the word that is its body
-abbrev pub word_of : Fixed → List ℕ
-word_of BadHead = codes "bad-head"
-word_of LengthRequired = codes "length-required"
-word_of BodyTooLong = codes "body-too-long"
-word_of HeadTooLong = codes "head-too-long"
-word_of NoRoute = codes "no-route"
-word_of (WrongMethod allow) = codes "wrong-method"
-word_of StoreFault = codes "store-fault"
-word_of Memory = codes "memory"
+-- the word that is the body of a refusal whose body is fixed
+abbrev pub refusal_word : Fixed → List ℕ
+refusal_word BadHead = codes "bad-head"
+refusal_word LengthRequired = codes "length-required"
+refusal_word BodyTooLong = codes "body-too-long"
+refusal_word HeadTooLong = codes "head-too-long"
+refusal_word NoRoute = codes "no-route"
+refusal_word (WrongMethod allow) = codes "wrong-method"
+refusal_word StoreFault = codes "store-fault"
+refusal_word Memory = codes "memory"
 
--- the method that it allows
+-- the method that a refusal whose body is fixed allows, where it names one
 abbrev pub allow_of : Fixed → Option Method
 allow_of BadHead = None
 allow_of LengthRequired = None
@@ -105,4 +105,4 @@ allow_of Memory = None
 
 -- the reply of a refusal whose body is fixed
 unfoldable pub fixed_reply : Fixed → Bool → List ℕ
-fixed_reply fixed close = reply (status_of fixed) (word_of fixed ++ line_feed ∷ []) (allow_of fixed) close
+fixed_reply fixed close = reply (status_of fixed) (refusal_word fixed ++ line_feed ∷ []) (allow_of fixed) close

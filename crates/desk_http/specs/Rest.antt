@@ -6,7 +6,7 @@ use Rattle.desk_http.specs.Limits.{head_limit, line_limit}
 use Rattle.desk_http.specs.declared.method.Method.{Method}
 use Rattle.desk_http.specs.declared.lines.BodyLength.{BodyLength}
 use Rattle.desk_http.specs.declared.lines.BodyLength.TheVariants.{Missing, TooLong, Known}
-use Rattle.desk_http.specs.Lines.{lines_of, method_of, body_length, is_closing}
+use Rattle.desk_http.specs.Lines.{header_lines, method_of, body_length, is_closing}
 
 -- the bytes that a head has to lie in
 abbrev pub front : List ℕ → List ℕ
@@ -40,23 +40,23 @@ IsTooLong rest =
 pub record HasHeadWith (rest : List ℕ) (h : RequestHead) (body : BodyLength) : Type 0 where
   pub head : HasHead rest h
   pub lines : length h.fields ≤ line_limit
-  pub body_length : body_length (method_of h.method) (lines_of h) ≡ body
+  pub body_length : body_length (method_of h.method) (header_lines h) ≡ body
 
--- the head gives no length of its body
+-- the rest begins with a head that gives no length of its body
 abbrev pub HasNoLength : List ℕ → Type 0
 HasNoLength rest = (h : RequestHead) × HasHeadWith rest h Missing
 
--- the head gives a length over body_limit bytes
+-- the rest begins with a head that gives a length over body_limit bytes
 abbrev pub HasLongBody : List ℕ → Type 0
 HasLongBody rest = (h : RequestHead) × HasHeadWith rest h TooLong
 
--- the head is whole, and not all of its body is there
+-- the rest begins with a whole head, and not all of its body is there
 abbrev pub LacksBody : List ℕ → Type 0
 LacksBody rest =
     (h : RequestHead) × (n : ℕ) × HasHeadWith rest h (Known n)
     × (length rest < length (print_request h) + n)
 
--- more bytes may make a whole request
+-- the rest is no request yet: more bytes may make a whole one
 abbrev pub IsNotYet : List ℕ → Type 0
 IsNotYet rest = ((length rest < head_limit) × IsUnfinished rest) ⊎ LacksBody rest
 
@@ -74,4 +74,4 @@ pub record BeginsWith (rest : List ℕ) (m : Message) (more : List ℕ) : Type 0
   pub bytes : rest ≡ print_request h ++ m.body ++ more
   pub method : m.method ≡ method_of h.method
   pub target : m.target ≡ h.target
-  pub close : m.close ≡ is_closing h.minor (lines_of h)
+  pub close : m.close ≡ is_closing h.minor (header_lines h)

@@ -6,7 +6,7 @@ use Rattle.desk_http.specs.Rest.{IsHopeless, IsInDoubt, IsTooLong, HasNoLength, 
 pub data End : Type 0 where
   clean cut bad_head head_too_long no_length body_too_long : End
 
--- the rest ends a stream so
+-- a stream of which this rest is left ends so: with nothing, with less than a request, or with what is refused
 abbrev pub EndsAs : List ℕ → End → Type 0
 EndsAs rest clean = rest ≡ []
 EndsAs rest cut = (0 < length rest) × IsNotYet rest
@@ -52,6 +52,6 @@ is_refusal no_length = true
 is_refusal body_too_long = true
 
 -- one of the requests closes, or what follows them is refused: the bytes behind that count for nothing
-abbrev pub is_over : List Message → End → Bool
-is_over [] end = is_refusal end
-is_over (m ∷ ms) end = m.close || is_over ms end
+abbrev pub is_ended : List Message → End → Bool
+is_ended [] end = is_refusal end
+is_ended (m ∷ ms) end = m.close || is_ended ms end

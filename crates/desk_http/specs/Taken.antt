@@ -31,7 +31,7 @@ pub record IsTakenFrom (buffer : List ℕ) (r : Request) : Type 0 where
   pub ends : r.body.to ≡ r.used
   pub begins : BeginsWith buffer (message_of buffer r) (drop r.used buffer)
 
--- the answer is right for the buffer
+-- the answer of `take_request` is right for the buffer
 abbrev pub Takes : List ℕ → Taken → Type 0
 Takes buffer (Whole r) = IsTakenFrom buffer r
 Takes buffer NotYet = IsNotYet buffer
@@ -49,12 +49,12 @@ may_replace HeadTooLong BadHead = true
 may_replace taken other = false
 
 -- an answer with the request itself in place of where it lies
-pub data Answer : Type 0 where
-  whole : Message → ℕ → Answer
-  not_yet bad_head head_too_long no_length body_too_long : Answer
+pub data PlainAnswer : Type 0 where
+  whole : Message → ℕ → PlainAnswer
+  not_yet bad_head head_too_long no_length body_too_long : PlainAnswer
 
--- what the answer says of the buffer
-abbrev pub answer_of : List ℕ → Taken → Answer
+-- what the answer of `take_request` says of the buffer, with the request itself in place of where it lies
+abbrev pub answer_of : List ℕ → Taken → PlainAnswer
 answer_of buffer (Whole r) = whole (message_of buffer r) r.used
 answer_of buffer NotYet = not_yet
 answer_of buffer BadHead = bad_head

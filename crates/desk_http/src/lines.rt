@@ -5,7 +5,7 @@ ghost use Rattle.std.specs.List.{list_any};
 ghost use Rattle.std.specs.Str.{str_eq_ignore_ascii_case};
 ghost use Rattle.httparse.specs.Grammar.{skip_ows, trim_ows};
 ghost use Rattle.httparse.specs.Spans.{header_bytes, IsHeaderWithin};
-ghost use Rattle.desk_http.specs.Lines.{is_named, number_of, bounded_length, body_length, lists_close, values_of};
+ghost use Rattle.desk_http.specs.Lines.{is_named, number_written, bounded_length, body_length, lists_close, values_of};
 
 use crate::limits::BODY_BYTES;
 use crate::method::Method;
@@ -99,7 +99,7 @@ impl<'a> HeadLines<'a> {
 
 /// The length that a value states. Digits past the bound are read to their end and not kept.
 fn read_length(value: &[u8]) -> BodyLength
-    ensures { result ≡ bounded_length (number_of value.now) }
+    ensures { result ≡ bounded_length (number_written value.now) }
 {
     if value.is_empty() {
         return BodyLength::Missing;

@@ -24,11 +24,11 @@ abbrev pub keeps_cap : Option ℕ → ℕ → ℕ → Bool
 keeps_cap None share mass = true
 keeps_cap (Some cap) share mass = nat_le share (cap * mass)
 
--- the row is for the rule and the kind
+-- the exemption row is for the rule and the kind
 abbrev pub is_for : Terms → Rule → Kind → Bool
 is_for row rule kind = same_rule row.rule rule && has_kind row.kinds kind
 
--- the day is none before the row's first and none after its last
+-- the day is none before the exemption row's first and none after its last
 unfoldable pub is_valid_on : Terms → Date → Bool
 is_valid_on row day = is_not_after row.first day && is_not_after day row.last
 

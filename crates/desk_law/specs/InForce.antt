@@ -3,7 +3,10 @@ use Rattle.std.specs.Prelude.{ℕ, Bool, false, ◌&&◌, List, [], ◌∷◌, �
 use Rattle.std.specs.List.{list_any}
 use Rattle.desk_text.specs.Day.{Date, first_askable, is_not_after}
 use Rattle.desk_law.specs.declared.kind.Kind.{Kind}
-use Rattle.desk_law.specs.declared.kind.Kind.TheVariants.{LargeHousehold, SmallHousehold, Telecommunications, Consumer, Lighting, Tool, ToyLeisureSports, Toy, MedicalDevice, InVitroDiagnostic, ControlInstrument, IndustrialInstrument, Dispenser, Other}
+use Rattle.desk_law.specs.declared.kind.Kind.TheVariants.{LargeHousehold, SmallHousehold, Telecommunications, Consumer}
+use Rattle.desk_law.specs.declared.kind.Kind.TheVariants.{Lighting, Tool, ToyLeisureSports, Toy, MedicalDevice}
+use Rattle.desk_law.specs.declared.kind.Kind.TheVariants.{InVitroDiagnostic, ControlInstrument, IndustrialInstrument}
+use Rattle.desk_law.specs.declared.kind.Kind.TheVariants.{Dispenser, Other}
 use Rattle.desk_law.specs.declared.rule.Rule.{Rule}
 use Rattle.desk_law.specs.declared.rule.Rule.TheVariants.{Lead, Mercury, Cadmium, ChromiumVi, Pbb, Pbde, Dehp, Bbp, Dbp, Dibp}
 use Rattle.desk_law.specs.Kind.{same_kind}
@@ -13,13 +16,13 @@ use Rattle.desk_law.specs.Rule.{same_rule}
 abbrev pub july_22 : ℕ → Date
 july_22 year = record { year = year; month = 7; day = 22 }
 
--- a row of the table: these rules are in force for these kinds from a day on, or never
+-- a row of the table of first days: these rules are in force for these kinds from a day on, or never
 pub record Start : Type 0 where
   pub rules : List Rule
   pub kinds : List Kind
   pub first : Option Date
 
--- a row of these parts
+-- the row of the table of first days that has these parts
 abbrev pub starts : List Rule → List Kind → Option Date → Start
 starts rules kinds first = record { rules = rules; kinds = kinds; first = first }
 
@@ -65,11 +68,11 @@ first_days =
     ∷ starts (Dibp ∷ []) (Toy ∷ []) (Some (july_22 2019))
     ∷ []
 
--- the row speaks of the rule and the kind
+-- the row of the table of first days speaks of the rule and the kind
 abbrev pub speaks_of : Rule → Kind → Start → Bool
 speaks_of rule kind row = list_any (same_rule rule) row.rules && list_any (same_kind kind) row.kinds
 
--- the first day in a row, where there is a row and it has one
+-- the first day that a row of the table names, where there is a row and it names one
 abbrev pub first_in : Option Start → Option Date
 first_in None = None
 first_in (Some row) = row.first

@@ -4,7 +4,10 @@ use Rattle.std.specs.Ordering.{nat_cmp, on}
 use Rattle.std.specs.Str.{bytes_eq}
 use Rattle.std.specs.declared.cmp.Ordering.{Ordering}
 use Rattle.desk_law.specs.declared.kind.Kind.{Kind}
-use Rattle.desk_law.specs.declared.kind.Kind.TheVariants.{LargeHousehold, SmallHousehold, Telecommunications, Consumer, Lighting, Tool, ToyLeisureSports, Toy, MedicalDevice, InVitroDiagnostic, ControlInstrument, IndustrialInstrument, Dispenser, Other}
+use Rattle.desk_law.specs.declared.kind.Kind.TheVariants.{LargeHousehold, SmallHousehold, Telecommunications, Consumer}
+use Rattle.desk_law.specs.declared.kind.Kind.TheVariants.{Lighting, Tool, ToyLeisureSports, Toy, MedicalDevice}
+use Rattle.desk_law.specs.declared.kind.Kind.TheVariants.{InVitroDiagnostic, ControlInstrument, IndustrialInstrument}
+use Rattle.desk_law.specs.declared.kind.Kind.TheVariants.{Dispenser, Other}
 
 -- the code of a kind: the number of its category, with a letter for the narrower kind of a category that is split
 unfoldable pub kind_code : Kind → List ℕ
@@ -54,6 +57,6 @@ kind_place Other = 13
 abbrev pub kind_cmp : Kind → Kind → Ordering
 kind_cmp = on kind_place nat_cmp
 
--- two kinds are one
+-- the two are the same kind
 abbrev pub same_kind : Kind → Kind → Bool
 same_kind a b = kind_place a == kind_place b

@@ -6,11 +6,14 @@ use Rattle.std.proofs.lemmas.List.FromFn.{fill_by_all}
 use Rattle.std.proofs.lemmas.Map.Views.{any-filter_same}
 use Rattle.std.proofs.Math.Bool.{and-true}
 use Rattle.desk_law.specs.declared.kind.Kind.{Kind}
-use Rattle.desk_law.specs.declared.kind.Kind.TheVariants.{LargeHousehold, SmallHousehold, Telecommunications, Consumer, Lighting, Tool, ToyLeisureSports, Toy, MedicalDevice, InVitroDiagnostic, ControlInstrument, IndustrialInstrument, Dispenser, Other}
+use Rattle.desk_law.specs.declared.kind.Kind.TheVariants.{LargeHousehold, SmallHousehold, Telecommunications, Consumer}
+use Rattle.desk_law.specs.declared.kind.Kind.TheVariants.{Lighting, Tool, ToyLeisureSports, Toy, MedicalDevice}
+use Rattle.desk_law.specs.declared.kind.Kind.TheVariants.{InVitroDiagnostic, ControlInstrument, IndustrialInstrument}
+use Rattle.desk_law.specs.declared.kind.Kind.TheVariants.{Dispenser, Other}
 use Rattle.desk_law.specs.Kind.{all_kinds, kind_place, same_kind}
 use Rattle.desk_law.specs.KindSet.{has_kind}
 
--- the kinds that have a mark at their place
+-- the kinds that have a mark at their place in a list of fourteen
 unfoldable pub marked_kinds : List Bool → List Kind
 marked_kinds marks = filter (λ kind. get_or marks (kind_place kind) false) all_kinds
 

@@ -12,7 +12,7 @@ has_kind kinds kind = list_any (same_kind kind) kinds
 unfoldable pub set_of : List Kind → List Kind
 set_of kinds = filter (has_kind kinds) all_kinds
 
--- each kind that the one list has, the other has
+-- each kind of the first list is in the second
 unfoldable pub is_subset : List Kind → List Kind → Bool
 is_subset kinds others = list_all (λ kind. not (has_kind kinds kind) || has_kind others kind) all_kinds
 

@@ -23,7 +23,7 @@ rule_number Dibp = 10
 abbrev pub rule_cmp : Rule → Rule → Ordering
 rule_cmp = on rule_number nat_cmp
 
--- two rules are one
+-- the two are the same rule
 abbrev pub same_rule : Rule → Rule → Bool
 same_rule a b = rule_number a == rule_number b
 

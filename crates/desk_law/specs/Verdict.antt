@@ -16,11 +16,11 @@ use Rattle.desk_law.specs.InForce.{in_force_from}
 use Rattle.desk_law.specs.Limit.{is_over}
 use Rattle.desk_law.specs.Restriction.{restriction_of}
 
--- the place of the first row that covers: where the rows stand in order of code, the one with the least code
+-- the place of the first exemption row that covers: where the rows stand in order of code, the one with the least code
 abbrev pub covering_place : List Terms → List Claim → Rule → Kind → Date → ℕ → ℕ → Option ℕ
 covering_place rows claims rule kind day share mass = position (λ row. covers row claims rule kind day share mass) rows
 
--- exempt by the row at the place, or a breach where there is none
+-- the verdict where the share is over a limit in force: exempt by the row at the place, or a breach where there is none
 abbrev pub exempt_or_breach : Option ℕ → Verdict
 exempt_or_breach None = Breach
 exempt_or_breach (Some place) = Exempt place
@@ -36,12 +36,12 @@ verdict_by share mass claims by day rows =
 unfoldable pub verdict : ℕ → ℕ → List Claim → Rule → Kind → Date → List Terms → Verdict
 verdict share mass claims rule kind day rows = verdict_by share mass claims (restriction_of rule kind) day rows
 
--- the named row passes, and no row that passes has a lesser code
+-- of the rows that pass a test the named one has the least code: it passes, and none that passes has a lesser code
 abbrev pub IsLeast : (Terms → Bool) → List Terms → Terms → Type 0
 IsLeast passes rows named =
     (passes named ≡ true) × All (λ row. passes row ≡ true → is_lt (code_cmp row.row named.row) ≡ false) rows
 
--- an exemption names the row with the least code of all rows that pass
+-- a verdict of exempt names the row with the least code of all rows that pass a test
 abbrev pub NamesLeast : (Terms → Bool) → List Terms → Verdict → Type 0
 NamesLeast passes rows (Exempt place) = (place < length rows) × HoldsAt (IsLeast passes rows) rows place
 NamesLeast passes rows Within = ⊤

@@ -13,6 +13,8 @@ mod limit;
 mod restriction;
 mod rule;
 mod terms;
+#[cfg(test)]
+mod tests;
 mod verdict;
 
 pub use annex::Annex;
@@ -27,6 +29,3 @@ pub use restriction::Restriction;
 pub use rule::Rule;
 pub use terms::Terms;
 pub use verdict::Verdict;
-
-#[cfg(test)]
-mod tests;

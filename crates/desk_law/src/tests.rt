@@ -284,7 +284,7 @@ fn a_row_covers_from_its_floor_to_its_cap(rt: HostRuntime) -> Result<(), Fail> {
     Ok(())
 }
 
-// Whether the row covers a gram of a material with a claim, which holds two milligrams of what the rule restricts.
+/// Whether the row covers a gram of a material with a claim, which holds two milligrams of what the rule restricts.
 fn covers_two_milligrams(row: &Terms, claim: Claim, rule: Rule) -> bool {
     let day = Day::new(2024, 1, 23);
     let it = Kind::Telecommunications;

@@ -15,8 +15,8 @@ pub record Declared : Type 0 where
   pub day : Date
   pub materials : List MaterialDecl
 
--- the number is at least 1, and the materials stand in order of code, each once, no more than a declaration may have,
--- each with what it holds in range
+-- a declaration's number is at least 1, and its materials stand in order of code, each once, no more than a declaration
+-- may have, each with what it holds in range
 abbrev pub is_declaration : Declared → Bool
 is_declaration d =
     nat_le 1 d.number
@@ -24,15 +24,15 @@ is_declaration d =
     && rises code_cmp (map (λ material. material.code) d.materials)
     && list_all (λ material. is_content material.mass material.substances material.claims) d.materials
 
--- the numbers of declarations
+-- the number is one that a declaration can have: from 1 to 2^64 - 1
 abbrev pub is_declaration_number : ℕ → Bool
 is_declaration_number n = nat_le 1 n && nat_lt n (2 ^ 64)
 
--- a declared material whose texts are of their form
+-- the texts of a declared material are of their form
 abbrev pub is_material_in_form : MaterialDecl → Bool
 is_material_in_form m = is_code m.code && is_name m.name && is_content_in_form m.substances m.claims
 
--- a declaration whose values are of their form and in their range
+-- the values of a declaration are of their form and in their range
 unfoldable pub is_declaration_in_form : Declared → Bool
 is_declaration_in_form d =
     is_code d.supplier && is_declaration_number d.number && is_day d.day && is_declaration d && list_all is_material_in_form d.materials

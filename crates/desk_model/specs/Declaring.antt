@@ -13,13 +13,13 @@ use Rattle.desk_model.specs.declared.substance_mass.SubstanceMass.{SubstanceMass
 use Rattle.desk_law.specs.Claim.{claim_cmp}
 use Rattle.desk_model.specs.Declaration.{Declared}
 
--- what an answer holds, changed; an error stays
+-- an answer with what it holds changed; an error stays as it is
 abbrev pub and_then : {A B : Type 0} → Result A DeclError → (A → B) → Result B DeclError
 and_then (Ok x) f = Ok (f x)
 and_then (Err e) f = Err e
 
 module _ {R K : Type 0} (key : R → K) (cmp : K → K → Ordering) where
-  -- a list in order of its keys with one more row, unless the key is there or the list is full
+  -- a list in order of its keys with one more row, or an error where the key is there or the list is full
   abbrev pub with_new : ℕ → R → List R → Result (List R) DeclError
   with_new limit new rows =
       if is_some (row_of key cmp (key new) rows) then Err Repeated

@@ -11,7 +11,8 @@ use Rattle.desk_law.specs.Kind.{kind_code}
 use Rattle.desk_law.specs.KindSet.{kinds_text}
 use Rattle.desk_law.specs.Rule.{rule_code}
 use Rattle.desk_model.specs.declared.edit.Edit.{Edit}
-use Rattle.desk_model.specs.declared.edit.Edit.TheVariants.{Substance, Member, Declare, Part, Line, Unline, Product, Exemption, Unexempt, Candidate, Ship, Unship}
+use Rattle.desk_model.specs.declared.edit.Edit.TheVariants.{Substance, Member, Declare, Part, Line, Unline, Product}
+use Rattle.desk_model.specs.declared.edit.Edit.TheVariants.{Exemption, Unexempt, Candidate, Ship, Unship}
 use Rattle.desk_model.specs.declared.material_decl.MaterialDecl.{MaterialDecl}
 use Rattle.desk_model.specs.declared.part_sort.PartSort.{PartSort}
 use Rattle.desk_model.specs.declared.part_sort.PartSort.TheVariants.{Article, Assembly}
@@ -27,11 +28,11 @@ joined fields = join_with_byte 9 fields
 abbrev pub tabbed : List (List ℕ) → List ℕ
 tabbed fields = flat_map (λ field. 9 ∷ field) fields
 
--- an absent value is an empty field
+-- the field of a text that may be absent: it is empty then
 abbrev pub optional_field : Option (List ℕ) → List ℕ
 optional_field text = unwrap_or text []
 
--- an absent number is an empty field
+-- the field of a number that may be absent: it is empty then
 abbrev pub optional_number : Option ℕ → List ℕ
 optional_number None = []
 optional_number (Some n) = decimal n
@@ -41,24 +42,24 @@ abbrev pub sort_word : PartSort → List ℕ
 sort_word Article = codes "article"
 sort_word Assembly = codes "assembly"
 
--- how many there are, and then code and mass of each
+-- the fields of a list of substances: how many there are, and then code and mass of each
 abbrev pub substance_fields : List SubstanceMass → List (List ℕ)
 substance_fields held = decimal (length held) ∷ flat_map (λ one. one.substance ∷ decimal one.mass ∷ []) held
 
--- how many there are, and then rule and number of each
+-- the fields of a list of claims: how many there are, and then rule and exemption number of each
 abbrev pub claim_fields : List Claim → List (List ℕ)
 claim_fields claims = decimal (length claims) ∷ flat_map (λ claim. rule_code claim.rule ∷ claim.number ∷ []) claims
 
--- code, name and mass of a declared material, then its substances and claims
+-- the fields of a declared material: code, name and mass, then its substances and claims
 abbrev pub material_fields : MaterialDecl → List (List ℕ)
 material_fields m = m.code ∷ m.name ∷ decimal m.mass ∷ (substance_fields m.substances ++ claim_fields m.claims)
 
--- supplier, number and day of a declaration, how many materials there are, then each of them
+-- the fields of a declaration: supplier, number and day, how many materials there are, then each of them
 abbrev pub declaration_fields : Declared → List (List ℕ)
 declaration_fields d =
     d.supplier ∷ decimal d.number ∷ date_text d.day ∷ decimal (length d.materials) ∷ flat_map material_fields d.materials
 
--- an exemption row: its code, annex, number, rule, kinds, first and last day, floor, cap and application
+-- the fields of an exemption row: its code, annex, number, rule, kinds, first and last day, floor, cap and application
 abbrev pub exemption_fields : ExemptionRow → List (List ℕ)
 exemption_fields row =
     row.terms.row
@@ -73,7 +74,8 @@ exemption_fields row =
     ∷ row.application
     ∷ []
 
--- the edit's word, and its fields. The ticket of an edit that is no declaration is no part of its text
+-- the fields of an edit: its word, and then its values. The ticket of an edit that is no declaration is no part of its
+-- text
 abbrev pub edit_fields : Edit → List (List ℕ)
 edit_fields (Substance ticket code name cas) = codes "substance" ∷ code ∷ name ∷ optional_field cas ∷ []
 edit_fields (Member ticket substance rule factor) = codes "member" ∷ substance ∷ rule_code rule ∷ decimal factor ∷ []
@@ -92,15 +94,15 @@ edit_fields (Unship ticket product year units) = codes "unship" ∷ product ∷ 
 unfoldable pub edit_text : Edit → List ℕ
 edit_text edit = joined (edit_fields edit)
 
--- two texts are one
+-- the two are the same text
 abbrev pub same_text : List ℕ → List ℕ → Bool
 same_text = eq_by_cmp (slice_cmp nat_cmp)
 
--- a ticket of a sender's own choice
+-- the ticket's code of an edit whose sender chose the ticket
 abbrev pub sent_code : List ℕ → List ℕ
 sent_code ticket = codes "E:" ++ ticket
 
--- the ticket of a declaration is its supplier and number
+-- the ticket's code of a declaration: its supplier and its number
 abbrev pub declared_code : List ℕ → ℕ → List ℕ
 declared_code supplier number = codes "D:" ++ supplier ++ codes ":" ++ decimal number
 

@@ -6,7 +6,8 @@ use Rattle.desk_law.specs.declared.rule.Rule.{Rule}
 use Rattle.desk_law.specs.Rule.{rule_number}
 use Rattle.desk_rows.specs.Rows.{with_row, with_rows, without_row}
 use Rattle.desk_model.specs.declared.edit.Edit.{Edit}
-use Rattle.desk_model.specs.declared.edit.Edit.TheVariants.{Substance, Member, Declare, Part, Line, Unline, Product, Exemption, Unexempt, Candidate, Ship, Unship}
+use Rattle.desk_model.specs.declared.edit.Edit.TheVariants.{Substance, Member, Declare, Part, Line, Unline, Product}
+use Rattle.desk_model.specs.declared.edit.Edit.TheVariants.{Exemption, Unexempt, Candidate, Ship, Unship}
 use Rattle.desk_model.specs.declared.material_decl.MaterialDecl.{MaterialDecl}
 use Rattle.desk_model.specs.declared.rows.material.MaterialRow.{MaterialRow}
 use Rattle.desk_model.specs.Declaration.{Declared}
@@ -34,13 +35,13 @@ declared_rows d = map (declared_row d) d.materials
 abbrev pub units_of : Lists → ℕ → List ℕ → ℕ
 units_of t year product = option_map_or (λ shipment. shipment.units) (shipment_row t year product) 0
 
--- the year's entry of the product holds so many units, and there is none where it would hold 0
+-- the tables where the year's entry of the product holds so many units; there is no entry where that is 0
 abbrev pub with_units : Lists → ℕ → List ℕ → ℕ → Lists
 with_units t year product zero = record t { shipments = without_row shipment_key shipment_key_cmp (year, product) t.shipments }
 with_units t year product (suc fewer) =
     record t { shipments = with_row shipment_key shipment_key_cmp (record { year = year; product = product; units = suc fewer }) t.shipments }
 
--- the substance counts for the rule by this factor, and is no member where that is 0
+-- the tables where the substance counts for the rule by this factor; it is no member where that is 0
 abbrev pub with_factor : Lists → List ℕ → Rule → ℕ → Lists
 with_factor t substance rule zero = record t { members = without_row member_key member_key_cmp (substance, rule_number rule) t.members }
 with_factor t substance rule (suc fewer) =
@@ -67,7 +68,7 @@ made t (Candidate ticket substance day) =
 made t (Ship ticket product year units) = with_units t year product (units_of t year product + units)
 made t (Unship ticket product year units) = with_units t year product (units_of t year product - units)
 
--- numbers begin with 1
+-- the number of the next edit that is accepted: one more than there are tickets
 abbrev pub next_number : Lists → ℕ
 next_number t = length t.tickets + 1
 

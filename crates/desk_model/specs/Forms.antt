@@ -4,7 +4,8 @@ use Rattle.desk_text.specs.Cas.{cas_of}
 use Rattle.desk_text.specs.Day.{is_day}
 use Rattle.desk_law.specs.declared.terms.Terms.{Terms}
 use Rattle.desk_model.specs.declared.edit.Edit.{Edit}
-use Rattle.desk_model.specs.declared.edit.Edit.TheVariants.{Substance, Member, Declare, Part, Line, Unline, Product, Exemption, Unexempt, Candidate, Ship, Unship}
+use Rattle.desk_model.specs.declared.edit.Edit.TheVariants.{Substance, Member, Declare, Part, Line, Unline, Product}
+use Rattle.desk_model.specs.declared.edit.Edit.TheVariants.{Exemption, Unexempt, Candidate, Ship, Unship}
 use Rattle.desk_model.specs.declared.limits.TheConstants.{COUNT_LIMIT, FIRST_SHIPMENT_YEAR, LAST_SHIPMENT_YEAR, UNITS_LIMIT, WHOLE_FACTOR}
 use Rattle.desk_model.specs.declared.rows.substance.SubstanceRow.{SubstanceRow}
 use Rattle.desk_model.specs.declared.rows.member.MemberRow.{MemberRow}
@@ -27,62 +28,62 @@ abbrev pub is_optional_cas : Option (List ℕ) → Bool
 is_optional_cas None = true
 is_optional_cas (Some bytes) = is_ok (cas_of bytes)
 
--- the count of a line, from 1 to 1,000,000
+-- the number is a count of a line, from 1 to 1,000,000
 abbrev pub is_count : ℕ → Bool
 is_count n = nat_le 1 n && nat_le n COUNT_LIMIT
 
--- the factor of an edit, from 0, which takes the member out, to 1,000,000
+-- the number is a factor of an edit, from 0, which takes the member out, to 1,000,000
 abbrev pub is_factor : ℕ → Bool
 is_factor n = nat_le n WHOLE_FACTOR
 
--- the year of a shipment, from 2008 to 2099
+-- the number is a year of shipments, from 2008 to 2099
 abbrev pub is_year : ℕ → Bool
 is_year n = nat_le FIRST_SHIPMENT_YEAR n && nat_le n LAST_SHIPMENT_YEAR
 
--- the units of a shipment, from 1 to 1,000,000,000,000
+-- the number is one of units of a shipment, from 1 to 1,000,000,000,000
 abbrev pub are_units : ℕ → Bool
 are_units n = nat_le 1 n && nat_le n UNITS_LIMIT
 
--- a substance, its values of their form and in their range, as those of the rows below
+-- the values of a row of table 1, a substance, are of their form and in their range
 abbrev pub is_substance_row : SubstanceRow → Bool
 is_substance_row row = is_code row.code && is_name row.name && is_optional_cas row.cas
 
--- a member of a rule, with a factor of at least 1
+-- those of a row of table 2, a member of a rule, are, with a factor of at least 1
 abbrev pub is_member_row : MemberRow → Bool
 is_member_row row = is_code row.substance && nat_le 1 row.factor && nat_le row.factor WHOLE_FACTOR
 
--- a material with what it holds and claims
+-- those of a row of table 3, a material with what it holds and claims, are
 unfoldable pub is_material_row : MaterialRow → Bool
 is_material_row row =
     is_code row.code && is_code row.supplier && is_declaration_number row.number && is_day row.day && is_name row.name
     && is_content row.mass row.substances row.claims && is_content_in_form row.substances row.claims
 
--- a part
+-- those of a row of table 4, a part, are
 abbrev pub is_part_row : PartRow → Bool
 is_part_row row = is_code row.code && is_name row.name
 
--- a line of the bill of materials
+-- those of a row of table 5, a line of the bill of materials, are
 abbrev pub is_line_row : LineRow → Bool
 is_line_row row = is_code row.parent && is_code row.child && is_count row.count
 
--- a product
+-- those of a row of table 6, a product, are
 abbrev pub is_product_row : ProductRow → Bool
 is_product_row row = is_code row.part
 
--- the terms of an exemption
+-- the terms of an exemption are of their form and in their range
 abbrev pub are_terms : Terms → Bool
 are_terms terms =
     is_code terms.row && is_exemption_number terms.number && is_day terms.first && is_day terms.last && are_terms_in_range terms
 
--- an exemption with its application
+-- the values of a row of table 7, an exemption with its application, are of their form and in their range
 unfoldable pub is_exemption_row : ExemptionRow → Bool
 is_exemption_row row = are_terms row.terms && is_name row.application
 
--- a candidate of the list of Article 59 of Regulation (EC) 1907/2006
+-- those of a row of table 8, a candidate of the list of Article 59 of Regulation (EC) 1907/2006, are
 abbrev pub is_candidate_row : CandidateRow → Bool
 is_candidate_row row = is_code row.substance && is_day row.day
 
--- a shipment
+-- those of a row of table 9, a shipment, are
 abbrev pub is_shipment_row : ShipmentRow → Bool
 is_shipment_row row = is_year row.year && is_code row.product && are_units row.units
 
@@ -96,7 +97,7 @@ is_of_bill (Ship ticket product year units) = true
 is_of_bill (Unship ticket product year units) = true
 is_of_bill _ = false
 
--- edits whose values are of their form and in their range
+-- the values of an edit are of their form and in their range
 unfoldable pub is_edit_in_form : Edit → Bool
 is_edit_in_form (Substance ticket code name cas) = is_code ticket && is_code code && is_name name && is_optional_cas cas
 is_edit_in_form (Member ticket substance rule factor) = is_code ticket && is_code substance && is_factor factor

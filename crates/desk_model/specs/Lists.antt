@@ -106,7 +106,7 @@ is_material t code = is_some (material_row t code)
 abbrev pub is_part : Lists → List ℕ → Bool
 is_part t code = is_some (part_row t code)
 
--- materials and parts share one space of codes
+-- the tables keep a material or a part of the code; the two share one space of codes
 abbrev pub is_kept : Lists → List ℕ → Bool
 is_kept t code = is_material t code || is_part t code
 

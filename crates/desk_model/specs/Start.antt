@@ -25,7 +25,7 @@ base_name Bbp = codes "Butyl benzyl phthalate (BBP)"
 base_name Dbp = codes "Dibutyl phthalate (DBP)"
 base_name Dibp = codes "Diisobutyl phthalate (DIBP)"
 
--- groups of substances have no CAS number
+-- the CAS number of the base substance of a rule; groups of substances have none
 abbrev pub base_cas : Rule → Option (List ℕ)
 base_cas Lead = Some (codes "7439-92-1")
 base_cas Mercury = Some (codes "7439-97-6")
@@ -38,15 +38,15 @@ base_cas Bbp = Some (codes "85-68-7")
 base_cas Dbp = Some (codes "84-74-2")
 base_cas Dibp = Some (codes "84-69-5")
 
--- the base substance of a rule has the rule's code
+-- the base substance of a rule: it has the rule's code
 abbrev pub base_substance : Rule → SubstanceRow
 base_substance rule = record { code = rule_code rule; name = base_name rule; cas = base_cas rule }
 
--- and all of it counts for the rule
+-- the base substance of a rule is a member of it, and all of its mass counts
 abbrev pub base_member : Rule → MemberRow
 base_member rule = record { substance = rule_code rule; rule = rule; factor = WHOLE_FACTOR }
 
--- the ten base substances and nothing else
+-- the tables that a desk starts with: the ten base substances, each a member of its rule, and nothing else
 unfoldable pub start : Lists
 start = record {
   substances = map base_substance rules_by_code;

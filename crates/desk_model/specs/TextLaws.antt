@@ -16,4 +16,6 @@ TextsTellApart = (a b : Edit) → is_edit_in_form a ≡ true → is_edit_in_form
 pub record TicketsTellApart : Type 0 where
   pub sorts : (edit : Edit) (declaration : Declared) → ticket_code edit ≡ ticket_code (Declare declaration) → (other : Declared) × (edit ≡ Declare other)
   pub sent : (ticket other : List ℕ) → sent_code ticket ≡ sent_code other → ticket ≡ other
-  pub declared : (supplier other : List ℕ) (number more : ℕ) → is_code supplier ≡ true → is_code other ≡ true → is_declaration_number number ≡ true → is_declaration_number more ≡ true → declared_code supplier number ≡ declared_code other more → (supplier ≡ other) × (number ≡ more)
+  pub declared : (supplier other : List ℕ) (number more : ℕ) → is_code supplier ≡ true → is_code other ≡ true →
+      is_declaration_number number ≡ true → is_declaration_number more ≡ true →
+      declared_code supplier number ≡ declared_code other more → (supplier ≡ other) × (number ≡ more)

@@ -8,7 +8,7 @@ use desk_text::{Bytes, Code, Day, ExemptionNumber, Name};
 use std::alloc::Global;
 use std::test::Fail;
 
-// Whether the row's copy is the row again.
+/// Whether the row's copy is the row again.
 fn is_copied<R: Keyed + PartialEq>(alloc: Global, row: &R) -> Result<bool, Fail> {
     let copy = row.copied(alloc)?;
     Ok(copy == *row)
@@ -131,7 +131,7 @@ fn a_copied_material_keeps_its_number(rt: HostRuntime) -> Result<(), Fail> {
     Ok(())
 }
 
-// The terms of an exemption for lead.
+/// The terms of an exemption for lead.
 fn terms() -> Result<Terms, Fail> {
     Ok(Terms {
         row: Code::read(b"R6C")?,

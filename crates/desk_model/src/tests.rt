@@ -5,20 +5,20 @@ use desk_text::{Code, Day, ExemptionNumber, Name};
 use std::alloc::Global;
 use std::test::Fail;
 
-// The first declaration of ACME, of 2 March 2024, without materials.
+/// The first declaration of ACME, of 2 March 2024, without materials.
 fn started(alloc: Global) -> Result<Declaration, Fail> {
     let day = Day::read(b"2024-03-02")?;
     Ok(Declaration::start(alloc, Code::read(b"ACME")?, 1, day)?)
 }
 
-// A declaration of one material, M, of one gram.
+/// A declaration of one material, M, of one gram.
 fn with_one_material(alloc: Global) -> Result<Declaration, Fail> {
     let mut declaration = started(alloc)?;
     declaration.add_material(Code::read(b"M")?, Name::read(alloc, b"Solder")?, 1_000_000)?;
     Ok(declaration)
 }
 
-// The code of a letter and a number, such as S7.
+/// The code of a letter and a number, such as S7.
 fn numbered(alloc: Global, letter: &str, number: u32) -> Result<Code, Fail> {
     let text = format!(in alloc; "{letter}{number}")?;
     Ok(Code::read(text.as_bytes())?)

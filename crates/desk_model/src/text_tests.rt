@@ -4,7 +4,7 @@ use desk_text::{Bytes, Cas, Code, Day, ExemptionNumber, Name};
 use std::alloc::Global;
 use std::test::Fail;
 
-// Whether the edit appends this text, with the fields set apart by `|` here, and this code of a ticket.
+/// Whether the edit appends this text, with the fields set apart by `|` here, and this code of a ticket.
 fn is_told(alloc: Global, edit: &Edit, fields: &str, code: &str) -> Result<bool, Fail> {
     let mut text = Bytes::start(alloc);
     edit.text(&mut text)?;
@@ -27,13 +27,13 @@ fn day() -> Result<Day, Fail> {
     Ok(Day::read(b"2024-01-23")?)
 }
 
-// The code of a letter and a number, such as S7.
+/// The code of a letter and a number, such as S7.
 fn numbered(alloc: Global, letter: &str, number: u32) -> Result<Code, Fail> {
     let text = format!(in alloc; "{letter}{number}")?;
     code(text.as_str())
 }
 
-// An exemption row for lead in these kinds.
+/// An exemption row for lead in these kinds.
 fn shielding(
     alloc: Global,
     kinds: &[Kind],

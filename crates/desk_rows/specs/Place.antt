@@ -20,7 +20,7 @@ module _ {R K : Type 0} (key : R → K) (cmp : K → K → Ordering) where
     pub same : without_row key cmp k rows ≡ rows
     pub put : (new : R) → key new ≡ k → with_row key cmp new rows ≡ insert rows place new
 
-  -- the new row belongs in the place of the row that stands there
+  -- a row with the new row's key stands at the place, and the new row takes its place
   pub record Replaces (new : R) (rows : List R) (place : ℕ) : Type 0 where
     pub within : place < length rows
     pub found : (d : R) → row_of key cmp (key new) rows ≡ Some (slice_index_or rows place d)
@@ -28,7 +28,7 @@ module _ {R K : Type 0} (key : R → K) (cmp : K → K → Ordering) where
     pub count : length (with_row key cmp new rows) ≡ length rows
     pub by_key : IsByKey key cmp (slice_set rows place new)
 
-  -- the new row belongs before the row that stands there
+  -- no row has the new row's key, and the new row belongs before the row that stands at the place
   pub record Enters (new : R) (rows : List R) (place : ℕ) : Type 0 where
     pub within : place ≤ length rows
     pub absent : row_of key cmp (key new) rows ≡ None

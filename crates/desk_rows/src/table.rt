@@ -117,7 +117,7 @@ impl<R: Keyed> Table<R> {
     }
 }
 
-// Puts the row in its place, where room for one more row was made before.
+/// Puts the row in its place, where room for one more row was made before.
 fn put_reserved<R: Keyed>(rows: &mut Vec<R>, row: R)
     requires by_key { IsByKey R.key R.Key.cmp rows.old.items }
     requires room { vec_len rows.old < vec_capacity rows.old }

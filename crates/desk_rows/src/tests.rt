@@ -32,7 +32,7 @@ fn cost(item: u16, cents: u32) -> Price {
     Price { item, cents }
 }
 
-// Items 2, 4 and 6, put in out of order.
+/// Items 2, 4 and 6, put in out of order.
 fn three_prices(alloc: Global) -> Result<Table<Price>, OutOfMemory> {
     let mut table = Table::new(alloc);
     for (item, cents) in [(4, 40), (6, 60), (2, 20)] {

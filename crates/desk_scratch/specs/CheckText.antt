@@ -21,7 +21,7 @@ check_line kind day supplier number =
 abbrev pub some_breach : Lists → Kind → Date → Declared → Bool
 some_breach t kind day d = list_any (λ m. has_breach t kind day (declared_row d m)) d.materials
 
--- the last line
+-- the last line: `compliant` or `not-compliant`
 abbrev pub compliance_line : Bool → List ℕ
 compliance_line true = codes "compliant\n"
 compliance_line false = codes "not-compliant\n"
@@ -33,6 +33,6 @@ check_text t kind day d =
     ++ flat_map (λ m. material_block t kind day (declared_row d m)) d.materials
     ++ compliance_line (not (some_breach t kind day d))
 
--- the text ends so
+-- the first text ends with the second
 abbrev pub EndsIn : List ℕ → List ℕ → Type 0
 EndsIn text tail = (before : List ℕ) × (text ≡ before ++ tail)

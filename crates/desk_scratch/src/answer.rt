@@ -5,7 +5,9 @@ ghost use Rattle.desk_model.specs.Start.{start};
 ghost use Rattle.desk_scratch.specs.CheckText.{EndsIn, check_line, check_text, compliance_line, some_breach};
 ghost use Rattle.desk_scratch.specs.MaterialBlock.{material_block};
 
-use crate::material_block::{Asked, has_breach, push_material_block};
+use crate::asked::Asked;
+use crate::judgement::has_breach;
+use crate::material_block::push_material_block;
 use desk_model::Declaration;
 use desk_text::{Bytes, Code, OutOfMemory};
 use std::alloc::{AllocError, Global};
@@ -30,7 +32,7 @@ pub fn check_text(
     Ok(text)
 }
 
-// What was asked, and which declaration is judged.
+/// What was asked, and which declaration is judged.
 fn first_line(
     alloc: Global,
     asked: &Asked,
@@ -47,7 +49,7 @@ fn first_line(
     Ok(line)
 }
 
-// Appends the block of each material, in order of code.
+/// Appends the block of each material, in order of code.
 fn push_blocks(
     alloc: Global,
     out: &mut Bytes,
@@ -65,7 +67,7 @@ fn push_blocks(
     Ok(())
 }
 
-// Whether no material breaches any rule.
+/// The line that says whether no material breaches any rule.
 fn last_line(asked: &Asked, declaration: &Declaration) -> &'static str
     ensures { result.now ≡ compliance_line (not (some_breach start asked.now.kind asked.now.day declaration.now)) }
 {
@@ -76,7 +78,7 @@ fn last_line(asked: &Asked, declaration: &Declaration) -> &'static str
     }
 }
 
-// Whether some material breaches some rule.
+/// Whether some material breaches some rule.
 fn some_breach(asked: &Asked, declaration: &Declaration) -> bool
     ensures { result ≡ some_breach start asked.now.kind asked.now.day declaration.now }
 {

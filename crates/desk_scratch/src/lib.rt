@@ -2,6 +2,8 @@
 #![tactic(auto)]
 
 mod answer;
+mod asked;
+mod judgement;
 mod material_block;
 mod share;
 #[cfg(test)]
@@ -9,4 +11,4 @@ mod tests;
 mod verdict_words;
 
 pub use answer::check_text;
-pub use material_block::Asked;
+pub use asked::Asked;

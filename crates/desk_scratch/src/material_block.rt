@@ -1,31 +1,20 @@
-ghost use Rattle.std.specs.Prelude.{◌≡◌, ◌++◌, ℕ, true, not, map, string_bytes, IfOk, OnOk, IsTrue};
-ghost use Rattle.std.specs.List.{flat_map, list_any, list_all};
-ghost use Rattle.desk_text.specs.Day.{is_askable};
+ghost use Rattle.std.specs.Prelude.{◌≡◌, ◌++◌, true, string_bytes, IfOk, OnOk};
+ghost use Rattle.std.specs.List.{flat_map};
 ghost use Rattle.desk_law.specs.Rule.{all_rules};
 ghost use Rattle.desk_model.specs.Content.{is_content};
 ghost use Rattle.desk_model.specs.Declaration.{Declared};
 ghost use Rattle.desk_model.specs.Start.{start};
 ghost use Rattle.desk_model.specs.Effect.{declared_row};
-ghost use Rattle.desk_findings.specs.Verdicts.{verdict_on};
-ghost use Rattle.desk_scratch.specs.Judgement.{has_breach, is_breach};
 ghost use Rattle.desk_scratch.specs.MaterialBlock.{material_block, material_line_with, rule_line, rule_line_with, verdict_words};
 
+use crate::asked::Asked;
+use crate::judgement::base_verdict;
 use crate::share::base_share;
 use crate::verdict_words::VerdictWords;
-use desk_law::{Kind, Rule, Verdict, judge, limit_ppm};
+use desk_law::{Rule, limit_ppm};
 use desk_model::MaterialDecl;
-use desk_text::{Bytes, Code, Day, OutOfMemory};
+use desk_text::{Bytes, Code, OutOfMemory};
 use std::alloc::{AllocError, Global};
-
-/// For which kind of equipment and on which day a material is judged.
-#[derive(Clone, Copy, Debug)]
-pub struct Asked {
-    /// The kind of equipment.
-    pub kind: Kind,
-    /// The day, 2014-07-22 or later.
-    pub day: Day,
-    ghost askable: { IsTrue (is_askable day) },
-}
 
 /// Appends the lines on a declared material, over the tables that a desk starts with: what was
 /// declared of it, and its verdict for each rule.
@@ -46,7 +35,7 @@ pub(crate) fn push_material_block(
     push_rule_lines(alloc, out, material, asked)
 }
 
-// The line on what was declared of a material.
+/// The line on what was declared of a material.
 fn material_text(
     alloc: Global,
     supplier: &Code,
@@ -64,7 +53,7 @@ fn material_text(
     Ok(line)
 }
 
-// Appends a line for each rule, in order of number.
+/// Appends a line for each rule, in order of number.
 fn push_rule_lines(
     alloc: Global,
     out: &mut Bytes,
@@ -80,7 +69,7 @@ fn push_rule_lines(
     Ok(())
 }
 
-// Appends the line on a rule.
+/// Appends the line on a rule.
 fn push_rule_line(
     alloc: Global,
     out: &mut Bytes,
@@ -95,7 +84,7 @@ fn push_rule_line(
     out.push_all(line.as_bytes())
 }
 
-// The line on a rule.
+/// The line on a rule.
 fn rule_text(
     alloc: Global,
     rule: Rule,
@@ -105,7 +94,7 @@ fn rule_text(
     requires { is_content material.now.mass material.now.substances material.now.claims ≡ true }
     ensures { IfOk result (λ line. (d : Declared) → string_bytes line ≡ rule_line start asked.now.kind asked.now.day (declared_row d material.now) rule) }
 {
-    let share = base_share(rule, material.substances.as_slice());
+    let share = base_share(rule, material);
     let limit = u128::from(limit_ppm(rule)) * u128::from(material.mass);
     let verdict = base_verdict(rule, material, asked);
     line_text(
@@ -117,7 +106,7 @@ fn rule_text(
     )
 }
 
-// A rule's line of these parts.
+/// A rule's line of these parts.
 fn line_text(
     alloc: Global,
     rule: Rule,
@@ -130,43 +119,4 @@ fn line_text(
 {
     let line = format!(in alloc; "rule {rule} share {share} limit {limit} {verdict}\n")?;
     Ok(line)
-}
-
-// The verdict over the tables that a desk starts with, which have no exemption.
-fn base_verdict(rule: Rule, material: &MaterialDecl, asked: &Asked) -> Verdict
-    requires { is_content material.now.mass material.now.substances material.now.claims ≡ true }
-    ensures { (d : Declared) → result ≡ verdict_on start asked.now.kind asked.now.day (declared_row d material.now) rule }
-{
-    let share = base_share(rule, material.substances.as_slice());
-    let claims = material.claims.as_slice();
-    judge(
-        share,
-        material.mass,
-        claims,
-        rule,
-        asked.kind,
-        asked.day,
-        &[],
-    )
-}
-
-/// Whether a declared material breaches some rule, over the tables that a desk starts with.
-pub(crate) fn has_breach(material: &MaterialDecl, asked: &Asked) -> bool
-    requires { is_content material.now.mass material.now.substances material.now.claims ≡ true }
-    ensures { (d : Declared) → result ≡ has_breach start asked.now.kind asked.now.day (declared_row d material.now) }
-{
-    for rule in Rule::ALL {
-        if breaches(rule, material, asked) {
-            return true;
-        }
-    }
-    false
-}
-
-// Whether a declared material breaches the rule.
-fn breaches(rule: Rule, material: &MaterialDecl, asked: &Asked) -> bool
-    requires { is_content material.now.mass material.now.substances material.now.claims ≡ true }
-    ensures { (d : Declared) → result ≡ is_breach (verdict_on start asked.now.kind asked.now.day (declared_row d material.now) rule) }
-{
-    matches!(base_verdict(rule, material, asked), Verdict::Breach)
 }

@@ -8,7 +8,7 @@ use desk_text::{Code, Day, ExemptionNumber, Name};
 use std::alloc::Global;
 use std::test::Fail;
 
-// A gram of paste with these micrograms of lead and of cadmium.
+/// A gram of paste with these micrograms of lead and of cadmium.
 fn paste(alloc: Global, lead: u64, cadmium: u64) -> Result<Declaration, Fail>
     requires lead { lead ≤ 1000000 }
     requires cadmium { cadmium ≤ 1000000 }
@@ -54,7 +54,7 @@ fn a_material_is_judged_for_each_rule(rt: HostRuntime) -> Result<(), Fail> {
     Ok(())
 }
 
-// An exemption for lead, in a row of its own.
+/// An exemption for lead, in a row of its own.
 fn exemption(row: &[u8], number: &[u8]) -> Result<Terms, Fail> {
     Ok(Terms {
         row: Code::read(row)?,

@@ -35,7 +35,7 @@ impl fmt::Display for VerdictWords<'_> {
     }
 }
 
-// The row at a place, if there is one.
+/// The row at a place, if there is one.
 fn named(rows: &[Terms], place: usize) -> Option<&Terms>
     ensures { option_copied result ≡ slice_get rows.now place }
 {

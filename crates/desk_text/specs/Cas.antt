@@ -1,5 +1,6 @@
 -- CAS registry numbers, by the rules of the Chemical Abstracts Service.
-use Rattle.std.specs.Prelude.{ℕ, ◌+◌, ◌-◌, ◌*◌, ◌%◌, Bool, not, ◌||◌, ◌==◌, List, [], ◌∷◌, length, map, filter, take, codes, slice_index, Result, Ok, Err, if◌then◌else◌}
+use Rattle.std.specs.Prelude.{ℕ, ◌+◌, ◌-◌, ◌*◌, ◌%◌, Bool, not, ◌||◌, ◌==◌, List, [], ◌∷◌, length, map, filter, take}
+use Rattle.std.specs.Prelude.{codes, slice_index, Result, Ok, Err, if◌then◌else◌}
 use Rattle.std.specs.Char.{is_ascii_digit, digit_value}
 use Rattle.desk_text.specs.Picture.{fits}
 use Rattle.desk_text.specs.declared.cas.CasFault.{CasFault}
@@ -24,7 +25,7 @@ weighted_sum (d ∷ ds) = d * length (d ∷ ds) + weighted_sum ds
 abbrev pub check_digit : List ℕ → ℕ
 check_digit bytes = weighted_sum (digits_of bytes) % 10
 
--- the number that the bytes spell
+-- the CAS registry number that the bytes spell: they have the shape of one, and the check digit is right
 unfoldable pub cas_of : List ℕ → Result (List ℕ) CasFault
 cas_of bytes =
     let last = length bytes - 1 in

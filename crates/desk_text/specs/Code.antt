@@ -8,7 +8,7 @@ use Rattle.std.specs.declared.cmp.Ordering.{Ordering}
 use Rattle.desk_text.specs.declared.code.CodeFault.{CodeFault}
 use Rattle.desk_text.specs.declared.code.CodeFault.TheVariants.{Empty, TooLong, BadByte}
 
--- the bytes, unless one place of them is bad
+-- the bytes, or a fault with the place of a byte that is outside the alphabet, where there is one
 abbrev pub unless_bad : Option ℕ → List ℕ → Result (List ℕ) CodeFault
 unless_bad None bytes = Ok bytes
 unless_bad (Some at) bytes = Err (BadByte at)
@@ -20,7 +20,7 @@ word_of alphabet limit bytes =
     else (if nat_lt limit (length bytes) then Err TooLong
     else unless_bad (position (λ b. not (alphabet b)) bytes) bytes)
 
--- the alphabet of codes: A-Z a-z 0-9 . _ -
+-- the byte is in the alphabet of codes: A-Z a-z 0-9 . _ -
 abbrev pub is_code_byte : ℕ → Bool
 is_code_byte b = is_ascii_alphanumeric b || list_any (λ c. b == c) (codes "._-")
 
@@ -28,7 +28,7 @@ is_code_byte b = is_ascii_alphanumeric b || list_any (λ c. b == c) (codes "._-"
 unfoldable pub code_of : List ℕ → Result (List ℕ) CodeFault
 code_of = word_of is_code_byte 40
 
--- the alphabet of exemption numbers: that of codes, and brackets
+-- the byte is in the alphabet of exemption numbers: that of codes, and brackets
 abbrev pub is_exemption_number_byte : ℕ → Bool
 is_exemption_number_byte b = is_code_byte b || list_any (λ c. b == c) (codes "()")
 

@@ -1,5 +1,6 @@
 -- Days: dates of the calendar from 2000-01-01 to 2099-12-31.
-use Rattle.std.specs.Prelude.{ℕ, zero, suc, ◌+◌, ◌-◌, ◌*◌, ◌/◌, ◌%◌, min, Bool, not, ◌&&◌, List, [], ◌∷◌, ◌++◌, codes, slice_range, pos, Option, None, Some, Result, Ok, Err, if◌then◌else◌, nat_le}
+use Rattle.std.specs.Prelude.{ℕ, zero, suc, ◌+◌, ◌-◌, ◌*◌, ◌/◌, ◌%◌, min, Bool, not, ◌&&◌, List, [], ◌∷◌, ◌++◌, codes}
+use Rattle.std.specs.Prelude.{slice_range, pos, Option, None, Some, Result, Ok, Err, if◌then◌else◌, nat_le}
 use Rattle.std.specs.Ordering.{nat_cmp, is_le, on, then_cmp}
 use Rattle.std.specs.Str.Parse.{digits_value}
 use Rattle.std.specs.declared.cmp.Ordering.{Ordering}
@@ -23,7 +24,7 @@ is_calendar_date d =
 abbrev pub is_in_profile : Date → Bool
 is_in_profile d = nat_le 2000 d.year && nat_le d.year 2099
 
--- the date is a day
+-- the date is a day that the desk takes: the calendar has it, and its year is one of 2000 to 2099
 abbrev pub is_day : Date → Bool
 is_day d = is_calendar_date d && is_in_profile d
 
@@ -42,7 +43,7 @@ day_of bytes =
     else (if not (is_calendar_date (date_at bytes)) then Err NoSuchDay
     else (if not (is_in_profile (date_at bytes)) then Err OutOfProfile else Ok (date_at bytes)))
 
--- the earlier date is the less
+-- dates are ordered by time: the earlier one is the less
 abbrev pub date_cmp : Date → Date → Ordering
 date_cmp = then_cmp (on (λ d. d.year) nat_cmp) (then_cmp (on (λ d. d.month) nat_cmp) (on (λ d. d.day) nat_cmp))
 

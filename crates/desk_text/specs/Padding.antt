@@ -8,7 +8,8 @@ pub length-text : (capacity len : ℕ) (places : List ℕ) → IsPadded capacity
 length-text capacity len places h = length-take-le len places (omega (arith, h.size, h.fits))
 
 -- the text gives its places back
-pub padded-text : (capacity len : ℕ) (places : List ℕ) → IsPadded capacity len places → take len places ++ replicate (capacity - length (take len places)) 0 ≡ places
+pub padded-text : (capacity len : ℕ) (places : List ℕ) → IsPadded capacity len places →
+    take len places ++ replicate (capacity - length (take len places)) 0 ≡ places
 padded-text capacity len places h =
     let rest : replicate (capacity - length (take len places)) 0 ≡ drop len places =
     ap (λ n. replicate (capacity - n) 0) (length-text capacity len places h) ∙ sym h.padding in

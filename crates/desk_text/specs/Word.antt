@@ -2,7 +2,7 @@
 use Rattle.std.specs.Prelude.{◌≡◌, ℕ, ◌-◌, ◌≤◌, List, length, take, drop, replicate}
 use Rattle.std.specs.Str.{IsAscii}
 
--- the first len places hold an ASCII text, and the others hold zero
+-- of the places of an array, the first `len` hold an ASCII text, and the others hold zero
 pub record IsPadded (capacity len : ℕ) (places : List ℕ) : Type 0 where
   pub size : length places ≡ capacity
   pub fits : len ≤ capacity

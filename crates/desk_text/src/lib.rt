@@ -10,6 +10,8 @@ mod memory;
 mod name;
 mod number;
 mod picture;
+#[cfg(test)]
+mod tests;
 mod word;
 
 pub use bytes::Bytes;
@@ -20,6 +22,3 @@ pub use exemption_number::{EXEMPTION_NUMBER_LIMIT, ExemptionNumber};
 pub use memory::OutOfMemory;
 pub use name::{NAME_LIMIT, Name, NameFault};
 pub use number::{NumberFault, push_u128, read_u32, read_u64};
-
-#[cfg(test)]
-mod tests;

@@ -83,7 +83,7 @@ fn exemption_numbers_may_have_brackets(rt: HostRuntime) -> Result<(), Fail> {
     Ok(())
 }
 
-// A beginning of so many letters, and the rest.
+/// A beginning of so many letters, and the rest.
 fn long_name(alloc: Global, letters: usize, rest: &[u8]) -> Result<Vec<u8>, AllocError> {
     let mut bytes = vec![in alloc; b'a'; letters]?;
     bytes.extend_from_slice(rest)?;

@@ -29,7 +29,7 @@ pub record Answer : Type 0 where
   pub status : Status
   pub text : List ℕ
 
--- a text ends with success, and a refusal with its line
+-- the answer of `check`: status 0 with the text, or status 6 with the line of the refusal
 abbrev pub answer_of_check : Result (List ℕ) Refusal → Answer
 answer_of_check (Ok text) = record { status = Done; text = text }
 answer_of_check (Err refusal) = record { status = Refused; text = refusal_line refusal }
@@ -47,7 +47,7 @@ abbrev pub answer_to_unread_words : WordsFault → Answer
 answer_to_unread_words unread.NotText = answer_to_other_words
 answer_to_unread_words unread.OutOfMemory = answer_without_memory
 
--- the bytes are those that a console has left, where it tells them, and any bytes where it doesn't
+-- the bytes are an input of the console: those that it has left, where it tells them, and any bytes where it doesn't
 abbrev pub IsInput : Option (List ℕ) → List ℕ → Type 0
 IsInput None input = Unit {0}
 IsInput (Some told) input = input ≡ told

@@ -17,7 +17,7 @@ use Rattle.desk_top.specs.declared.refusal.Refusal.TheVariants.{InputTooLong, No
 abbrev pub input_limit : ℕ
 input_limit = 65536
 
--- the text on a declaration that was read, over the start tables after it, or that the bytes are none
+-- the text on a declaration that was read, over the start tables with it entered, or the refusal of bytes that are none
 abbrev pub text_or_refusal : Check → Result Declared DeclareFault → Result (List ℕ) Refusal
 text_or_refusal check (Ok d) = Ok (check_text (entered start (Declare d)) check.kind check.day d)
 text_or_refusal check (Err fault) = Err NotADeclaration

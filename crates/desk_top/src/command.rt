@@ -31,7 +31,7 @@ pub fn command(words: &[String]) -> Option<Check>
     Some(Check { day, kind })
 }
 
-// The day that a word spells, where it may be asked about.
+/// The day that a word spells, where it may be asked about.
 fn askable_day(word: &[u8]) -> Option<Day>
     ensures value { result ≡ askable_day_of word.now }
     ensures askable { IfSome result (λ day. is_askable day ≡ true) }

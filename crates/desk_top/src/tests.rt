@@ -13,7 +13,7 @@ use std::thread::Threads;
 // More bytes than any answer of a test has.
 const ROOM: usize = 1_000_000;
 
-// The status for these words and this input, and what was written.
+/// The status for these words and this input, and what was written.
 fn outcome<R: Wait + Sync + Threads>(
     rt: &R,
     alloc: Global,
@@ -29,7 +29,7 @@ fn outcome<R: Wait + Sync + Threads>(
     outcome_over(rt, alloc, words, console)
 }
 
-// The status for these words over this console, and what was written.
+/// The status for these words over this console, and what was written.
 fn outcome_over<R: Wait + Sync + Threads>(
     rt: &R,
     alloc: Global,
@@ -126,8 +126,8 @@ fn check_reads_65536_bytes_and_no_more(rt: HostRuntime) -> Result<(), Fail> {
     Ok(())
 }
 
-// Whether the words are refused as no command line: with a line where the console takes it, and with
-// the status in any case.
+/// Whether the words are refused as no command line: with a line where the console takes it, and with
+/// the status in any case.
 fn are_no_command<R: Wait + Sync + Threads>(
     rt: &R,
     alloc: Global,
@@ -159,9 +159,9 @@ fn other_words_are_no_command_line(rt: HostRuntime) -> Result<(), Fail> {
     Ok(())
 }
 
-// Whether a check that reads its input in so many calls, and then writes once, ends as it should where
-// each of its calls fails in turn: with 3 and nothing written at a read, with 3 in place of 0 and
-// nothing written at the write, and as meant where a call fails that it doesn't make.
+/// Whether a check that reads its input in so many calls, and then writes once, ends as it should where
+/// each of its calls fails in turn: with 3 and nothing written at a read, with 3 in place of 0 and
+/// nothing written at the write, and as meant where a call fails that it doesn't make.
 fn ends_well<R: Wait + Sync + Threads>(
     rt: &R,
     alloc: Global,
@@ -273,7 +273,7 @@ fn words_that_are_no_text_are_no_command_line(rt: HostRuntime) -> Result<(), Fai
     Ok(())
 }
 
-// The answer on a gram of solder paste, by what its lines say of four rules.
+/// The answer on a gram of solder paste, by what its lines say of four rules.
 fn paste_answer(
     alloc: Global,
     asked: &str,

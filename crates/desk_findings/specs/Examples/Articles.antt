@@ -21,7 +21,8 @@ abbrev pub parts : List Edit
 parts =
     Substance (codes "t1") (codes "svhc") (codes "A substance of very high concern") None
     ∷ Candidate (codes "t2") (codes "svhc") (date 2020 1 16)
-    ∷ declares (codes "ACME") 1 (material (codes "HEAVY") 1000000 [] ∷ material (codes "W1") 1 (holds (codes "svhc") 1 ∷ []) ∷ material (codes "W2") 999 [] ∷ [])
+    ∷ declares (codes "ACME") 1 (material (codes "HEAVY") 1000000 [] ∷ material (codes "W1") 1 (holds (codes "svhc") 1 ∷ [])
+    ∷ material (codes "W2") 999 [] ∷ [])
     ∷ article (codes "t4") (codes "W")
     ∷ article (codes "t5") (codes "HOUSING")
     ∷ assembly (codes "t6") (codes "BIG")

@@ -21,7 +21,8 @@ abbrev pub oxide_edits : List Edit
 oxide_edits =
     Substance (codes "t1") (codes "lead-oxide") (codes "Lead oxide") (Some (codes "1317-36-8"))
     ∷ Member (codes "t2") (codes "lead-oxide") Lead 928320
-    ∷ declares (codes "ACME") 1 (material (codes "OX1") 1000000 (holds (codes "lead-oxide") 1078 ∷ []) ∷ material (codes "OX2") 1000000 (holds (codes "lead-oxide") 1077 ∷ []) ∷ [])
+    ∷ declares (codes "ACME") 1 (material (codes "OX1") 1000000 (holds (codes "lead-oxide") 1078 ∷ [])
+    ∷ material (codes "OX2") 1000000 (holds (codes "lead-oxide") 1077 ∷ []) ∷ [])
     ∷ []
 
 abbrev pub oxide : Lists

@@ -5,7 +5,10 @@ use Rattle.desk_text.specs.Day.{zero_padded}
 use Rattle.desk_law.specs.declared.kind.Kind.TheVariants.{Telecommunications}
 use Rattle.desk_model.specs.declared.edit.Edit.{Edit}
 use Rattle.desk_model.specs.declared.edit.Edit.TheVariants.{Substance, Line, Candidate, Product, Ship}
-use Rattle.desk_model.specs.declared.limits.TheConstants.{SUBSTANCE_LIMIT, MEMBER_LIMIT, MATERIAL_LIMIT, PART_LIMIT, LINE_LIMIT, LINES_OF_PARENT_LIMIT, PRODUCT_LIMIT, EXEMPTION_LIMIT, CANDIDATE_LIMIT, SHIPMENT_LIMIT, TICKET_LIMIT, TEXT_LIMIT, FINDING_LIMIT}
+use Rattle.desk_model.specs.declared.limits.TheConstants.{SUBSTANCE_LIMIT, MEMBER_LIMIT, MATERIAL_LIMIT, PART_LIMIT}
+use Rattle.desk_model.specs.declared.limits.TheConstants.{LINE_LIMIT, LINES_OF_PARENT_LIMIT, PRODUCT_LIMIT}
+use Rattle.desk_model.specs.declared.limits.TheConstants.{EXEMPTION_LIMIT, CANDIDATE_LIMIT, SHIPMENT_LIMIT}
+use Rattle.desk_model.specs.declared.limits.TheConstants.{TICKET_LIMIT, TEXT_LIMIT, FINDING_LIMIT}
 use Rattle.desk_model.specs.declared.part_sort.PartSort.TheVariants.{Assembly}
 use Rattle.desk_model.specs.declared.rows.substance.SubstanceRow.{SubstanceRow}
 use Rattle.desk_model.specs.declared.rows.member.MemberRow.{MemberRow}
@@ -160,7 +163,8 @@ lines_of_one lines = record start { parts = record { code = codes "P"; sort = As
 -- which tables are over their limits: at the limit none is, and one row more is too much
 pub record TableLimitExamples : Type 0 where
   -- of the ten tables, of the lines of one parent, of the bytes of texts, of findings
-  pub limits : SUBSTANCE_LIMIT ∷ MEMBER_LIMIT ∷ MATERIAL_LIMIT ∷ PART_LIMIT ∷ LINE_LIMIT ∷ PRODUCT_LIMIT ∷ EXEMPTION_LIMIT ∷ CANDIDATE_LIMIT ∷ SHIPMENT_LIMIT ∷ TICKET_LIMIT ∷ []
+  pub limits : SUBSTANCE_LIMIT ∷ MEMBER_LIMIT ∷ MATERIAL_LIMIT ∷ PART_LIMIT ∷ LINE_LIMIT ∷ PRODUCT_LIMIT ∷ EXEMPTION_LIMIT
+      ∷ CANDIDATE_LIMIT ∷ SHIPMENT_LIMIT ∷ TICKET_LIMIT ∷ []
       ≡ 4096 ∷ 8192 ∷ 8192 ∷ 16384 ∷ 131072 ∷ 4096 ∷ 2048 ∷ 1024 ∷ 65536 ∷ 262144 ∷ []
   pub other_limits : LINES_OF_PARENT_LIMIT ∷ TEXT_LIMIT ∷ FINDING_LIMIT ∷ [] ≡ 4096 ∷ 67108864 ∷ 4194304 ∷ []
   pub substances : (rows : List SubstanceRow) → length rows ≡ 4096 → tables_over (record start { substances = rows }) ≡ []
@@ -169,8 +173,10 @@ pub record TableLimitExamples : Type 0 where
   pub members_over : (rows : List MemberRow) → length rows ≡ 8193 → tables_over (record start { members = rows }) ≡ 2 ∷ []
   pub materials : (rows : List MaterialRow) → length rows ≡ 8192 → tables_over (record start { materials = rows }) ≡ []
   pub materials_over : (rows : List MaterialRow) → length rows ≡ 8193 → tables_over (record start { materials = rows }) ≡ 3 ∷ []
-  pub parts : (rows : List PartRow) → length rows ≡ 16384 → has_too_many_lines (record start { parts = rows }) ≡ false → tables_over (record start { parts = rows }) ≡ []
-  pub parts_over : (rows : List PartRow) → length rows ≡ 16385 → has_too_many_lines (record start { parts = rows }) ≡ false → tables_over (record start { parts = rows }) ≡ 4 ∷ []
+  pub parts : (rows : List PartRow) → length rows ≡ 16384 → has_too_many_lines (record start { parts = rows }) ≡ false →
+      tables_over (record start { parts = rows }) ≡ []
+  pub parts_over : (rows : List PartRow) → length rows ≡ 16385 → has_too_many_lines (record start { parts = rows }) ≡ false →
+      tables_over (record start { parts = rows }) ≡ 4 ∷ []
   pub lines : (rows : List LineRow) → length rows ≡ 131072 → tables_over (record start { lines = rows }) ≡ []
   pub lines_over : (rows : List LineRow) → length rows ≡ 131073 → tables_over (record start { lines = rows }) ≡ 5 ∷ []
   pub products : (rows : List ProductRow) → length rows ≡ 4096 → tables_over (record start { products = rows }) ≡ []
@@ -184,10 +190,12 @@ pub record TableLimitExamples : Type 0 where
   pub tickets : (rows : List TicketRow) → length rows ≡ 262144 → tables_over (record start { tickets = rows }) ≡ []
   pub tickets_over : (rows : List TicketRow) → length rows ≡ 262145 → tables_over (record start { tickets = rows }) ≡ 10 ∷ []
   pub lines_of_parent : (lines : List LineRow) → length lines ≡ 5000 → length (lines_of lines (codes "P")) ≡ 4096 → tables_over (lines_of_one lines) ≡ []
-  pub lines_of_parent_over : (lines : List LineRow) → length lines ≡ 5000 → length (lines_of lines (codes "P")) ≡ 4097 → tables_over (lines_of_one lines) ≡ 11 ∷ []
+  pub lines_of_parent_over : (lines : List LineRow) → length lines ≡ 5000 → length (lines_of lines (codes "P")) ≡ 4097 →
+      tables_over (lines_of_one lines) ≡ 11 ∷ []
   -- of tables that are over together the first is told
   pub first_table : (t : Lists) (edit : Edit) → tables_over (entered t edit) ≡ 7 ∷ 8 ∷ 11 ∷ [] → table_full t edit ≡ Some (TableFull 7)
-  pub two_tables : (rows : List ExemptionRow) (others : List TicketRow) → length rows ≡ 2049 → length others ≡ 262145 → tables_over (record start { exemptions = rows; tickets = others }) ≡ 7 ∷ 10 ∷ []
+  pub two_tables : (rows : List ExemptionRow) (others : List TicketRow) → length rows ≡ 2049 → length others ≡ 262145 →
+      tables_over (record start { exemptions = rows; tickets = others }) ≡ 7 ∷ 10 ∷ []
   -- as many findings as the desk keeps, and one more
   pub most_findings : (t : Lists) → finding_count t ≡ 4194304 → has_too_many_findings t ≡ false
   pub too_many_findings : (t : Lists) → finding_count t ≡ 4194305 → has_too_many_findings t ≡ true

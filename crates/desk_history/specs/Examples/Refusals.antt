@@ -5,14 +5,22 @@ use Rattle.desk_text.specs.Day.{Date, zero_padded}
 use Rattle.desk_law.specs.declared.annex.Annex.{Annex}
 use Rattle.desk_law.specs.declared.annex.Annex.TheVariants.{Three, Four}
 use Rattle.desk_law.specs.declared.kind.Kind.{Kind}
-use Rattle.desk_law.specs.declared.kind.Kind.TheVariants.{LargeHousehold, SmallHousehold, Telecommunications, Consumer, Lighting, Tool, ToyLeisureSports, Toy, MedicalDevice, InVitroDiagnostic, ControlInstrument, IndustrialInstrument, Dispenser, Other}
+use Rattle.desk_law.specs.declared.kind.Kind.TheVariants.{LargeHousehold, SmallHousehold, Telecommunications, Consumer}
+use Rattle.desk_law.specs.declared.kind.Kind.TheVariants.{Lighting, Tool, ToyLeisureSports, Toy, MedicalDevice}
+use Rattle.desk_law.specs.declared.kind.Kind.TheVariants.{InVitroDiagnostic, ControlInstrument, IndustrialInstrument}
+use Rattle.desk_law.specs.declared.kind.Kind.TheVariants.{Dispenser, Other}
 use Rattle.desk_law.specs.declared.rule.Rule.TheVariants.{Lead}
 use Rattle.desk_law.specs.declared.terms.Terms.{Terms}
 use Rattle.desk_law.specs.Kind.{all_kinds}
 use Rattle.desk_model.specs.declared.edit.Edit.{Edit}
 use Rattle.desk_model.specs.declared.edit.Edit.TheVariants.{Member, Part, Line, Unline, Product, Exemption, Unexempt, Candidate, Ship, Unship}
 use Rattle.desk_model.specs.declared.part_sort.PartSort.TheVariants.{Article, Assembly}
-use Rattle.desk_model.specs.declared.rule_fault.RuleFault.TheVariants.{TicketReused, UnknownSubstance, UnknownMaterial, UnknownPart, UnknownProduct, UnknownExemption, NameTaken, KindChanged, WrongChild, NoSuchLine, ForeignMaterial, StaleDeclaration, MassesExceed, ExemptionSpan, AnnexKinds, ShipBelowZero, UnitsTooLarge, TableFull, TextFull, ClosesCycle}
+use Rattle.desk_model.specs.declared.rule_fault.RuleFault.TheVariants.{TicketReused, UnknownSubstance, UnknownMaterial}
+use Rattle.desk_model.specs.declared.rule_fault.RuleFault.TheVariants.{UnknownPart, UnknownProduct, UnknownExemption}
+use Rattle.desk_model.specs.declared.rule_fault.RuleFault.TheVariants.{NameTaken, KindChanged, WrongChild, NoSuchLine}
+use Rattle.desk_model.specs.declared.rule_fault.RuleFault.TheVariants.{ForeignMaterial, StaleDeclaration, MassesExceed}
+use Rattle.desk_model.specs.declared.rule_fault.RuleFault.TheVariants.{ExemptionSpan, AnnexKinds, ShipBelowZero}
+use Rattle.desk_model.specs.declared.rule_fault.RuleFault.TheVariants.{UnitsTooLarge, TableFull, TextFull, ClosesCycle}
 use Rattle.desk_model.specs.Effect.{units_of}
 use Rattle.desk_model.specs.Lists.{Lists}
 use Rattle.desk_model.specs.Start.{start}
@@ -61,7 +69,8 @@ pub record RefusalExamples : Type 0 where
   pub rule_1_declare : answer_at desk (declares (codes "ACME") 7 (material (codes "SOLDER") 1000000 (holds (codes "lead") 999 ∷ []) ∷ [])) ≡ Err TicketReused
   pub rule_2_member : answer_at desk (Member (codes "t9") (codes "gold") Lead 1) ≡ Err (UnknownSubstance (codes "gold"))
   pub rule_2_candidate : answer_at desk (Candidate (codes "t9") (codes "gold") (date 2024 1 23)) ≡ Err (UnknownSubstance (codes "gold"))
-  pub rule_2_declare : answer_at desk (declares (codes "ACME") 8 (material (codes "M1") 9 (holds (codes "lead") 1 ∷ holds (codes "tin") 1 ∷ []) ∷ material (codes "M2") 9 (holds (codes "gold") 1 ∷ []) ∷ []))
+  pub rule_2_declare : answer_at desk (declares (codes "ACME") 8
+      (material (codes "M1") 9 (holds (codes "lead") 1 ∷ holds (codes "tin") 1 ∷ []) ∷ material (codes "M2") 9 (holds (codes "gold") 1 ∷ []) ∷ []))
       ≡ Err (UnknownSubstance (codes "tin"))
   pub rule_3 : answer_at desk (Line (codes "t9") (codes "PIN") (codes "GLUE") 1) ≡ Err (UnknownMaterial (codes "GLUE"))
   pub rule_4_parent : answer_at desk (Line (codes "t9") (codes "FRAME") (codes "PIN") 1) ≡ Err (UnknownPart (codes "FRAME"))
@@ -79,9 +88,11 @@ pub record RefusalExamples : Type 0 where
   pub rule_10 : answer_at desk (Unline (codes "t9") (codes "CASE") (codes "PIN")) ≡ Err (NoSuchLine (codes "CASE") (codes "PIN"))
   pub rule_11 : answer_at desk (declares (codes "BOLT") 1 (material (codes "SOLDER") 9 [] ∷ [])) ≡ Err (ForeignMaterial (codes "SOLDER") (codes "ACME"))
   pub rule_12 : answer_at desk (declares (codes "ACME") 6 (material (codes "SOLDER") 9 [] ∷ [])) ≡ Err (StaleDeclaration (codes "SOLDER") 7)
-  pub rule_13 : answer_at desk (declares (codes "ACME") 8 (material (codes "SOLDER") 10 (holds (codes "lead") 11 ∷ []) ∷ [])) ≡ Err (MassesExceed (codes "SOLDER"))
+  pub rule_13 : answer_at desk (declares (codes "ACME") 8 (material (codes "SOLDER") 10 (holds (codes "lead") 11 ∷ []) ∷ []))
+      ≡ Err (MassesExceed (codes "SOLDER"))
   pub rule_14_days : answer_at desk (exemption (codes "t9") Three (Telecommunications ∷ []) (date 2024 2 1) (date 2024 1 31) None None) ≡ Err ExemptionSpan
-  pub rule_14_ppm : answer_at desk (exemption (codes "t9") Three (Telecommunications ∷ []) (date 2024 2 1) (date 2024 2 1) (Some 2) (Some 1)) ≡ Err ExemptionSpan
+  pub rule_14_ppm :
+      answer_at desk (exemption (codes "t9") Three (Telecommunications ∷ []) (date 2024 2 1) (date 2024 2 1) (Some 2) (Some 1)) ≡ Err ExemptionSpan
   pub rule_15 : answer_at desk (exemption (codes "t9") Four (Telecommunications ∷ []) (date 2024 2 1) (date 2024 2 1) None None) ≡ Err AnnexKinds
   -- Annex IV is for kinds 8, 8i, 9 and 9i, and a row for one of these and another is refused
   pub rule_15_second : answer_at desk (exemption (codes "t9") Four (MedicalDevice ∷ Other ∷ []) (date 2024 2 1) (date 2024 2 1) None None) ≡ Err AnnexKinds
@@ -110,13 +121,18 @@ unticketed = record desk { tickets = [] }
 -- of several materials or substances that break a rule the first is told
 pub record FirstExamples : Type 0 where
   -- in order of material, and then of substance
-  pub rule_2 : answer_at desk (declares (codes "ACME") 8 (material (codes "M1") 9 (holds (codes "zinc") 1 ∷ []) ∷ material (codes "M2") 9 (holds (codes "gold") 1 ∷ []) ∷ []))
+  pub rule_2 : answer_at desk (declares (codes "ACME") 8 (material (codes "M1") 9 (holds (codes "zinc") 1 ∷ [])
+      ∷ material (codes "M2") 9 (holds (codes "gold") 1 ∷ []) ∷ []))
       ≡ Err (UnknownSubstance (codes "zinc"))
   pub rule_7 : answer_at desk (declares (codes "ACME") 8 (material (codes "BOARD") 9 [] ∷ material (codes "PIN") 9 [] ∷ [])) ≡ Err (NameTaken (codes "BOARD"))
-  pub rule_11 : answer_at wider (declares (codes "SEAL") 1 (material (codes "SOLDER") 9 [] ∷ material (codes "ZINC") 9 [] ∷ [])) ≡ Err (ForeignMaterial (codes "SOLDER") (codes "ACME"))
-  pub rule_11_second : answer_at wider (declares (codes "ACME") 9 (material (codes "SOLDER") 9 [] ∷ material (codes "ZINC") 9 [] ∷ [])) ≡ Err (ForeignMaterial (codes "ZINC") (codes "BOLT"))
-  pub rule_12 : answer_at wider (declares (codes "ACME") 6 (material (codes "RESIN") 9 [] ∷ material (codes "SOLDER") 9 [] ∷ [])) ≡ Err (StaleDeclaration (codes "RESIN") 8)
-  pub rule_13 : answer_at desk (declares (codes "ACME") 8 (material (codes "M1") 1 (holds (codes "lead") 2 ∷ []) ∷ material (codes "M2") 1 (holds (codes "lead") 2 ∷ []) ∷ []))
+  pub rule_11 : answer_at wider (declares (codes "SEAL") 1 (material (codes "SOLDER") 9 [] ∷ material (codes "ZINC") 9 [] ∷ []))
+      ≡ Err (ForeignMaterial (codes "SOLDER") (codes "ACME"))
+  pub rule_11_second : answer_at wider (declares (codes "ACME") 9 (material (codes "SOLDER") 9 [] ∷ material (codes "ZINC") 9 [] ∷ []))
+      ≡ Err (ForeignMaterial (codes "ZINC") (codes "BOLT"))
+  pub rule_12 : answer_at wider (declares (codes "ACME") 6 (material (codes "RESIN") 9 [] ∷ material (codes "SOLDER") 9 [] ∷ []))
+      ≡ Err (StaleDeclaration (codes "RESIN") 8)
+  pub rule_13 : answer_at desk (declares (codes "ACME") 8 (material (codes "M1") 1 (holds (codes "lead") 2 ∷ [])
+      ∷ material (codes "M2") 1 (holds (codes "lead") 2 ∷ []) ∷ []))
       ≡ Err (MassesExceed (codes "M1"))
 
 -- the second of these materials has a part's code
@@ -126,7 +142,8 @@ half = declares (codes "ACME") 8 (material (codes "FLUX") 9 [] ∷ material (cod
 -- edits that are not refused
 pub record AcceptanceExamples : Type 0 where
   pub annex_four : answer_at desk (exemption (codes "t9") Four (MedicalDevice ∷ []) (date 2024 2 1) (date 2024 2 1) (Some 1) (Some 1)) ≡ Ok 9
-  pub all_annex_four : answer_at desk (exemption (codes "t9") Four (MedicalDevice ∷ InVitroDiagnostic ∷ ControlInstrument ∷ IndustrialInstrument ∷ []) (date 2024 2 1) (date 2024 2 1) None None) ≡ Ok 9
+  pub all_annex_four : answer_at desk (exemption (codes "t9") Four
+      (MedicalDevice ∷ InVitroDiagnostic ∷ ControlInstrument ∷ IndustrialInstrument ∷ []) (date 2024 2 1) (date 2024 2 1) None None) ≡ Ok 9
   pub annex_three : answer_at desk (exemption (codes "t9") Three all_kinds (date 2024 1 31) (date 2024 2 1) (Some 1) (Some 2)) ≡ Ok 9
   -- a floor without a cap, and a cap without a floor
   pub floor_alone : answer_at desk (exemption (codes "t9") Three (Consumer ∷ []) (date 2024 2 1) (date 2024 2 1) (Some 1) None) ≡ Ok 9
@@ -172,30 +189,38 @@ pub record OrderExamples : Type 0 where
   -- 1 before 2
   pub reused_and_unknown : answer_at desk (Member (codes "t2") (codes "gold") Lead 1) ≡ Err TicketReused
   -- 2 before 7, though the material with the taken code stands first
-  pub unknown_and_taken : answer_at desk (declares (codes "ACME") 8 (material (codes "BOARD") 9 [] ∷ material (codes "M1") 9 (holds (codes "tin") 1 ∷ []) ∷ [])) ≡ Err (UnknownSubstance (codes "tin"))
+  pub unknown_and_taken : answer_at desk (declares (codes "ACME") 8 (material (codes "BOARD") 9 []
+      ∷ material (codes "M1") 9 (holds (codes "tin") 1 ∷ []) ∷ [])) ≡ Err (UnknownSubstance (codes "tin"))
   -- 2 before 13
-  pub unknown_and_heavy : answer_at desk (declares (codes "ACME") 8 (material (codes "M1") 9 (holds (codes "tin") 10 ∷ []) ∷ [])) ≡ Err (UnknownSubstance (codes "tin"))
+  pub unknown_and_heavy : answer_at desk (declares (codes "ACME") 8 (material (codes "M1") 9 (holds (codes "tin") 10 ∷ []) ∷ []))
+      ≡ Err (UnknownSubstance (codes "tin"))
   -- 4 before 10
   pub unknown_and_no_line : answer_at desk (Unline (codes "t9") (codes "FRAME") (codes "GLUE")) ≡ Err (UnknownPart (codes "FRAME"))
   -- 9 before 20
   pub wrong_and_cycle : answer_at desk (Line (codes "t9") (codes "PIN") (codes "BOARD") 1) ≡ Err (WrongChild (codes "BOARD"))
   -- 11 before 12
-  pub foreign_and_stale : answer_at desk (declares (codes "BOLT") 6 (material (codes "SOLDER") 9 [] ∷ [])) ≡ Err (ForeignMaterial (codes "SOLDER") (codes "ACME"))
+  pub foreign_and_stale : answer_at desk (declares (codes "BOLT") 6 (material (codes "SOLDER") 9 [] ∷ []))
+      ≡ Err (ForeignMaterial (codes "SOLDER") (codes "ACME"))
   -- 14 before 15
   pub span_and_kinds : answer_at desk (exemption (codes "t9") Four (Telecommunications ∷ []) (date 2024 2 1) (date 2024 1 31) None None) ≡ Err ExemptionSpan
   -- 7 before 11, though the foreign material stands first
-  pub taken_and_foreign : answer_at wider (declares (codes "SEAL") 1 (material (codes "CASE") 9 [] ∷ material (codes "RESIN") 9 [] ∷ [])) ≡ Err (NameTaken (codes "CASE"))
-  pub foreign_and_taken : answer_at (desk_after (declares (codes "ACME") 7 (material (codes "A") 9 [] ∷ []) ∷ article (codes "t2") (codes "B") ∷ [])) (declares (codes "BOLT") 1 (material (codes "A") 9 [] ∷ material (codes "B") 9 [] ∷ []))
+  pub taken_and_foreign : answer_at wider (declares (codes "SEAL") 1 (material (codes "CASE") 9 [] ∷ material (codes "RESIN") 9 [] ∷ []))
+      ≡ Err (NameTaken (codes "CASE"))
+  pub foreign_and_taken : answer_at (desk_after (declares (codes "ACME") 7 (material (codes "A") 9 [] ∷ []) ∷ article (codes "t2") (codes "B") ∷ []))
+      (declares (codes "BOLT") 1 (material (codes "A") 9 [] ∷ material (codes "B") 9 [] ∷ []))
       ≡ Err (NameTaken (codes "B"))
   -- 11 before 12, though the stale material stands first
-  pub stale_and_foreign : answer_at wider (declares (codes "ACME") 6 (material (codes "SOLDER") 9 [] ∷ material (codes "ZINC") 9 [] ∷ [])) ≡ Err (ForeignMaterial (codes "ZINC") (codes "BOLT"))
+  pub stale_and_foreign : answer_at wider (declares (codes "ACME") 6 (material (codes "SOLDER") 9 [] ∷ material (codes "ZINC") 9 [] ∷ []))
+      ≡ Err (ForeignMaterial (codes "ZINC") (codes "BOLT"))
   -- 12 before 13
-  pub stale_and_heavy : answer_at desk (declares (codes "ACME") 6 (material (codes "SOLDER") 9 (holds (codes "lead") 10 ∷ []) ∷ [])) ≡ Err (StaleDeclaration (codes "SOLDER") 7)
+  pub stale_and_heavy : answer_at desk (declares (codes "ACME") 6 (material (codes "SOLDER") 9 (holds (codes "lead") 10 ∷ []) ∷ []))
+      ≡ Err (StaleDeclaration (codes "SOLDER") 7)
   -- each of the rules of one edit alone before 18
   pub unknown_and_full : answer_at crowded (Unexempt (codes "t9") (codes "R6C")) ≡ Err (UnknownExemption (codes "R6C"))
   pub changed_and_full : answer_at crowded (article (codes "t9") (codes "BOARD")) ≡ Err (KindChanged (codes "BOARD"))
   pub no_line_and_full : answer_at crowded (Unline (codes "t9") (codes "CASE") (codes "PIN")) ≡ Err (NoSuchLine (codes "CASE") (codes "PIN"))
-  pub heavy_and_full : answer_at crowded (declares (codes "ACME") 8 (material (codes "SOLDER") 9 (holds (codes "lead") 10 ∷ []) ∷ [])) ≡ Err (MassesExceed (codes "SOLDER"))
+  pub heavy_and_full : answer_at crowded (declares (codes "ACME") 8 (material (codes "SOLDER") 9 (holds (codes "lead") 10 ∷ []) ∷ []))
+      ≡ Err (MassesExceed (codes "SOLDER"))
   pub kinds_and_full : answer_at crowded (exemption (codes "t9") Four (Telecommunications ∷ []) (date 2024 2 1) (date 2024 2 1) None None) ≡ Err AnnexKinds
   pub below_and_full : answer_at crowded (Unship (codes "t9") (codes "BOARD") 2024 5) ≡ Err (ShipBelowZero 3)
   pub large_and_full : answer_at crowded (Ship (codes "t9") (codes "BOARD") 2024 999999999998) ≡ Err UnitsTooLarge
@@ -203,4 +228,5 @@ pub record OrderExamples : Type 0 where
   pub full_and_texts : (text : List ℕ) → answer_at (with_text crowded text) (Line (codes "t9") (codes "CASE") (codes "CASE") 1) ≡ Err (TableFull 8)
   pub texts_and_cycle : (text : List ℕ) → length text ≡ 67108864 → answer_at (with_text lone text) lone_cycle ≡ Err TextFull
   -- 20 before 21: a cycle of 10^6 of each part would be too heavy
-  pub cycle_and_heavy : answer_at tower (Line (codes "t17") (codes "L1") (codes "L6") 1000000) ≡ Err (ClosesCycle (codes "L6" ∷ codes "L5" ∷ codes "L4" ∷ codes "L3" ∷ codes "L2" ∷ codes "L1" ∷ []))
+  pub cycle_and_heavy : answer_at tower (Line (codes "t17") (codes "L1") (codes "L6") 1000000)
+      ≡ Err (ClosesCycle (codes "L6" ∷ codes "L5" ∷ codes "L4" ∷ codes "L3" ∷ codes "L2" ∷ codes "L1" ∷ []))

@@ -86,7 +86,10 @@ pub record SoundExamples : Type 0 where
   pub shipments : IsUnsound (record desk { shipments = reverse desk.shipments })
   pub tickets : IsUnsound (record desk { tickets = reverse desk.tickets })
   -- and has each key once
-  pub key_twice : IsUnsound (record desk { products = record { part = codes "SET"; kind = Consumer } ∷ record { part = codes "SET"; kind = Telecommunications } ∷ [] })
+  pub key_twice : IsUnsound (record desk {
+    products = record { part = codes "SET"; kind = Consumer }
+        ∷ record { part = codes "SET"; kind = Telecommunications } ∷ [];
+  })
   pub forms : map are_rows_in_form out_of_form ≡ false ∷ false ∷ false ∷ false ∷ false ∷ false ∷ false ∷ false ∷ false ∷ []
   pub form : IsUnsound (record nothing { candidates = record { substance = codes "lead"; day = date 2023 2 29 } ∷ [] })
   pub names : map are_names_kept dangling ≡ false ∷ false ∷ false ∷ false ∷ false ∷ false ∷ false ∷ false ∷ false ∷ false ∷ []
@@ -96,16 +99,21 @@ pub record SoundExamples : Type 0 where
   pub heavy_substance : IsUnsound (record desk { materials = record copper_row { substances = holds (codes "lead") 21 ∷ [] } ∷ [] })
   pub ends_before_it_begins : IsUnsound (record desk { exemptions = exemption (codes "R1") (codes "7(a)") (date 2014 7 21) ∷ [] })
   pub outside_annex : IsUnsound (record desk {
-    exemptions = record (exemption (codes "R1") (codes "7(a)") (date 2026 6 30)) { terms = record (exemption (codes "R1") (codes "7(a)") (date 2026 6 30)).terms { annex = Four } } ∷ [];
+    exemptions = record (exemption (codes "R1") (codes "7(a)") (date 2026 6 30)) {
+      terms = record (exemption (codes "R1") (codes "7(a)") (date 2026 6 30)).terms { annex = Four };
+    } ∷ [];
   })
-  pub too_many_candidates : IsUnsound (record desk { candidates = map (λ n. record { substance = zero_padded 4 n; day = date 2020 1 16 }) (range_with_len 0 1025) })
+  pub too_many_candidates : IsUnsound (record desk {
+    candidates = map (λ n. record { substance = zero_padded 4 n; day = date 2020 1 16 }) (range_with_len 0 1025);
+  })
   pub too_much_text : (text : List ℕ) → length text ≡ 67108865 → IsUnsound (ticketed (codes "E:t1") text)
   pub part_of_itself : IsUnsound (record desk { lines = line (codes "SET") (codes "SET") 1 ∷ [] })
   pub too_heavy : IsUnsound (record tower { lines = tower.lines ++ line (codes "L7") (codes "L6") 1000000 ∷ [] })
   pub too_many_findings : (t : Lists) → finding_count t ≡ 4194305 → IsUnsound t
   pub too_heavy_year : IsUnsound (record hundred { shipments = record { year = 2024; product = codes "L7"; units = 4 } ∷ [] })
   -- numbers from 1 on, each once, in any order of the codes
-  pub numbers : map (λ numbers. are_numbers (numbered numbers)) ([] ∷ (1 ∷ 2 ∷ 3 ∷ []) ∷ (3 ∷ 1 ∷ 2 ∷ []) ∷ (0 ∷ 1 ∷ 2 ∷ []) ∷ (1 ∷ 1 ∷ 3 ∷ []) ∷ (1 ∷ 2 ∷ 4 ∷ []) ∷ [])
+  pub numbers : map (λ numbers. are_numbers (numbered numbers)) ([] ∷ (1 ∷ 2 ∷ 3 ∷ []) ∷ (3 ∷ 1 ∷ 2 ∷ []) ∷ (0 ∷ 1 ∷ 2 ∷ [])
+      ∷ (1 ∷ 1 ∷ 3 ∷ []) ∷ (1 ∷ 2 ∷ 4 ∷ []) ∷ [])
       ≡ true ∷ true ∷ true ∷ false ∷ false ∷ false ∷ []
   pub second_number : IsUnsound (record (ticketed (codes "E:t1") []) { tickets = numbered (2 ∷ []) })
   -- a declaration's text under a sender's code, and another edit's under a declaration's

@@ -6,7 +6,8 @@ use Rattle.desk_law.specs.declared.annex.Annex.TheVariants.{Three}
 use Rattle.desk_law.specs.declared.kind.Kind.TheVariants.{Telecommunications, Consumer}
 use Rattle.desk_law.specs.declared.rule.Rule.TheVariants.{Lead, Mercury, Pbb}
 use Rattle.desk_model.specs.declared.edit.Edit.{Edit}
-use Rattle.desk_model.specs.declared.edit.Edit.TheVariants.{Substance, Member, Declare, Part, Line, Unline, Product, Exemption, Unexempt, Candidate, Ship, Unship}
+use Rattle.desk_model.specs.declared.edit.Edit.TheVariants.{Substance, Member, Declare, Part, Line, Unline, Product}
+use Rattle.desk_model.specs.declared.edit.Edit.TheVariants.{Exemption, Unexempt, Candidate, Ship, Unship}
 use Rattle.desk_model.specs.declared.material_decl.MaterialDecl.{MaterialDecl}
 use Rattle.desk_model.specs.declared.part_sort.PartSort.TheVariants.{Article, Assembly}
 use Rattle.desk_model.specs.declared.rows.exemption.ExemptionRow.{ExemptionRow}

@@ -8,8 +8,11 @@ use Rattle.desk_law.specs.declared.kind.Kind.TheVariants.{Telecommunications, Co
 use Rattle.desk_law.specs.declared.rule.Rule.{Rule}
 use Rattle.desk_law.specs.declared.rule.Rule.TheVariants.{Lead, Cadmium}
 use Rattle.desk_model.specs.declared.edit.Edit.{Edit}
-use Rattle.desk_model.specs.declared.edit.Edit.TheVariants.{Substance, Member, Declare, Part, Line, Unline, Product, Exemption, Unexempt, Candidate, Ship, Unship}
-use Rattle.desk_model.specs.declared.limits.TheConstants.{COUNT_LIMIT, FIRST_SHIPMENT_YEAR, LAST_SHIPMENT_YEAR, UNITS_LIMIT, WHOLE_FACTOR, MASS_LIMIT, PPM_LIMIT, TONNE, DECLARED_LIMIT, CONTENT_LIMIT, CLAIM_LIMIT}
+use Rattle.desk_model.specs.declared.edit.Edit.TheVariants.{Substance, Member, Declare, Part, Line, Unline, Product}
+use Rattle.desk_model.specs.declared.edit.Edit.TheVariants.{Exemption, Unexempt, Candidate, Ship, Unship}
+use Rattle.desk_model.specs.declared.limits.TheConstants.{COUNT_LIMIT, FIRST_SHIPMENT_YEAR, LAST_SHIPMENT_YEAR}
+use Rattle.desk_model.specs.declared.limits.TheConstants.{UNITS_LIMIT, WHOLE_FACTOR, MASS_LIMIT, PPM_LIMIT, TONNE}
+use Rattle.desk_model.specs.declared.limits.TheConstants.{DECLARED_LIMIT, CONTENT_LIMIT, CLAIM_LIMIT}
 use Rattle.desk_model.specs.declared.material_decl.MaterialDecl.{MaterialDecl}
 use Rattle.desk_model.specs.declared.part_sort.PartSort.TheVariants.{Article}
 use Rattle.desk_model.specs.declared.rows.exemption.ExemptionRow.{ExemptionRow}
@@ -20,7 +23,9 @@ use Rattle.desk_model.specs.declared.rows.substance.SubstanceRow.{SubstanceRow}
 use Rattle.desk_model.specs.declared.substance_mass.SubstanceMass.{SubstanceMass}
 use Rattle.desk_model.specs.Content.{are_claims, are_substances, holds_too_much, is_content}
 use Rattle.desk_model.specs.Declaration.{Declared, is_declaration, is_declaration_number}
-use Rattle.desk_model.specs.Forms.{are_units, is_candidate_row, is_count, is_edit_in_form, is_exemption_row, is_line_row, is_material_row, is_member_row, is_part_row, is_product_row, is_shipment_row, is_substance_row, is_year}
+use Rattle.desk_model.specs.Forms.{are_units, is_candidate_row, is_count, is_edit_in_form, is_exemption_row}
+use Rattle.desk_model.specs.Forms.{is_line_row, is_material_row, is_member_row, is_part_row, is_product_row}
+use Rattle.desk_model.specs.Forms.{is_shipment_row, is_substance_row, is_year}
 use Rattle.desk_model.specs.Terms.{are_kinds, is_ppm}
 use Rattle.desk_model.specs.Examples.Desks.{date, holds, material}
 
@@ -67,7 +72,8 @@ pub record ContentExamples : Type 0 where
   pub counts_of_materials : map (λ count. is_declaration (declaration count)) (0 ∷ 256 ∷ 257 ∷ []) ≡ true ∷ true ∷ false ∷ []
   -- in order of code, each once
   pub orders_of_substances : map are_substances
-      ((holds (codes "a") 1 ∷ holds (codes "b") 1 ∷ []) ∷ (holds (codes "b") 1 ∷ holds (codes "a") 1 ∷ []) ∷ (holds (codes "a") 1 ∷ holds (codes "a") 2 ∷ []) ∷ [])
+      ((holds (codes "a") 1 ∷ holds (codes "b") 1 ∷ []) ∷ (holds (codes "b") 1 ∷ holds (codes "a") 1 ∷ [])
+      ∷ (holds (codes "a") 1 ∷ holds (codes "a") 2 ∷ []) ∷ [])
       ≡ true ∷ false ∷ false ∷ []
   -- in order of the rule's number and then of the exemption's by bytes, so that 10 stands before 6(c), each once
   pub orders_of_claims : map are_claims
@@ -79,7 +85,8 @@ pub record ContentExamples : Type 0 where
       ∷ [])
       ≡ true ∷ false ∷ true ∷ false ∷ false ∷ []
   pub orders_of_materials : map (λ all. is_declaration (record (declaration 0) { materials = all }))
-      ((material (codes "A") 1 [] ∷ material (codes "B") 1 [] ∷ []) ∷ (material (codes "B") 1 [] ∷ material (codes "A") 1 [] ∷ []) ∷ (material (codes "A") 1 [] ∷ material (codes "A") 2 [] ∷ []) ∷ [])
+      ((material (codes "A") 1 [] ∷ material (codes "B") 1 [] ∷ []) ∷ (material (codes "B") 1 [] ∷ material (codes "A") 1 [] ∷ [])
+      ∷ (material (codes "A") 1 [] ∷ material (codes "A") 2 [] ∷ []) ∷ [])
       ≡ true ∷ false ∷ false ∷ []
   -- at least one kind, in the order of the annex, each once
   pub sets_of_kinds : map are_kinds
@@ -139,7 +146,8 @@ shipment_row = record { year = 2024; product = codes "SET"; units = 1 }
 -- rows of which each value is good, and then rows of which one is not
 pub record RowExamples : Type 0 where
   pub substances : map is_substance_row
-      (substance_row ∷ record substance_row { cas = None } ∷ record substance_row { code = bad } ∷ record substance_row { name = bad } ∷ record substance_row { cas = Some bad } ∷ [])
+      (substance_row ∷ record substance_row { cas = None } ∷ record substance_row { code = bad } ∷ record substance_row { name = bad }
+      ∷ record substance_row { cas = Some bad } ∷ [])
       ≡ true ∷ true ∷ false ∷ false ∷ false ∷ []
   pub members : is_member_row (record { substance = bad; rule = Lead; factor = 1 }) ≡ false
   pub material : is_material_row material_row ≡ true
@@ -155,7 +163,8 @@ pub record RowExamples : Type 0 where
       ∷ [])
       ≡ false ∷ false ∷ false ∷ false ∷ false ∷ false ∷ false ∷ false ∷ []
   pub parts : map (λ row. is_part_row row)
-      (record { code = codes "PIN"; sort = Article; name = good_name } ∷ record { code = bad; sort = Article; name = good_name } ∷ record { code = codes "PIN"; sort = Article; name = bad } ∷ [])
+      (record { code = codes "PIN"; sort = Article; name = good_name } ∷ record { code = bad; sort = Article; name = good_name }
+      ∷ record { code = codes "PIN"; sort = Article; name = bad } ∷ [])
       ≡ true ∷ false ∷ false ∷ []
   pub lines : map is_line_row
       (line_row ∷ record line_row { parent = bad } ∷ record line_row { child = bad } ∷ record line_row { count = 0 } ∷ [])
@@ -174,7 +183,8 @@ pub record RowExamples : Type 0 where
       ∷ [])
       ≡ false ∷ false ∷ false ∷ false ∷ false ∷ false ∷ false ∷ false ∷ []
   pub candidates : map (λ row. is_candidate_row row)
-      (record { substance = codes "lead"; day = date 2018 6 27 } ∷ record { substance = bad; day = date 2018 6 27 } ∷ record { substance = codes "lead"; day = no_day } ∷ [])
+      (record { substance = codes "lead"; day = date 2018 6 27 } ∷ record { substance = bad; day = date 2018 6 27 }
+      ∷ record { substance = codes "lead"; day = no_day } ∷ [])
       ≡ true ∷ false ∷ false ∷ []
   pub shipments : map is_shipment_row
       (shipment_row ∷ record shipment_row { year = 2007 } ∷ record shipment_row { product = bad } ∷ record shipment_row { units = 0 } ∷ [])

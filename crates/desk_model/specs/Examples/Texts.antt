@@ -5,7 +5,8 @@ use Rattle.desk_law.specs.declared.annex.Annex.TheVariants.{Three, Four}
 use Rattle.desk_law.specs.declared.kind.Kind.TheVariants.{Telecommunications, MedicalDevice, InVitroDiagnostic, IndustrialInstrument}
 use Rattle.desk_law.specs.declared.rule.Rule.{Rule}
 use Rattle.desk_law.specs.declared.rule.Rule.TheVariants.{Lead, Mercury, Cadmium, ChromiumVi, Pbb, Pbde, Dehp, Bbp, Dbp, Dibp}
-use Rattle.desk_model.specs.declared.edit.Edit.TheVariants.{Substance, Member, Declare, Part, Line, Unline, Product, Exemption, Unexempt, Candidate, Ship, Unship}
+use Rattle.desk_model.specs.declared.edit.Edit.TheVariants.{Substance, Member, Declare, Part, Line, Unline, Product}
+use Rattle.desk_model.specs.declared.edit.Edit.TheVariants.{Exemption, Unexempt, Candidate, Ship, Unship}
 use Rattle.desk_model.specs.declared.material_decl.MaterialDecl.{MaterialDecl}
 use Rattle.desk_model.specs.declared.part_sort.PartSort.TheVariants.{Article, Assembly}
 use Rattle.desk_model.specs.declared.rows.member.MemberRow.{MemberRow}
@@ -36,7 +37,8 @@ brass = record {
 
 pub record TextExamples : Type 0 where
   pub declaration : edit_text solder
-      ≡ join_with_byte 9 (codes "declare" ∷ codes "ACME" ∷ codes "7" ∷ codes "2024-01-23" ∷ codes "1" ∷ codes "SOLDER" ∷ codes "Solder paste" ∷ codes "1000000" ∷ codes "1" ∷ codes "lead" ∷ codes "1000" ∷ codes "0" ∷ [])
+      ≡ join_with_byte 9 (codes "declare" ∷ codes "ACME" ∷ codes "7" ∷ codes "2024-01-23" ∷ codes "1" ∷ codes "SOLDER"
+      ∷ codes "Solder paste" ∷ codes "1000000" ∷ codes "1" ∷ codes "lead" ∷ codes "1000" ∷ codes "0" ∷ [])
   pub declaration_code : ticket_code solder ≡ codes "D:ACME:7"
   pub part : edit_text (Part (codes "t1") (codes "A") Assembly (codes "Frame")) ≡ codes "part" ++ 9 ∷ codes "A" ++ 9 ∷ codes "assembly" ++ 9 ∷ codes "Frame"
   pub sent_code : ticket_code (Part (codes "t1") (codes "A") Assembly (codes "Frame")) ≡ codes "E:t1"
@@ -55,7 +57,8 @@ pub record TextExamples : Type 0 where
       cap = Some 40000;
     };
     application = codes "Shielding";
-  })) ≡ join_with_byte 9 (codes "exemption" ∷ codes "R" ∷ codes "4" ∷ codes "1(a)" ∷ codes "lead" ∷ codes "8,9i" ∷ codes "2014-07-22" ∷ codes "2026-06-30" ∷ [] ∷ codes "40000" ∷ codes "Shielding" ∷ [])
+  })) ≡ join_with_byte 9 (codes "exemption" ∷ codes "R" ∷ codes "4" ∷ codes "1(a)" ∷ codes "lead" ∷ codes "8,9i" ∷ codes "2014-07-22"
+      ∷ codes "2026-06-30" ∷ [] ∷ codes "40000" ∷ codes "Shielding" ∷ [])
   pub ship : edit_text (Ship (codes "t1") (codes "G") 2024 1000) ≡ join_with_byte 9 (codes "ship" ∷ codes "G" ∷ codes "2024" ∷ codes "1000" ∷ [])
   pub exemption_from_floor : edit_text (Exemption (codes "t1") (record {
     terms = record {
@@ -70,25 +73,31 @@ pub record TextExamples : Type 0 where
       cap = None;
     };
     application = codes "Alloy";
-  })) ≡ join_with_byte 9 (codes "exemption" ∷ codes "R" ∷ codes "3" ∷ codes "6(c)" ∷ codes "cadmium" ∷ codes "3" ∷ codes "2014-07-22" ∷ codes "2026-06-30" ∷ codes "10" ∷ [] ∷ codes "Alloy" ∷ [])
+  })) ≡ join_with_byte 9 (codes "exemption" ∷ codes "R" ∷ codes "3" ∷ codes "6(c)" ∷ codes "cadmium" ∷ codes "3" ∷ codes "2014-07-22"
+      ∷ codes "2026-06-30" ∷ codes "10" ∷ [] ∷ codes "Alloy" ∷ [])
   -- two materials, of which the first holds two substances and makes two claims
   pub declaration_of_two : edit_text (declares (codes "BRASSCO") 11 (brass ∷ material (codes "COPPER") 20 [] ∷ []))
       ≡ join_with_byte 9 (codes "declare" ∷ codes "BRASSCO" ∷ codes "11" ∷ codes "2024-01-23" ∷ codes "2"
-      ∷ codes "BRASS" ∷ codes "Brass" ∷ codes "10" ∷ codes "2" ∷ codes "lead" ∷ codes "4" ∷ codes "tin" ∷ codes "6" ∷ codes "2" ∷ codes "lead" ∷ codes "6(c)" ∷ codes "cadmium" ∷ codes "8(b)"
+      ∷ codes "BRASS" ∷ codes "Brass" ∷ codes "10" ∷ codes "2" ∷ codes "lead" ∷ codes "4" ∷ codes "tin" ∷ codes "6" ∷ codes "2"
+      ∷ codes "lead" ∷ codes "6(c)" ∷ codes "cadmium" ∷ codes "8(b)"
       ∷ codes "COPPER" ∷ codes "COPPER" ∷ codes "20" ∷ codes "0" ∷ codes "0" ∷ [])
   pub substance : edit_text (Substance (codes "t1") (codes "tin") (codes "Tin") (Some (codes "7440-31-5")))
       ≡ join_with_byte 9 (codes "substance" ∷ codes "tin" ∷ codes "Tin" ∷ codes "7440-31-5" ∷ [])
-  pub member : edit_text (Member (codes "t1") (codes "lead-oxide") Lead 928320) ≡ join_with_byte 9 (codes "member" ∷ codes "lead-oxide" ∷ codes "lead" ∷ codes "928320" ∷ [])
-  pub article : edit_text (Part (codes "t1") (codes "C") Article (codes "Cable")) ≡ join_with_byte 9 (codes "part" ∷ codes "C" ∷ codes "article" ∷ codes "Cable" ∷ [])
+  pub member : edit_text (Member (codes "t1") (codes "lead-oxide") Lead 928320)
+      ≡ join_with_byte 9 (codes "member" ∷ codes "lead-oxide" ∷ codes "lead" ∷ codes "928320" ∷ [])
+  pub article : edit_text (Part (codes "t1") (codes "C") Article (codes "Cable"))
+      ≡ join_with_byte 9 (codes "part" ∷ codes "C" ∷ codes "article" ∷ codes "Cable" ∷ [])
   pub line : edit_text (Line (codes "t1") (codes "A") (codes "C") 40) ≡ join_with_byte 9 (codes "line" ∷ codes "A" ∷ codes "C" ∷ codes "40" ∷ [])
   pub unline : edit_text (Unline (codes "t1") (codes "A") (codes "C")) ≡ join_with_byte 9 (codes "unline" ∷ codes "A" ∷ codes "C" ∷ [])
   pub product : edit_text (Product (codes "t1") (codes "A") InVitroDiagnostic) ≡ join_with_byte 9 (codes "product" ∷ codes "A" ∷ codes "8i" ∷ [])
   pub unexempt : edit_text (Unexempt (codes "t1") (codes "R")) ≡ join_with_byte 9 (codes "unexempt" ∷ codes "R" ∷ [])
-  pub candidate : edit_text (Candidate (codes "t1") (codes "lead") (date 2018 6 27)) ≡ join_with_byte 9 (codes "candidate" ∷ codes "lead" ∷ codes "2018-06-27" ∷ [])
+  pub candidate : edit_text (Candidate (codes "t1") (codes "lead") (date 2018 6 27))
+      ≡ join_with_byte 9 (codes "candidate" ∷ codes "lead" ∷ codes "2018-06-27" ∷ [])
   pub unship : edit_text (Unship (codes "t1") (codes "G") 2024 1000) ≡ join_with_byte 9 (codes "unship" ∷ codes "G" ∷ codes "2024" ∷ codes "1000" ∷ [])
   -- of all twelve sorts of edit a declaration alone has a ticket of its own
   pub ticket_codes : map ticket_code good_edits
-      ≡ codes "E:t1" ∷ codes "E:t2" ∷ codes "D:ACME:7" ∷ codes "E:t4" ∷ codes "E:t5" ∷ codes "E:t6" ∷ codes "E:t7" ∷ codes "E:t8" ∷ codes "E:t9" ∷ codes "E:t10" ∷ codes "E:t11" ∷ codes "E:t12" ∷ []
+      ≡ codes "E:t1" ∷ codes "E:t2" ∷ codes "D:ACME:7" ∷ codes "E:t4" ∷ codes "E:t5" ∷ codes "E:t6" ∷ codes "E:t7" ∷ codes "E:t8"
+      ∷ codes "E:t9" ∷ codes "E:t10" ∷ codes "E:t11" ∷ codes "E:t12" ∷ []
 
 -- a base substance
 abbrev pub base : List ℕ → List ℕ → Option (List ℕ) → SubstanceRow

@@ -5,13 +5,13 @@ use Rattle.std.proofs.lemmas.Bool.{and_from}
 use Rattle.std.proofs.lemmas.Bool.Decides.{nat_tests}
 use Rattle.std.proofs.lemmas.Int.Digits.{digits_value_more}
 use Rattle.desk_http.specs.Lines.{bounded_length}
-use Rattle.desk_http.proofs.LinesLemmas.{number_of_none}
+use Rattle.desk_http.proofs.LinesLemmas.{number_written_none}
 use Rattle.desk_http.proofs.lines.read_length.Goals as goal
 
 pub returns-then-not-is_ascii_digit : goal.returns-then-not-is_ascii_digit
 returns-then-not-is_ascii_digit c =
     let fails = list_all_at is_ascii_digit c.args.value.now c.loop-digit.digit-index 0 c.loop-digit-test.true (sym c.if-not-is_ascii_digit.ensures.value) in
-    sym (ap bounded_length (number_of_none c.args.value.now fails))
+    sym (ap bounded_length (number_written_none c.args.value.now fails))
 
 pub loop-digit-preserved : goal.loop-digit-preserved
 loop-digit-preserved c =

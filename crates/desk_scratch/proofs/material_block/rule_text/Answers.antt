@@ -1,7 +1,6 @@
 -- The parts of the line, whatever else the declaration says.
 use Rattle.std.proofs.Common.{◌∙◌, refl}
 use Rattle.std.proofs.lemmas.Result.{IfOk-weaker}
-use Rattle.desk_findings.specs.Share.{share}
 use Rattle.desk_model.specs.Start.{start}
 use Rattle.desk_scratch.specs.MaterialBlock.{rule_line}
 use Rattle.desk_scratch.proofs.Content.{substance-count}
@@ -10,10 +9,9 @@ use Rattle.desk_scratch.proofs.material_block.rule_text.Goals as goal
 pub base_share-share-requires : goal.base_share-share-requires
 base_share-share-requires c =
     let m = c.args.material.now in
-    rw c.as_slice.ensures (substance-count m.mass m.substances m.claims c.requires)
+    substance-count m.mass m.substances m.claims c.requires
 
 pub returns : goal.returns
-unfolding rule_line share start
+unfolding rule_line start
 returns c = IfOk-weaker c.line_text.result _ _ (λ line is d.
-    let share_is = rw c.as_slice.ensures at c.base_share-share.ensures in
-    is ∙ rw (share_is, c.from.ensures, c.from-2.ensures, c.limit_ppm.ensures, c.base_verdict-verdict.ensures d) refl) c.line_text.ensures
+    is ∙ rw (c.base_share-share.ensures d, c.from.ensures, c.from-2.ensures, c.limit_ppm.ensures, c.base_verdict-verdict.ensures d) refl) c.line_text.ensures

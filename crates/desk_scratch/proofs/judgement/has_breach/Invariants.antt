@@ -7,7 +7,7 @@ use Rattle.desk_model.specs.Start.{start}
 use Rattle.desk_model.specs.Effect.{declared_row}
 use Rattle.desk_findings.specs.Verdicts.{verdict_on}
 use Rattle.desk_scratch.specs.Judgement.{is_breach}
-use Rattle.desk_scratch.proofs.material_block.has_breach.Given as goal
+use Rattle.desk_scratch.proofs.judgement.has_breach.Given as goal
 
 abbrev pub invariant-loop-rule : goal.invariant-loop-rule
 invariant-loop-rule l = record {

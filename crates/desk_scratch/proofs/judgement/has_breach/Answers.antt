@@ -9,7 +9,7 @@ use Rattle.desk_model.specs.Effect.{declared_row}
 use Rattle.desk_findings.specs.Verdicts.{verdict_on}
 use Rattle.desk_scratch.specs.Judgement.{is_breach}
 use Rattle.desk_scratch.proofs.Lines.{none-more}
-use Rattle.desk_scratch.proofs.material_block.has_breach.Goals as goal
+use Rattle.desk_scratch.proofs.judgement.has_breach.Goals as goal
 
 pub loop-rule-preserved : goal.loop-rule-preserved
 loop-rule-preserved c = record {

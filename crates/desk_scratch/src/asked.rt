@@ -1,0 +1,15 @@
+ghost use Rattle.std.specs.Prelude.{IsTrue};
+ghost use Rattle.desk_text.specs.Day.{is_askable};
+
+use desk_law::Kind;
+use desk_text::Day;
+
+/// For which kind of equipment and on which day a material is judged.
+#[derive(Clone, Copy, Debug)]
+pub struct Asked {
+    /// The kind of equipment.
+    pub kind: Kind,
+    /// The day, 2014-07-22 or later.
+    pub day: Day,
+    ghost askable: { IsTrue (is_askable day) },
+}
