@@ -1,0 +1,4 @@
+pub mod Bytes
+pub mod KindForms
+pub mod KindItems
+pub mod Members

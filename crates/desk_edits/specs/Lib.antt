@@ -1,0 +1,5 @@
+pub mod Edit
+pub mod Faults
+pub mod Keys
+pub mod Shape
+pub mod Values
