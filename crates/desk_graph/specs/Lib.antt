@@ -1,0 +1,9 @@
+pub mod Graph
+pub mod Reaches
+pub mod Edits
+pub mod Bill
+pub mod Order
+pub mod Plan
+pub mod Places
+pub mod Inside
+pub mod Faults

@@ -1,0 +1,29 @@
+use crate::line::NodeId;
+use crate::line_list::LineList;
+use std::marker::Model;
+
+/// A line that a bill is ready to set, without memory and without a refusal.
+///
+/// It holds the lines of the parent and the users of the child as they will be. Contracts see it as a record of its parts.
+#[derive(Drop)]
+pub struct LinePlan {
+    pub(crate) parent: NodeId,
+    pub(crate) child: NodeId,
+    pub(crate) count: u32,
+    pub(crate) lines: LineList,
+    pub(crate) users: LineList,
+}
+
+impl Model for LinePlan {
+    ghost use Rattle.desk_graph.specs.Plan.{Planned};
+
+    ghost Value = { Planned };
+
+    ghost view = { λ plan. record {
+      parent = plan.parent;
+      child = plan.child;
+      count = plan.count;
+      lines = plan.lines;
+      users = plan.users;
+    } };
+}
