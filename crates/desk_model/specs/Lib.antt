@@ -8,6 +8,7 @@ pub mod Examples
 pub mod Forms
 pub mod Laws
 pub mod Lists
+pub mod Refusals
 pub mod Rows
 pub mod Start
 pub mod Terms

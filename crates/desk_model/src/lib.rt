@@ -16,9 +16,12 @@ pub mod limits;
 mod list_of;
 mod material_decl;
 mod part_sort;
+#[cfg(test)]
+mod refusal_tests;
 mod row;
 mod rows;
 mod rule_fault;
+mod spaced;
 mod substance_mass;
 #[cfg(test)]
 mod tests;
@@ -40,5 +43,6 @@ pub use rows::{
     SubstanceRow, TicketRow,
 };
 pub use rule_fault::RuleFault;
+pub use spaced::Spaced;
 pub use substance_mass::SubstanceMass;
 pub use within::{Count, Factor, Units, Within, Year, count_of, factor_of, units_of, year_of};

@@ -1,5 +1,10 @@
-use crate::Codes;
+ghost use Rattle.std.specs.Prelude.{◌≡◌, Some};
+ghost use Rattle.desk_model.specs.Refusals.{refusal_words, table_name};
+
+use crate::{Codes, Spaced};
 use desk_text::Code;
+use std::error::Error;
+use std::fmt;
 
 /// Why an edit is refused: the first of these rules that it breaks, in this order.
 #[derive(Debug, Drop)]
@@ -107,4 +112,69 @@ pub enum RuleFault {
         /// The least year of these.
         year: u16,
     },
+}
+
+/// The refusal's words, by which the console and the reply to an edit tell it.
+impl fmt::Display for RuleFault {
+    ghost output = { λ fault. Some (refusal_words fault) };
+
+    #[tactic(auto, unfolding(crate::specs::Refusals::refusal_words))]
+    fn fmt<W: fmt::Write>(&self, f: &mut fmt::Formatter<W>) -> fmt::Result {
+        match self {
+            RuleFault::TicketReused => f.write_str("ticket-reused"),
+            RuleFault::UnknownSubstance { code } => write!(f, "unknown-substance {code}"),
+            RuleFault::UnknownMaterial { code } => write!(f, "unknown-material {code}"),
+            RuleFault::UnknownPart { code } => write!(f, "unknown-part {code}"),
+            RuleFault::UnknownProduct { code } => write!(f, "unknown-product {code}"),
+            RuleFault::UnknownExemption { row } => write!(f, "unknown-exemption {row}"),
+            RuleFault::NameTaken { code } => write!(f, "name-taken {code}"),
+            RuleFault::KindChanged { code } => write!(f, "kind-changed {code}"),
+            RuleFault::WrongChild { child } => write!(f, "wrong-child {child}"),
+            RuleFault::NoSuchLine { parent, child } => write!(f, "no-such-line {parent} {child}"),
+            RuleFault::ForeignMaterial { material, supplier } => {
+                write!(f, "foreign-material {material} {supplier}")
+            }
+            RuleFault::StaleDeclaration { material, kept } => {
+                write!(f, "stale-declaration {material} {kept}")
+            }
+            RuleFault::MassesExceed { material } => write!(f, "masses-exceed {material}"),
+            RuleFault::ExemptionSpan => f.write_str("exemption-span"),
+            RuleFault::AnnexKinds => f.write_str("annex-kinds"),
+            RuleFault::ShipBelowZero { kept } => write!(f, "ship-below-zero {kept}"),
+            RuleFault::UnitsTooLarge => f.write_str("units-too-large"),
+            RuleFault::TableFull { table } => write!(f, "table-full {}", table_name(*table)),
+            RuleFault::TextFull => f.write_str("text-full"),
+            RuleFault::ClosesCycle { chain } => {
+                let chain = Spaced {
+                    codes: chain.as_slice(),
+                };
+                write!(f, "closes-cycle{chain}")
+            }
+            RuleFault::TotalTooLarge { part } => write!(f, "total-too-large {part}"),
+            RuleFault::FindingsFull => f.write_str("findings-full"),
+            RuleFault::YearTooLarge { year } => write!(f, "year-too-large {year}"),
+        }
+    }
+}
+
+impl Error for RuleFault {}
+
+/// The name by which a refusal tells a full table, by number; 11 is for the lines of one parent.
+#[tactic(auto, unfolding(crate::specs::Refusals::table_name))]
+fn table_name(table: u8) -> &'static str
+    ensures { result.now ≡ table_name table }
+{
+    match table {
+        1 => "substances",
+        2 => "members",
+        3 => "materials",
+        4 => "parts",
+        5 => "lines",
+        6 => "products",
+        7 => "exemptions",
+        8 => "candidates",
+        9 => "shipments",
+        10 => "tickets",
+        _ => "lines-of-parent",
+    }
 }

@@ -1,4 +1,5 @@
 pub mod Order
+pub mod Partition
 pub mod Runs
 pub mod Search
 pub mod Sums

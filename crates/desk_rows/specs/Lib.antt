@@ -1,3 +1,4 @@
+pub mod Held
 pub mod Rows
 pub mod Place
 pub mod Runs

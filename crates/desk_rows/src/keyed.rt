@@ -26,3 +26,16 @@ pub trait Keyed: Drop {
         Self: Sized,
         ensures { IfOk result (λ row. row ≡ self.now) };
 }
+
+/// A row that belongs to a group, such as the lines of one parent. In a list by key the rows of one group stand together.
+pub trait Grouped: Keyed {
+    /// What tells groups apart; the order of keys is first of all the order of groups.
+    type Group: Ord;
+
+    // The row's group.
+    ghost group: { Self → Self.Group };
+
+    /// How the row's group stands to `sought`.
+    fn compare_group(&self, sought: &Self::Group) -> Ordering
+        ensures { result ≡ Self.Group.cmp (group self.now) sought.now };
+}

@@ -3,10 +3,12 @@
 
 mod keyed;
 mod place;
+mod room;
 mod table;
 #[cfg(test)]
 mod tests;
 
-pub use keyed::Keyed;
-pub use place::{place_of_key, place_of_row};
+pub use keyed::{Grouped, Keyed};
+pub use place::{place_of_key, place_of_row, run_of};
+pub use room::Room;
 pub use table::Table;

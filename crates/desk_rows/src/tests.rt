@@ -154,3 +154,49 @@ fn a_search_tells_where_a_row_stands_or_would_go(rt: HostRuntime) -> Result<(), 
     }
     Ok(())
 }
+
+#[test]
+fn rows_go_into_the_room_that_was_made_for_them(rt: HostRuntime) -> Result<(), Fail> {
+    let alloc = rt.alloc();
+    let mut table = three_prices(alloc)?;
+    let room = table.room_for(alloc, 1)?;
+    table.put_ready(cost(5, 50), room);
+    let room = table.room_for(alloc, 2)?;
+    let more = [cost(1, 10), cost(4, 44)].to_vec(alloc)?;
+    table.put_all_ready(more, room);
+    let rows = [
+        cost(1, 10),
+        cost(2, 20),
+        cost(4, 44),
+        cost(5, 50),
+        cost(6, 60),
+    ];
+    assert_eq!(rt; table.as_slice(), rows.as_slice());
+    Ok(())
+}
+
+#[test]
+fn an_empty_table_has_room_made_for_it(rt: HostRuntime) -> Result<(), Fail> {
+    let alloc = rt.alloc();
+    let mut table = Table::new(alloc);
+    let room = table.room_for(alloc, 0)?;
+    table.put_all_ready(Vec::new(alloc), room);
+    assert!(rt; table.as_slice().is_empty());
+    let room = table.room_for(alloc, 1)?;
+    table.put_ready(cost(4, 40), room);
+    assert_eq!(rt; table.as_slice(), [cost(4, 40)].as_slice());
+    Ok(())
+}
+
+#[test]
+fn thousands_of_rows_go_in_through_rooms(rt: HostRuntime) -> Result<(), Fail> {
+    let alloc = rt.alloc();
+    let mut table = Table::new(alloc);
+    for item in 0..2_000 {
+        let room = table.room_for(alloc, 1)?;
+        table.put_ready(cost(item, 10), room);
+    }
+    assert_eq!(rt; table.as_slice().len(), 2_000);
+    assert_eq!(rt; table.get(&1_999), Some(&cost(1_999, 10)));
+    Ok(())
+}

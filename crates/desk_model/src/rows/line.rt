@@ -1,4 +1,4 @@
-use desk_rows::Keyed;
+use desk_rows::{Grouped, Keyed};
 use desk_text::{Code, OutOfMemory};
 use std::alloc::Global;
 use std::cmp::Ordering;
@@ -29,5 +29,16 @@ impl Keyed for LineRow {
 
     fn copied(&self, _alloc: Global) -> Result<LineRow, OutOfMemory> {
         Ok(*self)
+    }
+}
+
+/// The lines of one parent stand together.
+impl Grouped for LineRow {
+    type Group = Code;
+
+    ghost group = { λ row. row.parent };
+
+    fn compare_group(&self, sought: &Code) -> Ordering {
+        self.parent.cmp(sought)
     }
 }

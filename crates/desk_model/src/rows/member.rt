@@ -1,7 +1,7 @@
 ghost use Rattle.desk_law.specs.Rule.{rule_number};
 
 use desk_law::Rule;
-use desk_rows::Keyed;
+use desk_rows::{Grouped, Keyed};
 use desk_text::{Code, OutOfMemory};
 use std::alloc::Global;
 use std::cmp::Ordering;
@@ -32,5 +32,16 @@ impl Keyed for MemberRow {
 
     fn copied(&self, _alloc: Global) -> Result<MemberRow, OutOfMemory> {
         Ok(*self)
+    }
+}
+
+/// The members of one substance stand together.
+impl Grouped for MemberRow {
+    type Group = Code;
+
+    ghost group = { λ row. row.substance };
+
+    fn compare_group(&self, sought: &Code) -> Ordering {
+        self.substance.cmp(sought)
     }
 }

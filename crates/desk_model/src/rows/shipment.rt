@@ -1,4 +1,4 @@
-use desk_rows::Keyed;
+use desk_rows::{Grouped, Keyed};
 use desk_text::{Code, OutOfMemory};
 use std::alloc::Global;
 use std::cmp::Ordering;
@@ -29,5 +29,16 @@ impl Keyed for ShipmentRow {
 
     fn copied(&self, _alloc: Global) -> Result<ShipmentRow, OutOfMemory> {
         Ok(*self)
+    }
+}
+
+/// The shipments of one year stand together.
+impl Grouped for ShipmentRow {
+    type Group = u16;
+
+    ghost group = { λ row. row.year };
+
+    fn compare_group(&self, sought: &u16) -> Ordering {
+        self.year.cmp(sought)
     }
 }
