@@ -1,0 +1,14 @@
+pub mod Distinct
+pub mod Scatter
+pub mod Settle
+pub mod BitsGoUp
+pub mod Walks
+pub mod FirstChild
+pub mod Fits
+pub mod AmountsGoUp
+pub mod LineEdits
+pub mod BitMarks
+pub mod CountsGoUp
+pub mod Results
+pub mod Cycles
+pub mod ForTables

@@ -1,0 +1,27 @@
+use Rattle.std.proofs.Common.{sym, ap, ◌∙◌}
+use Rattle.std.proofs.lemmas.List.{length-set}
+use Rattle.desk_totals.proofs.Scatter.{part_round-all, part_round-more, part_round-none}
+use Rattle.desk_totals.specs.Marks.{with_bits}
+use Rattle.desk_totals.specs.Rounds.{round}
+use Rattle.desk_totals.proofs.bits.add_children.Goals as goal
+
+pub loop-link-init : goal.loop-link-init
+loop-link-init c =
+    let bill = c.args.bill.now in
+    (c.requires.next, part_round-none with_bits 0 bill.nodes c.links-link-items.ensures.linked.distinct c.links-link-items.result.now c.args.next.now c.args.bits.now c.requires.next)
+
+pub loop-link-preserved : goal.loop-link-preserved
+loop-link-preserved c =
+    let bill = c.args.bill.now in
+    let places = c.links-link-items.ensures.places c.loop-link.link-index (record { parent = 0; child = 0; count = 0 }) c.loop-link-test.true in (
+      length-set _ _ _ ∙ c.loop-link.invariant.0,
+      part_round-more with_bits 0 bill.nodes c.links-link-items.ensures.linked.distinct c.links-link-items.result.now c.args.next.now c.args.bits.now c.loop-link.link-index (record { parent = 0; child = 0; count = 0 }) c.loop-link.next c.loop-link-test.true
+          places.0 places.1 c.requires.bits c.loop-link.invariant.1,
+    )
+
+pub returns : goal.returns
+returns c =
+    let bill = c.args.bill.now in
+    c.loop-link.invariant.1
+    ∙ part_round-all with_bits 0 bill.nodes c.links-link-items.ensures.linked.distinct c.links-link-items.result.now c.args.next.now c.args.bits.now bill.material_count c.loop-link.link-index c.loop-link-test.false
+    ∙ ap (λ lines. round with_bits 0 (record { nodes = bill.nodes; material_count = bill.material_count; lines = lines }) c.args.next.now c.args.bits.now) (sym c.links-link-items.ensures.lines)

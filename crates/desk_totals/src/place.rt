@@ -1,0 +1,109 @@
+ghost use Rattle.std.specs.Prelude.{◌≡◌, ◌<◌, ◌≤◌, false, true, length, map, MatchOption, IfOk};
+ghost use Rattle.std.specs.List.{list_all};
+ghost use Rattle.desk_totals.specs.Linked.{has_ends_in, is_among};
+ghost use Rattle.desk_totals.specs.Places.{ArePlaces, line_at, node_at};
+
+use crate::link::Link;
+use desk_model::LineRow;
+use desk_text::{Code, OutOfMemory};
+use std::alloc::Global;
+
+/// The place of the code among the nodes.
+///
+/// It takes a binary search where the codes of materials and those of parts each stand in order, and else looks at all nodes.
+pub(crate) fn place_of(nodes: &[Code], material_count: usize, code: &Code) -> Option<usize>
+    requires { material_count ≤ length nodes.now }
+    ensures { MatchOption result (is_among code.now nodes.now ≡ false)
+        (λ place. (place < length nodes.now) × (node_at nodes.now place ≡ code.now)) }
+{
+    let guess = guessed_place(nodes, material_count, code);
+    if stands_at(nodes, guess, code) {
+        return Some(guess);
+    }
+    first_place_of(nodes, code)
+}
+
+/// Where the code stands, as far as a guess goes.
+fn guessed_place(nodes: &[Code], material_count: usize, code: &Code) -> usize
+    requires { material_count ≤ length nodes.now }
+{
+    let (materials, parts) = nodes.split_at(material_count);
+    match materials.binary_search(code) {
+        Ok(place) => place,
+        Err(_) => match parts.binary_search(code) {
+            Ok(place) => material_count.saturating_add(place),
+            Err(_) => nodes.len(),
+        },
+    }
+}
+
+/// Whether the code stands at the place.
+fn stands_at(nodes: &[Code], place: usize, code: &Code) -> bool
+    ensures { result ≡ true → (place < length nodes.now) × (node_at nodes.now place ≡ code.now) }
+{
+    match nodes.get(place) {
+        Some(node) => node == code,
+        None => false,
+    }
+}
+
+/// The first place at which the code stands.
+fn first_place_of(nodes: &[Code], code: &Code) -> Option<usize>
+    ensures { MatchOption result (is_among code.now nodes.now ≡ false)
+        (λ place. (place < length nodes.now) × (node_at nodes.now place ≡ code.now)) }
+{
+    for (place, node) in nodes.iter().enumerate() {
+        if node == code {
+            return Some(place);
+        }
+    }
+    None
+}
+
+/// The links of the lines, one for each.
+pub(crate) fn links_of(
+    alloc: Global,
+    nodes: &[Code],
+    material_count: usize,
+    lines: &[LineRow],
+) -> Result<Vec<Link>, OutOfMemory>
+    requires materials { material_count ≤ length nodes.now }
+    requires ends { list_all (has_ends_in nodes.now) lines.now ≡ true }
+    ensures lines { IfOk result (λ links. map (line_at nodes.now) links.items ≡ lines.now) }
+    ensures places { IfOk result (λ links. ArePlaces (length nodes.now) links.items) }
+{
+    let mut links = Vec::with_capacity(alloc, lines.len())?;
+    for line in lines {
+        links.push_reserved(link_of(nodes, material_count, line));
+    }
+    Ok(links)
+}
+
+/// The link of a line.
+pub(crate) fn link_of(nodes: &[Code], material_count: usize, line: &LineRow) -> Link
+    requires materials { material_count ≤ length nodes.now }
+    requires ends { has_ends_in nodes.now line.now ≡ true }
+    ensures line { line_at nodes.now result ≡ line.now }
+    ensures parent { result.parent < length nodes.now }
+    ensures child { result.child < length nodes.now }
+{
+    Link {
+        parent: place_in(nodes, material_count, &line.parent),
+        child: place_in(nodes, material_count, &line.child),
+        count: line.count,
+    }
+}
+
+/// The place of a code that is one of the nodes.
+fn place_in(nodes: &[Code], material_count: usize, code: &Code) -> usize
+    requires materials { material_count ≤ length nodes.now }
+    requires there { is_among code.now nodes.now ≡ true }
+    ensures within { result < length nodes.now }
+    ensures code { node_at nodes.now result ≡ code.now }
+{
+    match place_of(nodes, material_count, code) {
+        Some(place) => place,
+        // No node has the code: that can't be.
+        None => nodes.len(),
+    }
+}
