@@ -1,6 +1,26 @@
-//! The tables of the desk, for the crates above: today the types of rows, edits, refusals and
-//! declarations, which `desk_model` defines.
+//! The tables of the desk: every edit is judged by the rules and made, exactly as the model defines.
 #![tactic(auto)]
+
+mod changes;
+mod counts;
+mod declared;
+mod edit_fault;
+mod judge;
+mod limits;
+mod lookups;
+mod one_row;
+mod plan;
+mod plan_rows;
+mod refuse;
+mod row_change;
+mod rules;
+mod share;
+mod start;
+mod tables;
+mod terms;
+#[cfg(test)]
+mod tests;
+mod ticket;
 
 pub use desk_model::{
     CandidateRow, Codes, Count, DeclError, Declaration, Edit, Exemption, ExemptionRow, Factor,
@@ -8,3 +28,7 @@ pub use desk_model::{
     RuleFault, ShipmentRow, SubstanceMass, SubstanceRow, TicketRow, Units, Within, Year, count_of,
     factor_of, units_of, year_of,
 };
+pub use edit_fault::EditFault;
+pub use plan::TablesPlan;
+pub use row_change::RowChange;
+pub use tables::Tables;

@@ -1,0 +1,10 @@
+pub mod Taken
+pub mod Finds
+pub mod DeclaredRows
+pub mod Tickets
+pub mod Commits
+pub mod PutCounts
+pub mod ParentLines
+pub mod Judging
+pub mod StartTexts
+pub mod KeptForms

@@ -1,0 +1,94 @@
+ghost use Rattle.std.specs.Prelude.{◌≡◌, [], ◌∷◌, IfErr, IfOk, None};
+ghost use Rattle.desk_model.specs.Effect.{entered};
+ghost use Rattle.desk_history.specs.Refused.{first_some, ticket_reused, table_full, text_full};
+ghost use Rattle.desk_history.specs.Sound.{Sound};
+ghost use Rattle.desk_history.specs.Step.{kept_number};
+ghost use Rattle.desk_tables.specs.Change.{IsReady};
+ghost use Rattle.desk_tables.specs.Judged.{IsRowsFault, IsRowsPlan, rules_of_names, rules_of_values};
+ghost use Rattle.desk_tables.specs.Plan.{CanCommit, entered_by};
+ghost use Rattle.desk_tables.specs.Ticket.{ticket_for};
+ghost use Rattle.desk_model.specs.Lists.{ticket_row};
+
+use crate::{EditFault, RowChange, Tables, TablesPlan};
+use desk_model::{Edit, RuleFault, TicketRow};
+use std::alloc::Global;
+
+/// Judgement by the rules 1 to 19, which look-ups and lengths decide.
+impl Tables {
+    /// The plan of an edit that is kept, or that breaks none of the rules 1 to 19. The rules 20 to 23, on the whole bill of
+    /// materials, are yet to be tried for it.
+    ///
+    /// `Rule`: the first of the rules 1 to 19 that it breaks. `OutOfMemory`: none was left for the plan.
+    #[tactic(auto, unfolding(crate::specs::Plan::CanCommit, crate::specs::Judged::IsRowsPlan, crate::specs::Judged::IsRowsFault))]
+    pub fn plan_rows(&self, alloc: Global, edit: &Edit) -> Result<TablesPlan, EditFault>
+        requires { Sound self.now.lists }
+        ensures plan { IfOk result (λ plan. IsRowsPlan self.now edit.now plan) }
+        ensures ready { IfOk result (λ plan. CanCommit self.now plan) }
+        ensures fault { IfErr result (λ fault. IsRowsFault self.now.lists edit.now fault) }
+    {
+        let ticket = self.ticket_for(alloc, edit)?;
+        if let Some(number) = self.kept_number(edit, &ticket) {
+            return Ok(TablesPlan::Kept { number });
+        }
+        if let Some(fault) = self.ticket_reused(edit, &ticket) {
+            return Err(EditFault::Rule(fault));
+        }
+        if let Some(fault) = self.refused_by_names(edit) {
+            return Err(EditFault::Rule(fault));
+        }
+        if let Some(fault) = self.refused_by_values(edit) {
+            return Err(EditFault::Rule(fault));
+        }
+        self.plan_new(alloc, edit, ticket)
+    }
+
+    /// The plan of a new edit that breaks none of the rules 1 to 17.
+    #[tactic(auto, unfolding(crate::specs::Plan::CanCommit, crate::specs::Judged::IsRowsPlan, crate::specs::Judged::IsRowsFault))]
+    fn plan_new(
+        &self,
+        alloc: Global,
+        edit: &Edit,
+        ticket: TicketRow,
+    ) -> Result<TablesPlan, EditFault>
+        requires sound { Sound self.now.lists }
+        requires ticket { ticket ≡ ticket_for self.now.lists edit.now }
+        requires new { kept_number self.now.lists edit.now ≡ None }
+        requires unused { ticket_reused self.now.lists edit.now ≡ None }
+        requires names { first_some (rules_of_names self.now.lists edit.now) ≡ None }
+        requires values { first_some (rules_of_values self.now.lists edit.now) ≡ None }
+        ensures plan { IfOk result (λ plan. IsRowsPlan self.now edit.now plan) }
+        ensures ready { IfOk result (λ plan. CanCommit self.now plan) }
+        ensures fault { IfErr result (λ fault. IsRowsFault self.now.lists edit.now fault) }
+    {
+        let change = self.change_for(alloc, edit)?;
+        if let Some(fault) = self.refused_by_limits(edit, &change, &ticket) {
+            return Err(EditFault::Rule(fault));
+        }
+        let room = self.tickets.room_for(alloc, 1)?;
+        Ok(TablesPlan::New {
+            change,
+            ticket,
+            room,
+        })
+    }
+
+    /// The first of the rules 18 and 19, on the limits of tables and texts, that the edit breaks.
+    #[tactic(auto, unfolding(desk_history::specs::Refused::table_full, desk_history::specs::Refused::text_full))]
+    fn refused_by_limits(
+        &self,
+        edit: &Edit,
+        change: &RowChange,
+        ticket: &TicketRow,
+    ) -> Option<RuleFault>
+        requires sound { Sound self.now.lists }
+        requires ready { IsReady self.now change.now }
+        requires new { ticket_row self.now.lists ticket.now.code ≡ None }
+        requires leaves { entered_by self.now.lists change.now ticket.now ≡ entered self.now.lists edit.now }
+        ensures { result ≡ first_some (table_full self.now.lists edit.now ∷ text_full self.now.lists edit.now ∷ []) }
+    {
+        if let Some(fault) = self.table_full(change, ticket) {
+            return Some(fault);
+        }
+        self.text_full(change, ticket)
+    }
+}
