@@ -2,7 +2,11 @@ pub mod AnswerLemmas
 pub mod HeadLemmas
 pub mod LaterLemmas
 pub mod LinesLemmas
+pub mod Literals
 pub mod OnLiterals
+pub mod QueryLemmas
+pub mod RangeLemmas
 pub mod ReplyLemmas
 pub mod RestLemmas
+pub mod RouteLemmas
 pub mod StreamLemmas

@@ -1,8 +1,13 @@
+pub mod Endpoints
+pub mod Faults
+pub mod Fields
 pub mod Head
 pub mod Limits
 pub mod Lines
+pub mod Query
 pub mod Reader
 pub mod Reply
 pub mod Rest
+pub mod Routes
 pub mod Stream
 pub mod Taken

@@ -1,5 +1,6 @@
 ghost use Rattle.std.specs.Prelude.{◌≡◌};
 ghost use Rattle.desk_http.specs.Lines.{method_of};
+ghost use Rattle.desk_http.specs.Routes.{same_method};
 
 /// What a request asks to be done. The desk knows two methods, and no body answers another.
 #[derive(Clone, Copy, Debug, PartialEq, Eq)]
@@ -21,4 +22,11 @@ pub(crate) fn method_named(word: &[u8]) -> Method
         b"POST" => Method::Post,
         _ => Method::Other,
     }
+}
+
+/// Whether the two are the same method.
+pub(crate) fn same_method(one: Method, other: Method) -> bool
+    ensures { result ≡ same_method one other }
+{
+    one == other
 }

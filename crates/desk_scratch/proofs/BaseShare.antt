@@ -19,7 +19,7 @@ use Rattle.desk_model.specs.Start.{base_member, rules_by_code, start}
 use Rattle.desk_rows.specs.Rows.{row_of}
 
 -- a rule is found by its number
-rule-at : (rule : Rule) → get_or all_rules (rule_number rule - 1) Lead ≡ rule
+pub rule-at : (rule : Rule) → get_or all_rules (rule_number rule - 1) Lead ≡ rule
 unfolding rule_number
 rule-at Lead = refl
 rule-at Mercury = refl

@@ -17,18 +17,19 @@ use Rattle.desk_model.specs.Effect.{declared_row}
 use Rattle.desk_model.specs.Lists.{Lists}
 use Rattle.desk_findings.specs.Share.{share}
 use Rattle.desk_findings.specs.Verdicts.{terms_of, verdict_on}
-use Rattle.desk_scratch.specs.CheckText.{EndsIn, check_line, check_text, compliance_line, some_breach}
+use Rattle.desk_scratch.specs.CheckText.{EndsIn, check_line, check_text, some_breach}
+use Rattle.desk_scratch.specs.SharedLines.{compliance_line}
 use Rattle.desk_scratch.specs.MaterialBlock.{material_block, material_line, material_line_with, rule_line, rule_line_with, verdict_words}
 
 -- the text ends a line
 abbrev pub EndsLine : List ℕ → Type 0
 EndsLine text = EndsIn text (codes "\n")
 
-ends-after : (a b : List ℕ) → EndsLine b → EndsLine (a ++ b)
+pub ends-after : (a b : List ℕ) → EndsLine b → EndsLine (a ++ b)
 ends-after a b e = (a ++ e.0, ap (λ (t : List ℕ). a ++ t) e.1 ∙ sym (append_assoc a e.0 (codes "\n")))
 
 -- what is appended to whole lines line by line is whole lines
-ends-lines : {X : Type 0} (f : X → List ℕ) → ((x : X) → EndsLine (f x)) → (xs : List X) (a : List ℕ) → EndsLine a → EndsLine (a ++ flat_map f xs)
+pub ends-lines : {X : Type 0} (f : X → List ℕ) → ((x : X) → EndsLine (f x)) → (xs : List X) (a : List ℕ) → EndsLine a → EndsLine (a ++ flat_map f xs)
 ends-lines f each [] a e = (e.0, append-nil a ∙ e.1)
 ends-lines f each (x ∷ xs) a e =
     let more = ends-lines f each xs (a ++ f x) (ends-after a (f x) (each x)) in
@@ -47,11 +48,11 @@ rule_line-ends t kind day m rule = (
   refl,
 )
 
-material_block-ends : (t : Lists) (kind : Kind) (day : Date) (m : MaterialRow) → EndsLine (material_block t kind day m)
+pub material_block-ends : (t : Lists) (kind : Kind) (day : Date) (m : MaterialRow) → EndsLine (material_block t kind day m)
 unfolding material_block
 material_block-ends t kind day m = ends-lines (rule_line t kind day m) (rule_line-ends t kind day m) all_rules (material_line m) (material_line-ends m)
 
-check_line-ends : (kind : Kind) (day : Date) (supplier : List ℕ) (number : ℕ) → EndsLine (check_line kind day supplier number)
+pub check_line-ends : (kind : Kind) (day : Date) (supplier : List ℕ) (number : ℕ) → EndsLine (check_line kind day supplier number)
 unfolding check_line
 check_line-ends kind day supplier number =
     (codes "check " ++ date_text day ++ codes " kind " ++ kind_code kind ++ codes " supplier " ++ supplier ++ codes " declaration " ++ decimal number, refl)
@@ -66,7 +67,7 @@ last-is d a [] = refl
 last-is d a (x ∷ xs) = last-is x a xs
 
 -- after whole lines the last line tells which it is
-last-line : (breach : Bool) (lines text : List ℕ) → EndsLine lines → text ≡ lines ++ compliance_line (not breach)
+pub last-line : (breach : Bool) (lines text : List ℕ) → EndsLine lines → text ≡ lines ++ compliance_line (not breach)
     → (EndsIn text (codes "\ncompliant\n") ↔ (breach ≡ false))
 last-line false lines text e t = (
   λ ends. refl,

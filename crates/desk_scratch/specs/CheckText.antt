@@ -1,5 +1,5 @@
 -- The whole answer to `check`.
-use Rattle.std.specs.Prelude.{◌≡◌, Bool, true, false, not, List, ℕ, ◌++◌, codes}
+use Rattle.std.specs.Prelude.{◌≡◌, Bool, not, List, ℕ, ◌++◌, codes}
 use Rattle.std.specs.Fmt.{decimal}
 use Rattle.std.specs.List.{flat_map, list_any}
 use Rattle.desk_text.specs.Day.{Date, date_text}
@@ -10,6 +10,7 @@ use Rattle.desk_model.specs.Effect.{declared_row}
 use Rattle.desk_model.specs.Lists.{Lists}
 use Rattle.desk_scratch.specs.Judgement.{has_breach}
 use Rattle.desk_scratch.specs.MaterialBlock.{material_block}
+use Rattle.desk_scratch.specs.SharedLines.{compliance_line}
 
 -- the first line: what was asked, and which declaration was judged
 unfoldable pub check_line : Kind → Date → List ℕ → ℕ → List ℕ
@@ -20,11 +21,6 @@ check_line kind day supplier number =
 -- some material of the declaration breaches some rule
 abbrev pub some_breach : Lists → Kind → Date → Declared → Bool
 some_breach t kind day d = list_any (λ m. has_breach t kind day (declared_row d m)) d.materials
-
--- the last line: `compliant` or `not-compliant`
-abbrev pub compliance_line : Bool → List ℕ
-compliance_line true = codes "compliant\n"
-compliance_line false = codes "not-compliant\n"
 
 -- the first line, the block of each material in order of code, the last line
 unfoldable pub check_text : Lists → Kind → Date → Declared → List ℕ

@@ -1,3 +1,16 @@
 pub mod CheckText
+pub mod Eval
+pub mod Examples
+pub mod Faults
 pub mod Judgement
+pub mod Laws
+pub mod Material
 pub mod MaterialBlock
+pub mod Part
+pub mod Questions
+pub mod Reach33
+pub mod Reach7
+pub mod Rohs
+pub mod SharedLines
+pub mod Summary
+pub mod Uses

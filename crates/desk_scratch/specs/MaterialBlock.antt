@@ -38,17 +38,24 @@ material_line_with code supplier number mass =
 abbrev pub material_line : MaterialRow → List ℕ
 material_line material = material_line_with material.code material.supplier material.number material.mass
 
--- `rule RULE share SHARE limit LIMIT VERDICT`; share and limit are both in millionths of a microgram
-unfoldable pub rule_line_with : Rule → ℕ → ℕ → List ℕ → List ℕ
-rule_line_with rule share limit verdict =
-    codes "rule " ++ rule_code rule ++ codes " share " ++ decimal share ++ codes " limit " ++ decimal limit
-    ++ codes " " ++ verdict ++ codes "\n"
+-- `RULE share SHARE limit LIMIT VERDICT`; share and limit are both in millionths of a microgram
+abbrev pub judged_words_with : Rule → ℕ → ℕ → List ℕ → List ℕ
+judged_words_with rule share limit verdict =
+    rule_code rule ++ codes " share " ++ decimal share ++ codes " limit " ++ decimal limit ++ codes " " ++ verdict
 
--- the line on a rule of a material
-unfoldable pub rule_line : Lists → Kind → Date → MaterialRow → Rule → List ℕ
-rule_line t kind day material rule =
-    rule_line_with rule (share t rule material) (limit_of rule * material.mass)
+-- the words on a rule of a material: its share, the limit, which is ppm times mass, and the verdict
+abbrev pub judged_words : Lists → Kind → Date → MaterialRow → Rule → List ℕ
+judged_words t kind day material rule =
+    judged_words_with rule (share t rule material) (limit_of rule * material.mass)
     (verdict_words (terms_of t) (verdict_on t kind day material rule))
+
+-- a rule's line of these parts
+unfoldable pub rule_line_with : Rule → ℕ → ℕ → List ℕ → List ℕ
+rule_line_with rule share limit verdict = codes "rule " ++ judged_words_with rule share limit verdict ++ codes "\n"
+
+-- `rule RULE share SHARE limit LIMIT VERDICT`
+unfoldable pub rule_line : Lists → Kind → Date → MaterialRow → Rule → List ℕ
+rule_line t kind day material rule = codes "rule " ++ judged_words t kind day material rule ++ codes "\n"
 
 -- the material's line, and a line for each rule in order of number
 unfoldable pub material_block : Lists → Kind → Date → MaterialRow → List ℕ

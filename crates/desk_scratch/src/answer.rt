@@ -2,7 +2,8 @@ ghost use Rattle.std.specs.Prelude.{◌≡◌, ◌↔◌, ◌++◌, codes, false
 ghost use Rattle.std.specs.List.{flat_map};
 ghost use Rattle.desk_model.specs.Effect.{declared_row};
 ghost use Rattle.desk_model.specs.Start.{start};
-ghost use Rattle.desk_scratch.specs.CheckText.{EndsIn, check_line, check_text, compliance_line, some_breach};
+ghost use Rattle.desk_scratch.specs.CheckText.{EndsIn, check_line, check_text, some_breach};
+ghost use Rattle.desk_scratch.specs.SharedLines.{compliance_line};
 ghost use Rattle.desk_scratch.specs.MaterialBlock.{material_block};
 
 use crate::asked::Asked;

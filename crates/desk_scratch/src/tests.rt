@@ -1,7 +1,7 @@
 ghost use Rattle.std.specs.Prelude.{◌≤◌};
 
 use crate::verdict_words::VerdictWords;
-use crate::{Asked, check_text};
+use crate::{AskFault, Asked, check_text};
 use desk_law::{Annex, Kind, KindSet, Rule, Terms, Verdict};
 use desk_model::Declaration;
 use desk_text::{Code, Day, ExemptionNumber, Name};
@@ -78,5 +78,17 @@ fn an_exemption_is_named_by_its_number_and_its_row(rt: HostRuntime) -> Result<()
     };
     let text = format!(in rt.alloc(); "{words}")?;
     assert_eq!(rt; text.as_str(), "exempt 7(a) row R7A");
+    Ok(())
+}
+
+#[test]
+fn a_fault_names_the_code_that_was_asked_for(rt: HostRuntime) -> Result<(), Fail> {
+    let code = Code::read(b"P")?;
+    let unknown = AskFault::NoSuchCode { code };
+    let text = format!(in rt.alloc(); "{unknown}")?;
+    assert_eq!(rt; text.as_str(), "no-such-code P");
+    let part = AskFault::NotAProduct { code };
+    let text = format!(in rt.alloc(); "{part}")?;
+    assert_eq!(rt; text.as_str(), "not-a-product P");
     Ok(())
 }
