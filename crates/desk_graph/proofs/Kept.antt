@@ -10,11 +10,10 @@ use Rattle.desk_graph.specs.declared.line.BillLine.{BillLine}
 use Rattle.desk_graph.specs.Graph.{AreUsers, IsByLabel, count_at, has_line, is_line, label_cmp, label_of, line_count, lines_of}
 use Rattle.desk_graph.specs.Bill.{IsBill}
 use Rattle.desk_graph.specs.Edits.{is_taken, with_line, without_line}
-use Rattle.desk_graph.specs.Order.{AreBothEnds, HasMadeWay, IsInOrder, IsSwept}
-use Rattle.desk_graph.specs.Plan.{IsLinePlan, Planned}
+use Rattle.desk_graph.specs.Order.{AreBothEnds, IsInOrder, IsSwept}
 use Rattle.desk_graph.proofs.Ends.{has-with, has-without, has_node_there, lines_of-more, lines_of-other, lines_of-same, user_is, with-other, with-same, without-other, without-same}
 use Rattle.desk_graph.proofs.Labels.{by_label-more, by_label-with, by_label-without}
-use Rattle.desk_graph.proofs.Ordered.{AddsLine, in_order-with, order_falls, order_swept, rank}
+use Rattle.desk_graph.proofs.Ordered.{AddsLine, order_falls, order_swept, rank}
 use Rattle.desk_graph.proofs.Reached.{Falls, no_cycle}
 
 -- no two nodes have one label
@@ -131,7 +130,7 @@ module _ (labels : List (List ℕ)) (lines users : List (List BillLine)) (ends :
     less_away : (node : ℕ) → (node ≡ child → ⊥) → lines_of less_users node ≡ lines_of users node
     less_away node other = lines_of-other users child node (without_line parent (lines_of users child)) other
 
-    users-without : AreUsers less_lines child (without_line parent (lines_of users child))
+    pub users-without : AreUsers less_lines child (without_line parent (lines_of users child))
     users-without node =
         elim (cases_eq node parent) [
           | inl same ↦
@@ -254,27 +253,3 @@ bill_swept labels lines users order ends ordered = order_swept lines users order
 
 pub length-without : (away : ℕ) (lines : List BillLine) → length (without_line away lines) ≤ length lines
 length-without away lines = omega (arith, length-filter (λ line. not (line.node == away)) lines, count_by-le-length (λ line. not (line.node == away)) lines)
-
-counts-fit : {a b c : ℕ} → a ≡ b → b ≡ c → c ≤ 131072 → a ≤ 131072
-counts-fit e f h = omega arith
-
--- what a planned line leaves
-pub planned_line : (labels : List (List ℕ)) (lines users : List (List BillLine)) (order new_order : List ℕ) (count : ℕ) (plan : Planned) → AreBothEnds labels lines users → AreUnique labels → IsInOrder lines order → count ≡ line_count lines →
-    IsLinePlan (record { labels = labels; lines = lines }) plan → HasMadeWay users plan.parent plan.child order new_order →
-    AreBothEnds labels (set lines plan.parent plan.lines) (set users plan.child plan.users)
-    × IsInOrder (set lines plan.parent plan.lines) new_order
-    × (count + length plan.lines - length (lines_of lines plan.parent) ≡ line_count (set lines plan.parent plan.lines))
-    × (count + length plan.lines - length (lines_of lines plan.parent) ≤ 131072)
-planned_line labels lines users order new_order count plan ends unique ordered counted good way =
-    let with_it = with_line labels (record { node = plan.child; count = plan.count }) (lines_of lines plan.parent) in
-    let in_it : plan.lines ≡ with_it = good.new_lines in
-    let total = count-set lines plan.parent plan.lines (omega (arith, good.parent_there, ends.lines_size)) in
-    let counts : count + length plan.lines - length (lines_of lines plan.parent) ≡ line_count (set lines plan.parent plan.lines) = omega (arith, total, counted) in (
-      subst (λ l. AreBothEnds labels (set lines plan.parent l) (set users plan.child plan.users)) (sym in_it)
-          (ends-with labels lines users ends unique plan.parent plan.child plan.count good.parent_there good.child_there plan.users good.new_users good.by_user),
-      subst (λ l. IsInOrder (set lines plan.parent l) new_order) (sym in_it)
-          (in_order-with lines (set lines plan.parent with_it) users order plan.parent plan.child ordered ends.agree (bill_falls labels lines users order ends ordered)
-          (adds-with labels lines users ends unique plan.parent plan.child plan.count good.parent_there good.child_there) new_order (length-set lines plan.parent with_it) good.opens way),
-      counts,
-      counts-fit counts (ap (λ l. line_count (set lines plan.parent l)) in_it) good.fits,
-    )

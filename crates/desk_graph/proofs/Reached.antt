@@ -68,7 +68,7 @@ module _ (lines : List (List BillLine)) (target : ℕ) where
   within-zero node e = false≢true e
 
   -- what holds of the target and of each user of a node of which it holds, holds of all that reach the target
-  up : (holds : ℕ → Bool) → holds target ≡ true → ((node user : ℕ) → holds node ≡ true → is_line lines user node ≡ true → holds user ≡ true) → (k node : ℕ) → reaches_within lines k node target ≡ true → holds node ≡ true
+  pub up : (holds : ℕ → Bool) → holds target ≡ true → ((node user : ℕ) → holds node ≡ true → is_line lines user node ≡ true → holds user ≡ true) → (k node : ℕ) → reaches_within lines k node target ≡ true → holds node ≡ true
   up holds at step zero node e = absurd (within-zero node e)
   up holds at step (suc k) node e =
       let found = within-out k node e in
@@ -118,10 +118,10 @@ no_cycle lines rank ranked node =
     false_from_ne_true (reaches lines node node) (λ e. let lower = lower_within lines rank ranked node (enough lines) node e in omega arith)
 
 module _ (lines : List (List BillLine)) (rank : ℕ → ℕ) (ranked : Falls lines rank) (seeds : List ℕ) where
-  affected-seed : (node : ℕ) → has_node seeds node ≡ true → is_affected lines seeds node ≡ true
+  pub affected-seed : (node : ℕ) → has_node seeds node ≡ true → is_affected lines seeds node ≡ true
   affected-seed node e = any_node-in (λ seed. is_or_reaches lines node seed) seeds node e (or_left (node == node) (reaches lines node node) (eq-eqb node node refl))
 
-  affected-up : (node child : ℕ) → is_line lines node child ≡ true → is_affected lines seeds child ≡ true → is_affected lines seeds node ≡ true
+  pub affected-up : (node child : ℕ) → is_line lines node child ≡ true → is_affected lines seeds child ≡ true → is_affected lines seeds node ≡ true
   affected-up node child line e =
       let found = any_node-out (λ seed. is_or_reaches lines child seed) seeds e in
       any_node-in (λ seed. is_or_reaches lines node seed) seeds found.0 found.1 (or_right (node == found.0) (reaches lines node found.0) (reach-in lines rank ranked found.0 node child line found.2))

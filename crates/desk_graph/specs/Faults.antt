@@ -2,6 +2,8 @@
 use Rattle.std.specs.Prelude.{ℕ, List, codes}
 use Rattle.desk_graph.specs.declared.fault.NodeFault.{NodeFault}
 use Rattle.desk_graph.specs.declared.fault.NodeFault.TheVariants as node
+use Rattle.desk_graph.specs.declared.fault.PlanFault.{PlanFault}
+use Rattle.desk_graph.specs.declared.fault.PlanFault.TheVariants as plan
 use Rattle.desk_graph.specs.declared.fault.LineFault.{LineFault}
 use Rattle.desk_graph.specs.declared.fault.LineFault.TheVariants as line
 
@@ -13,6 +15,11 @@ memory_words = codes "out of memory"
 abbrev pub node_fault_words : NodeFault → List ℕ
 node_fault_words node.Taken = codes "a node has the label"
 node_fault_words node.Full = codes "the bill has 24576 nodes"
+
+-- the words for a new node that can't be planned
+abbrev pub plan_fault_words : PlanFault → List ℕ
+plan_fault_words (plan.Node fault) = node_fault_words fault
+plan_fault_words plan.OutOfMemory = memory_words
 
 -- the words for a line that a bill doesn't take
 abbrev pub line_fault_words : LineFault → List ℕ

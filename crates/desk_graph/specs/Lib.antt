@@ -4,6 +4,7 @@ pub mod Edits
 pub mod Bill
 pub mod Order
 pub mod Plan
+pub mod Planned
 pub mod Places
 pub mod Inside
 pub mod Faults

@@ -17,6 +17,7 @@ use crate::path::Path;
 use crate::plan::LinePlan;
 use crate::steps::Steps;
 use crate::sweep::{mark_from, push_marked};
+use crate::users::Users;
 use std::alloc::Global;
 use std::marker::Model;
 use std::sync::ledger::Ledger;
@@ -29,11 +30,11 @@ pub const LINE_LIMIT: usize = 131_072;
 /// Contracts see the labels and the lines of the nodes by number.
 #[derive(Drop)]
 pub struct Bill {
-    labels: Vec<Label>,
-    lines: Vec<LineList>,
-    users: Vec<LineList>,
-    line_count: usize,
-    order: NodeOrder,
+    pub(crate) labels: Vec<Label>,
+    pub(crate) lines: Vec<LineList>,
+    pub(crate) users: Vec<LineList>,
+    pub(crate) line_count: usize,
+    pub(crate) order: NodeOrder,
 }
 
 impl Model for Bill {
@@ -93,11 +94,20 @@ impl Bill {
         if id >= NODE_LIMIT {
             return Err(NodeFault::Full);
         }
-        self.labels.push_reserved(Label::new(label));
+        self.push_node(alloc, Label::new(label));
+        Ok(id as NodeId)
+    }
+
+    /// Adds a node without lines. It takes no memory.
+    pub(crate) fn push_node(&mut self, alloc: Global, label: Label)
+        requires free { is_taken self.old.labels label ≡ false }
+        requires fits { length self.old.labels < 24576 }
+        ensures { self.new ≡ with_node label self.old }
+    {
+        self.labels.push_reserved(label);
         self.lines.push_reserved(LineList::new(alloc));
         self.users.push_reserved(LineList::new(alloc));
         self.order.add();
-        Ok(id as NodeId)
     }
 
     /// Enters a line, or replaces its count. The faults are tried in the order of `LineFault`.
@@ -115,13 +125,14 @@ impl Bill {
         ensures ok { OnOk result (self.new ≡ with_line_in parent child count self.old) }
         ensures err { OnErr result (self.new ≡ self.old) }
     {
-        let plan = self.plan_line(alloc, parent, child, count)?;
-        self.commit_line(plan);
+        let plan = self.plan_set(alloc, parent, child, count)?;
+        self.commit(plan);
         Ok(())
     }
 
-    /// Makes ready to enter a line or to replace its count. The faults are tried in the order of `LineFault`.
-    pub fn plan_line(
+    /// What a line that is entered, or whose count is replaced, makes of the lines of its parent and the users of its child. The
+    /// faults are tried in the order of `LineFault`.
+    pub(crate) fn plan_line(
         &self,
         alloc: Global,
         parent: NodeId,
@@ -187,25 +198,6 @@ impl Bill {
         })
     }
 
-    /// Sets the planned line. It isn't refused, and takes no memory.
-    pub fn commit_line(&mut self, plan: LinePlan)
-        requires { IsLinePlan self.old plan }
-        ensures { self.new ≡ with_line_in plan.parent plan.child plan.count self.old }
-    {
-        let LinePlan {
-            parent,
-            child,
-            count: _,
-            lines,
-            users,
-        } = plan;
-        make_way(&mut self.order, self.users.as_slice(), parent, child);
-        self.line_count = self.line_count + lines.as_slice().len()
-            - self.lines[parent as usize].as_slice().len();
-        self.lines[parent as usize] = lines;
-        self.users[child as usize] = users;
-    }
-
     /// Takes the line out, and tells whether it was there. It takes no memory.
     pub fn drop_line(&mut self, parent: NodeId, child: NodeId) -> bool
         requires parent { parent < length self.old.labels }
@@ -256,7 +248,11 @@ impl Bill {
     }
 
     /// A mark for each node that is a seed or reaches one.
-    fn marks_from(&self, alloc: Global, seeds: &[NodeId]) -> Result<Vec<bool>, OutOfMemory>
+    pub(crate) fn marks_from(
+        &self,
+        alloc: Global,
+        seeds: &[NodeId],
+    ) -> Result<Vec<bool>, OutOfMemory>
         requires { (node : ℕ) → has_node seeds.now node ≡ true → node < length self.now.labels }
         ensures size { IfOk result (λ marks. length marks.items ≡ length self.now.labels) }
         ensures marks { IfOk result (λ marks. (node : ℕ) → mark_of marks.items node ≡ is_affected self.now.lines seeds.now node) }
@@ -264,7 +260,7 @@ impl Bill {
         let mut marks = Vec::from_elem(alloc, false, self.labels.len())?;
         mark_from(
             self.order.as_slice(),
-            self.users.as_slice(),
+            &Users::as_they_are(self.users.as_slice()),
             seeds,
             marks.as_mut_slice(),
         );
@@ -286,14 +282,14 @@ impl Bill {
 }
 
 /// Whether some node has the label.
-fn is_taken(labels: &[Label], label: &[u8]) -> bool
+pub(crate) fn is_taken(labels: &[Label], label: &[u8]) -> bool
     ensures { result ≡ is_taken labels.now label.now }
 {
     labels.iter().any(|kept| kept.as_bytes().cmp(label).is_eq())
 }
 
 /// Sees to it that the child stands before the parent, where it doesn't reach the parent.
-fn make_way(order: &mut NodeOrder, users: &[LineList], parent: NodeId, child: NodeId)
+pub(crate) fn make_way(order: &mut NodeOrder, users: &[LineList], parent: NodeId, child: NodeId)
     requires parent { parent < length order.old }
     requires child { child < length order.old }
     requires swept { IsSwept users.now order.old }
@@ -306,7 +302,11 @@ fn make_way(order: &mut NodeOrder, users: &[LineList], parent: NodeId, child: No
 }
 
 /// The marked nodes in their order.
-fn marked_nodes(alloc: Global, order: &[NodeId], marks: &[bool]) -> Result<Vec<NodeId>, OutOfMemory>
+pub(crate) fn marked_nodes(
+    alloc: Global,
+    order: &[NodeId],
+    marks: &[bool],
+) -> Result<Vec<NodeId>, OutOfMemory>
     requires { (place : ℕ) → place < length order.now → slice_index order.now place < length marks.now }
     ensures { IfOk result (λ nodes. nodes.items ≡ filter (has_mark true marks.now) order.now) }
 {

@@ -1,6 +1,6 @@
 use crate::memory::OutOfMemory;
 use crate::path::Path;
-use std::alloc::AllocError;
+use std::alloc::{AllocError, AllocFailed};
 use std::error::Error;
 use std::fmt;
 
@@ -11,6 +11,18 @@ pub enum NodeFault {
     Taken,
     /// The bill has 24,576 nodes.
     Full,
+}
+
+/// Why a new node can't be planned.
+#[derive(Clone, Copy, Debug, PartialEq, Eq)]
+pub enum PlanFault {
+    /// The bill wouldn't take the node.
+    Node {
+        /// Why it wouldn't.
+        fault: NodeFault,
+    },
+    /// There is no memory.
+    OutOfMemory,
 }
 
 /// Why a bill takes no line. The bill is as it was.
@@ -49,6 +61,17 @@ impl From<AllocError> for LineFault {
     }
 }
 
+impl<T: Drop> From<AllocFailed<T>> for PlanFault {
+    ghost use Rattle.std.specs.Prelude.{◌≡◌};
+    ghost use Rattle.desk_graph.specs.declared.fault.PlanFault.TheVariants.{OutOfMemory};
+
+    ghost from_gives = { λ _ e. e ≡ OutOfMemory };
+
+    fn from(_error: AllocFailed<T>) -> PlanFault {
+        PlanFault::OutOfMemory
+    }
+}
+
 impl fmt::Display for NodeFault {
     ghost use Rattle.std.specs.Prelude.{Some};
     ghost use Rattle.desk_graph.specs.Faults.{node_fault_words};
@@ -64,6 +87,22 @@ impl fmt::Display for NodeFault {
 }
 
 impl Error for NodeFault {}
+
+impl fmt::Display for PlanFault {
+    ghost use Rattle.std.specs.Prelude.{Some};
+    ghost use Rattle.desk_graph.specs.Faults.{plan_fault_words};
+
+    ghost output = { λ fault. Some (plan_fault_words fault) };
+
+    fn fmt<W: fmt::Write>(&self, f: &mut fmt::Formatter<W>) -> fmt::Result {
+        match self {
+            PlanFault::Node { fault } => fault.fmt(f),
+            PlanFault::OutOfMemory => f.write_str("out of memory"),
+        }
+    }
+}
+
+impl Error for PlanFault {}
 
 impl fmt::Display for LineFault {
     ghost use Rattle.std.specs.Prelude.{Some};

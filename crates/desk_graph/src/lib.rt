@@ -2,6 +2,7 @@
 #![tactic(auto)]
 
 mod bill;
+mod bill_plan;
 mod chain;
 mod fault;
 mod label;
@@ -9,17 +10,22 @@ mod line;
 mod line_list;
 mod memory;
 mod node_order;
+mod order_after;
 mod path;
 mod plan;
+mod planned_bill;
+mod planning;
 mod steps;
 mod sweep;
 #[cfg(test)]
 mod tests;
+mod users;
 
 pub use bill::Bill;
-pub use fault::{LineFault, NodeFault};
+pub use bill_plan::BillPlan;
+pub use fault::{LineFault, NodeFault, PlanFault};
 pub use line::{BillLine, NodeId};
 pub use memory::OutOfMemory;
 pub use path::Path;
-pub use plan::LinePlan;
+pub use planned_bill::PlannedBill;
 pub use steps::Steps;

@@ -48,6 +48,15 @@ impl LineList {
         self.lines.retain(|line| line.node != node);
     }
 
+    /// The list without the line to the node.
+    pub fn without(&self, alloc: Global, node: NodeId) -> Result<LineList, OutOfMemory>
+        ensures { IfOk result (λ list. list ≡ without_line node self.now) }
+    {
+        let mut list = self.copied(alloc)?;
+        list.remove(node);
+        Ok(list)
+    }
+
     /// The same list once more.
     pub fn copied(&self, alloc: Global) -> Result<LineList, OutOfMemory>
         ensures { IfOk result (λ list. list ≡ self.now) }

@@ -5,6 +5,7 @@ use crate::line::NodeId;
 use crate::line_list::LineList;
 use crate::memory::OutOfMemory;
 use crate::sweep::{mark_from, push_marked};
+use crate::users::Users;
 use std::alloc::Global;
 use std::marker::Model;
 use std::mem;
@@ -96,7 +97,7 @@ impl NodeOrder {
     {
         mark_from(
             self.nodes.as_slice(),
-            users,
+            &Users::as_they_are(users),
             &[node],
             self.marks.as_mut_slice(),
         );

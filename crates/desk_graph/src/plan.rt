@@ -2,9 +2,8 @@ use crate::line::NodeId;
 use crate::line_list::LineList;
 use std::marker::Model;
 
-/// A line that a bill is ready to set, without memory and without a refusal.
-///
-/// It holds the lines of the parent and the users of the child as they will be. Contracts see it as a record of its parts.
+/// A line that may be set, with the lines of its parent and the users of its child as they will be. Contracts see it as a record
+/// of its parts.
 #[derive(Drop)]
 pub struct LinePlan {
     pub(crate) parent: NodeId,

@@ -1,13 +1,16 @@
-ghost use Rattle.std.specs.Prelude.{◌≡◌, ◌==◌, ℕ, Bool, ◌+◌, ◌<◌, ◌≤◌, ◌||◌, ◌&&◌, true, [], ◌∷◌, ◌++◌, filter, count_by, length, slice_index_or, vec_len, vec_capacity, if◌then◌else◌};
+ghost use Rattle.std.specs.Prelude.{◌≡◌, ◌==◌, ℕ, Bool, ◌+◌, ◌<◌, ◌≤◌, ◌||◌, ◌&&◌, true, [], ◌∷◌, ◌++◌, filter, count_by, length, slice_index_or, vec_len, vec_capacity, if◌then◌else◌, option_copied, IfOk};
+ghost use Rattle.std.specs.Option.{option_map_or};
 ghost use Rattle.desk_graph.specs.Graph.{has_line, lines_of};
 ghost use Rattle.desk_graph.specs.Order.{AreMarkedUp, HoldsBelow, IsSwept, has_mark, mark_of};
 ghost use Rattle.desk_graph.specs.Reaches.{has_node};
 
 use crate::line::{BillLine, NodeId};
-use crate::line_list::LineList;
+use crate::memory::OutOfMemory;
+use crate::users::Users;
+use std::alloc::Global;
 
 /// Marks, beside the marked nodes, each node from which lines lead to one: the order has children first, so one sweep over it does.
-pub fn mark_all_users(order: &[NodeId], users: &[LineList], marks: &mut [bool])
+pub fn mark_all_users(order: &[NodeId], users: &Users, marks: &mut [bool])
     requires order { IsSwept users.now order.now }
     requires size { length marks.old ≡ length users.now }
     ensures size { length marks.new ≡ length marks.old }
@@ -21,7 +24,7 @@ pub fn mark_all_users(order: &[NodeId], users: &[LineList], marks: &mut [bool])
 }
 
 /// Marks the users of a node where it is marked itself.
-fn mark_users(node: NodeId, users: &[LineList], marks: &mut [bool])
+fn mark_users(node: NodeId, users: &Users, marks: &mut [bool])
     requires node { node < length users.now }
     requires size { length marks.old ≡ length users.now }
     requires users { (user : ℕ) → has_line (lines_of users.now node) user ≡ true → user < length users.now }
@@ -29,7 +32,18 @@ fn mark_users(node: NodeId, users: &[LineList], marks: &mut [bool])
     ensures marks { (other : ℕ) → mark_of marks.new other ≡ (mark_of marks.old other || (mark_of marks.old node && has_line (lines_of users.now node) other)) }
 {
     if marks[node as usize] {
-        mark_nodes(users[node as usize].as_slice(), marks);
+        mark_lines(users.of(node), marks);
+    }
+}
+
+/// Marks the nodes of the lines, where there are any.
+fn mark_lines(lines: Option<&[BillLine]>, marks: &mut [bool])
+    requires { (node : ℕ) → has_line (option_map_or (λ of_node. of_node) (option_copied lines) []) node ≡ true → node < length marks.old }
+    ensures size { length marks.new ≡ length marks.old }
+    ensures marks { (node : ℕ) → mark_of marks.new node ≡ (mark_of marks.old node || has_line (option_map_or (λ of_node. of_node) (option_copied lines.entry) []) node) }
+{
+    if let Some(lines) = lines {
+        mark_nodes(lines, marks);
     }
 }
 
@@ -45,7 +59,7 @@ fn mark_nodes(lines: &[BillLine], marks: &mut [bool])
 }
 
 /// Marks the seeds and each node from which lines lead to one, and no other node.
-pub fn mark_from(order: &[NodeId], users: &[LineList], seeds: &[NodeId], marks: &mut [bool])
+pub fn mark_from(order: &[NodeId], users: &Users, seeds: &[NodeId], marks: &mut [bool])
     requires order { IsSwept users.now order.now }
     requires size { length marks.old ≡ length users.now }
     requires seeds { (node : ℕ) → has_node seeds.now node ≡ true → node < length users.now }
@@ -54,6 +68,22 @@ pub fn mark_from(order: &[NodeId], users: &[LineList], seeds: &[NodeId], marks: 
     marks.fill(false);
     mark_seeds(seeds, marks);
     mark_all_users(order, users, marks);
+}
+
+/// A mark for each node that is a seed or from which lines lead to one.
+pub fn swept_marks(
+    alloc: Global,
+    order: &[NodeId],
+    users: &Users,
+    seeds: &[NodeId],
+) -> Result<Vec<bool>, OutOfMemory>
+    requires order { IsSwept users.now order.now }
+    requires seeds { (node : ℕ) → has_node seeds.now node ≡ true → node < length users.now }
+    ensures { IfOk result (λ marks. AreMarkedUp users.now seeds.now marks.items) }
+{
+    let mut marks = Vec::from_elem(alloc, false, order.len())?;
+    mark_from(order, users, seeds, marks.as_mut_slice());
+    Ok(marks)
 }
 
 /// Marks the seeds.

@@ -1,6 +1,9 @@
 ghost use Rattle.std.specs.Prelude.{◌≡◌, ◌<◌};
+ghost use Rattle.desk_graph.specs.Planned.{IsBillPlan};
 
-use crate::{Bill, BillLine, LineFault, NodeFault, NodeId, Path, Steps};
+use crate::{
+    Bill, BillLine, BillPlan, LineFault, NodeFault, NodeId, Path, PlanFault, PlannedBill, Steps,
+};
 use std::alloc::Global;
 use std::marker::Brand;
 use std::sync::ledger::{Blank, Ledger};
@@ -232,5 +235,158 @@ fn thousands_of_nodes_and_lines_go_in(rt: HostRuntime) -> Result<(), Fail> {
         affected(&bill, alloc, 1_998)?.as_slice(),
         [1_998, 0].as_slice()
     );
+    Ok(())
+}
+
+/// The lines of a node after a plan.
+fn planned_lines<L: Ledger>(
+    blank: Blank,
+    alloc: Global,
+    after: &PlannedBill,
+    id: NodeId,
+) -> Result<Vec<BillLine>, Fail>
+    requires name { blank.name ≡ L.name }
+    requires parts { blank.parts ≡ L.parts }
+    requires some { 0 < L.parts }
+{
+    if id as usize >= after.node_count() {
+        return Err(Fail::new("no node"));
+    }
+    let mut steps = Steps::<L>::start(blank);
+    Ok(Vec::from_slice(alloc, after.lines(id, &mut steps))?)
+}
+
+/// The same, where the steps count for nothing.
+fn lines_in(alloc: Global, after: &PlannedBill, id: NodeId) -> Result<Vec<BillLine>, Fail> {
+    planned_lines::<Brand>(Blank::new(1), alloc, after, id)
+}
+
+/// The affected nodes of one seed after a plan.
+fn affected_in(after: &PlannedBill, alloc: Global, seed: NodeId) -> Result<Vec<NodeId>, Fail> {
+    if seed as usize >= after.node_count() {
+        return Err(Fail::new("no node"));
+    }
+    Ok(after.affected(alloc, &[seed])?)
+}
+
+/// Whether a planned bill tells, of each node, what the bill tells once the plan is committed.
+fn tells_what_comes(bill: &mut Bill, alloc: Global, plan: BillPlan) -> Result<bool, Fail>
+    requires { IsBillPlan bill.old plan }
+{
+    let mut told = Vec::new(alloc);
+    let after = PlannedBill::new(bill, &plan);
+    let nodes = after.node_count() as NodeId;
+    for id in 0..nodes {
+        told.push((
+            lines_in(alloc, &after, id)?,
+            affected_in(&after, alloc, id)?,
+        ))?;
+    }
+    bill.commit(plan);
+    let mut alike = bill.node_count() == nodes as usize;
+    for (id, (lines, above)) in (0..nodes).zip(told.iter()) {
+        let (kept, _) = ends_of(alloc, bill, id)?;
+        let same = affected(bill, alloc, id)?;
+        alike &= kept.as_slice() == lines.as_slice() && same.as_slice() == above.as_slice();
+    }
+    Ok(alike)
+}
+
+/// Whether a planned line is told as it comes, where it may be set.
+fn set_is_told(
+    bill: &mut Bill,
+    alloc: Global,
+    parent: NodeId,
+    child: NodeId,
+) -> Result<bool, Fail> {
+    let nodes = bill.node_count();
+    if parent as usize >= nodes || child as usize >= nodes {
+        return Err(Fail::new("no node"));
+    }
+    match bill.plan_set(alloc, parent, child, 7) {
+        Ok(plan) => tells_what_comes(bill, alloc, plan),
+        Err(LineFault::Closes { chain: _ }) => Ok(parent <= child),
+        Err(fault) => Err(Fail::from(fault)),
+    }
+}
+
+/// Whether a bill without a line is told as it comes.
+fn drop_is_told(
+    bill: &mut Bill,
+    alloc: Global,
+    parent: NodeId,
+    child: NodeId,
+) -> Result<bool, Fail> {
+    let nodes = bill.node_count();
+    if parent as usize >= nodes || child as usize >= nodes {
+        return Err(Fail::new("no node"));
+    }
+    let plan = bill.plan_drop(alloc, parent, child)?;
+    tells_what_comes(bill, alloc, plan)
+}
+
+#[test]
+fn a_planned_bill_tells_what_the_bill_tells_then(rt: HostRuntime) -> Result<(), Fail> {
+    let alloc = rt.alloc();
+    let mut bill = layers(alloc, 3)?;
+    add(&mut bill, alloc, b"low")?;
+    for parent in 0..7 {
+        for child in 0..7 {
+            let mut copy = bill.copied(alloc)?;
+            assert!(rt;
+                set_is_told(&mut copy, alloc, parent, child)?,
+                "{parent} to {child}"
+            );
+            let mut copy = bill.copied(alloc)?;
+            assert!(rt;
+                drop_is_told(&mut copy, alloc, parent, child)?,
+                "{parent} to {child}"
+            );
+        }
+    }
+    Ok(())
+}
+
+#[test]
+fn planned_nodes_have_the_next_numbers_and_no_lines(rt: HostRuntime) -> Result<(), Fail> {
+    let alloc = rt.alloc();
+    let mut bill = layers(alloc, 3)?;
+    let mut plan = bill.plan_nothing(alloc);
+    assert_eq!(rt; bill.plan_node(&mut plan, b"N"), Ok(6));
+    assert_eq!(rt; bill.plan_node(&mut plan, b"M"), Ok(7));
+    let taken = PlanFault::Node {
+        fault: NodeFault::Taken,
+    };
+    assert_eq!(rt; bill.plan_node(&mut plan, b"N"), Err(taken));
+    assert_eq!(rt; bill.plan_node(&mut plan, b"1a"), Err(taken));
+    assert_eq!(rt; bill.node_count(), 6);
+    assert!(rt; tells_what_comes(&mut bill, alloc, plan)?);
+    assert_eq!(rt; bill.node_count(), 8);
+    Ok(())
+}
+
+/// Whether a plan of a line and of a new node is told as it comes.
+fn line_and_node_are_told(
+    bill: &mut Bill,
+    alloc: Global,
+    parent: NodeId,
+    child: NodeId,
+) -> Result<bool, Fail> {
+    let nodes = bill.node_count();
+    if parent as usize >= nodes || child as usize >= nodes {
+        return Err(Fail::new("no node"));
+    }
+    let mut plan = bill.plan_set(alloc, parent, child, 3)?;
+    bill.plan_node(&mut plan, b"N")?;
+    tells_what_comes(bill, alloc, plan)
+}
+
+#[test]
+fn a_plan_may_set_a_line_and_add_a_node(rt: HostRuntime) -> Result<(), Fail> {
+    let alloc = rt.alloc();
+    let mut bill = layers(alloc, 3)?;
+    let low = add(&mut bill, alloc, b"low")?;
+    assert!(rt; line_and_node_are_told(&mut bill, alloc, 0, low)?);
+    assert_eq!(rt; bill.node_count(), 8);
     Ok(())
 }

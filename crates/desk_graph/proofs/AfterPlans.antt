@@ -1,0 +1,88 @@
+-- A sweep over the bill after a plan gives what is affected there, and what a plan of a new node says.
+use Rattle.std.proofs.Common.{◌≡◌, ℕ, ◌+◌, ◌<◌, ◌≤◌, Bool, true, false, cond, ◌||◌, List, Ok, Err, filter, length, slice_index, sym, ap, ◌∙◌, subst, arith}
+use Rattle.std.specs.Prelude.{nat_le}
+use Rattle.std.proofs.lemmas.Bool.{cond-false, cond-true, le-leb, lt-leb}
+use Rattle.std.proofs.lemmas.List.Folds.{list_any-append}
+use Rattle.std.proofs.lemmas.List.Kept.{AllPairs-filter}
+use Rattle.desk_graph.specs.declared.line.BillLine.{BillLine}
+use Rattle.desk_graph.specs.declared.fault.NodeFault.TheVariants.{Taken, Full}
+use Rattle.desk_graph.specs.declared.fault.PlanFault.TheVariants.{Node}
+use Rattle.std.specs.Ordering.{is_eq}
+use Rattle.desk_graph.specs.Graph.{Graph, is_line, label_cmp}
+use Rattle.desk_graph.specs.Edits.{is_taken}
+use Rattle.desk_graph.specs.Order.{AreBothEnds, AreMarkedUp, IsInOrder, IsSwept, has_mark}
+use Rattle.desk_graph.specs.Planned.{BillEdit, HasMadeWayFor, IsBillPlan, changed_lines, changed_users, plan_answer, planned, with_empty, with_next}
+use Rattle.desk_graph.specs.Reaches.{AreAffected, AreChildrenFirst}
+use Rattle.desk_graph.proofs.Changes.{StaysKept, changed-kept, length-labels, more-kept, with_labels, with_labels-is, with_nodes-is}
+use Rattle.desk_graph.proofs.Kept.{bill_falls, bill_swept}
+use Rattle.desk_graph.proofs.Ordered.{marked_once, order_inside, order_pairs, rank}
+use Rattle.desk_graph.proofs.Reached.{marks_are}
+
+module _ (labels : List (List ℕ)) (lines users : List (List BillLine)) (order : List ℕ) (ends : AreBothEnds labels lines users) (ordered : IsInOrder lines order) (edit : BillEdit) (good : IsBillPlan (record { labels = labels; lines = lines }) edit)
+    (made new_order : List ℕ) (way : HasMadeWayFor users edit.line order made) (next : new_order ≡ with_next (length edit.labels) made)
+    (new_users : List (List BillLine)) (are : new_users ≡ with_empty (length edit.labels) (changed_users edit.line users)) where
+  abbrev new_labels : List (List ℕ)
+  new_labels = with_labels edit.labels labels
+
+  abbrev new_lines : List (List BillLine)
+  new_lines = with_empty (length edit.labels) (changed_lines edit.line lines)
+
+  after : StaysKept new_labels new_lines new_users new_order
+  after =
+      subst (λ o. StaysKept new_labels new_lines new_users o) (sym next)
+      (subst (λ u. StaysKept new_labels new_lines u (with_next (length edit.labels) made)) (sym are)
+      (more-kept edit.labels labels (changed_lines edit.line lines) (changed_users edit.line users) made (changed-kept labels lines users order made edit.line ends ordered good.line way)))
+
+  pub swept_after : IsSwept new_users new_order
+  swept_after = bill_swept new_labels new_lines new_users new_order after.ends after.in_order
+
+  pub sizes_after : (length new_order ≡ length new_users) × (length new_users ≡ length (planned edit (record { labels = labels; lines = lines })).labels)
+  sizes_after = (
+    swept_after.size,
+    after.ends.users_size ∙ ap (λ g. length g.labels) (sym (with_nodes-is edit.labels (record { labels = labels; lines = changed_lines edit.line lines }))),
+  )
+
+  pub inside_after : (place : ℕ) → place < length new_order → slice_index new_order place < length new_order
+  inside_after place h = order_inside new_order after.in_order.once place h
+
+  lines_are : (planned edit (record { labels = labels; lines = lines })).lines ≡ new_lines
+  lines_are = ap (λ g. g.lines) (with_nodes-is edit.labels (record { labels = labels; lines = changed_lines edit.line lines }))
+
+  pub affected_by_marks : (seeds : List ℕ) (marks : List Bool) → AreMarkedUp new_users seeds marks → AreAffected (planned edit (record { labels = labels; lines = lines })).lines seeds (filter (has_mark true marks) new_order)
+  affected_by_marks seeds marks up =
+      subst (λ l. AreAffected l seeds (filter (has_mark true marks) new_order)) (sym lines_are)
+      (λ node. marked_once marks new_order after.in_order.once (up.size ∙ sym swept_after.size) node
+      ∙ ap (λ b. cond b 1 0) (marks_are new_lines (rank new_order) (bill_falls new_labels new_lines new_users new_order after.ends after.in_order) seeds new_users marks after.ends.agree up node))
+
+  pub first_by_marks : (marks : List Bool) → AreChildrenFirst (planned edit (record { labels = labels; lines = lines })).lines (filter (has_mark true marks) new_order)
+  first_by_marks marks =
+      subst (λ l. AreChildrenFirst l (filter (has_mark true marks) new_order)) (sym lines_are)
+      (AllPairs-filter (λ x y. is_line new_lines x y ≡ false) (has_mark true marks) new_order (order_pairs new_lines new_order after.in_order))
+
+-- whether a label is taken after a plan
+pub taken_after : (new labels : List (List ℕ)) (label : List ℕ) → is_taken (with_labels new labels) label ≡ (is_taken labels label || is_taken new label)
+taken_after new labels label = ap (λ l. is_taken l label) (with_labels-is new labels) ∙ list_any-append (λ kept. is_eq (label_cmp kept label)) labels new
+
+module _ (edit : BillEdit) (g : Graph) (label : List ℕ) where
+  labels_are : (planned edit g).labels ≡ with_labels edit.labels g.labels
+  labels_are = ap (λ h. h.labels) (with_nodes-is edit.labels (record { labels = g.labels; lines = changed_lines edit.line g.lines }))
+
+  pub count_after : length (planned edit g).labels ≡ length g.labels + length edit.labels
+  count_after = ap (λ l. length l) labels_are ∙ length-labels edit.labels g.labels
+
+  pub taken_in : is_taken (planned edit g).labels label ≡ (is_taken g.labels label || is_taken edit.labels label)
+  taken_in = ap (λ l. is_taken l label) labels_are ∙ taken_after edit.labels g.labels label
+
+  pub answer_taken : (is_taken g.labels label || is_taken edit.labels label) ≡ true → plan_answer label (planned edit g) ≡ Err (Node Taken)
+  answer_taken e = cond-true (is_taken (planned edit g).labels label) (Err (Node Taken)) (cond (nat_le 24576 (length (planned edit g).labels)) (Err (Node Full)) (Ok (length (planned edit g).labels))) (taken_in ∙ e)
+
+  pub answer_full : (is_taken g.labels label || is_taken edit.labels label) ≡ false → 24576 ≤ length g.labels + length edit.labels → plan_answer label (planned edit g) ≡ Err (Node Full)
+  answer_full e h =
+      cond-false (is_taken (planned edit g).labels label) (Err (Node Taken)) (cond (nat_le 24576 (length (planned edit g).labels)) (Err (Node Full)) (Ok (length (planned edit g).labels))) (taken_in ∙ e)
+      ∙ cond-true (nat_le 24576 (length (planned edit g).labels)) (Err (Node Full)) (Ok (length (planned edit g).labels)) (le-leb 24576 (length (planned edit g).labels) (omega (arith, h, count_after)))
+
+  pub answer_ok : (is_taken g.labels label || is_taken edit.labels label) ≡ false → length g.labels + length edit.labels < 24576 → plan_answer label (planned edit g) ≡ Ok (length g.labels + length edit.labels)
+  answer_ok e h =
+      cond-false (is_taken (planned edit g).labels label) (Err (Node Taken)) (cond (nat_le 24576 (length (planned edit g).labels)) (Err (Node Full)) (Ok (length (planned edit g).labels))) (taken_in ∙ e)
+      ∙ cond-false (nat_le 24576 (length (planned edit g).labels)) (Err (Node Full)) (Ok (length (planned edit g).labels)) (lt-leb 24576 (length (planned edit g).labels) (omega (arith, h, count_after)))
+      ∙ ap (λ n. Ok n) count_after
