@@ -1,3 +1,4 @@
+pub mod BitsFrom
 pub mod Distinct
 pub mod Scatter
 pub mod Settle

@@ -12,7 +12,7 @@ use desk_text::OutOfMemory;
 use std::alloc::Global;
 
 /// How many holders are counted for at once: one for each bit.
-const BATCH: usize = 64;
+pub(crate) const BATCH: usize = 64;
 
 impl Links {
     /// How many parts reach each of these nodes, which are told by their places.
@@ -80,7 +80,11 @@ fn count_bit(bits: &[u64], bit: usize) -> usize
 }
 
 /// A bit at each of at most 64 places: the first at the first of them, and so on.
-fn bits_at(alloc: Global, count: usize, holders: &[usize]) -> Result<Vec<u64>, OutOfMemory>
+pub(crate) fn bits_at(
+    alloc: Global,
+    count: usize,
+    holders: &[usize],
+) -> Result<Vec<u64>, OutOfMemory>
     requires places { All (λ place. place < count) holders.now }
     requires few { length holders.now ≤ 64 }
     ensures len { IfOk result (λ bits. length bits.items ≡ count) }
@@ -130,7 +134,7 @@ fn clear_bit(bits: &mut [u64], place: usize, bit: usize)
 }
 
 /// Whether the bit is set.
-fn is_set(bits: u64, bit: usize) -> bool
+pub(crate) fn is_set(bits: u64, bit: usize) -> bool
     requires { bit < 64 }
     ensures { result ≡ has_bit bit bits }
 {

@@ -7,6 +7,7 @@
 
 mod acyclic;
 mod amounts;
+mod below;
 mod bits;
 mod chain;
 mod counts;
