@@ -1,0 +1,14 @@
+pub mod Codec
+pub mod Declared
+pub mod EditFields
+pub mod Entered
+pub mod FirstField
+pub mod KindFields
+pub mod Rising
+pub mod RowFields
+pub mod RowLaws
+pub mod RowsRead
+pub mod TicketCodes
+pub mod Tickets
+pub mod Times
+pub mod Values

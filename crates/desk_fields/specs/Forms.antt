@@ -1,0 +1,73 @@
+-- What a field is read as. No clause of a public call speaks of these words.
+use Rattle.std.specs.Prelude.{ℕ, ◌^◌, ◌&&◌, ◌==◌, if◌then◌else◌, List, [], ◌∷◌, find, nat_le, Option, Some, None, option_map, option_and_then}
+use Rattle.std.specs.List.{slice_split}
+use Rattle.std.specs.Result.{result_ok}
+use Rattle.std.specs.Str.{bytes_eq}
+use Rattle.desk_text.specs.Cas.{cas_of}
+use Rattle.desk_text.specs.Code.{code_of, exemption_number_of}
+use Rattle.desk_text.specs.Day.{Date, day_of}
+use Rattle.desk_text.specs.Name.{name_of}
+use Rattle.desk_text.specs.Number.{number_below}
+use Rattle.desk_law.specs.declared.annex.Annex.{Annex}
+use Rattle.desk_law.specs.declared.annex.Annex.TheVariants.{Three, Four}
+use Rattle.desk_law.specs.declared.kind.Kind.{Kind}
+use Rattle.desk_law.specs.Annex.{annex_number}
+use Rattle.desk_law.specs.Kind.{kind_of}
+use Rattle.desk_law.specs.KindSet.{kinds_text, set_of}
+use Rattle.desk_model.specs.declared.part_sort.PartSort.{PartSort}
+use Rattle.desk_model.specs.declared.part_sort.PartSort.TheVariants.{Article, Assembly}
+use Rattle.desk_model.specs.EditText.{sort_word}
+use Rattle.desk_model.specs.Terms.{are_kinds}
+
+-- a code
+unfoldable pub a_code : List ℕ → Option (List ℕ)
+a_code field = result_ok (code_of field)
+
+-- a name
+unfoldable pub a_name : List ℕ → Option (List ℕ)
+a_name field = result_ok (name_of field)
+
+-- a CAS number
+unfoldable pub a_cas : List ℕ → Option (List ℕ)
+a_cas field = result_ok (cas_of field)
+
+-- the number of an exemption
+unfoldable pub an_exemption_number : List ℕ → Option (List ℕ)
+an_exemption_number field = result_ok (exemption_number_of field)
+
+-- a day
+unfoldable pub a_day : List ℕ → Option Date
+a_day field = result_ok (day_of field)
+
+-- the sort of a part, by its word
+unfoldable pub a_sort : List ℕ → Option PartSort
+a_sort field = find (λ sort. bytes_eq (sort_word sort) field) (Article ∷ Assembly ∷ [])
+
+-- a number of a range, in decimal digits
+unfoldable pub a_number : ℕ → ℕ → List ℕ → Option ℕ
+a_number least greatest field =
+    option_and_then (λ n. if nat_le least n && nat_le n greatest then Some n else None) (result_ok (number_below (2 ^ 64) field))
+
+-- the annex that has a number
+abbrev pub annex_of : ℕ → Option Annex
+annex_of n = find (λ annex. annex_number annex == n) (Three ∷ Four ∷ [])
+
+-- an annex, by its number
+unfoldable pub an_annex : List ℕ → Option Annex
+an_annex field = option_and_then annex_of (result_ok (number_below (2 ^ 64) field))
+
+-- what may be absent: the field is empty then
+abbrev pub maybe : {A : Type 0} → (List ℕ → Option A) → List ℕ → Option (Option A)
+maybe form [] = Some None
+maybe form (b ∷ field) = option_map (λ a. Some a) (form (b ∷ field))
+
+-- the set with the kinds whose codes the words are
+abbrev pub kinds_with : List Kind → List (List ℕ) → Option (List Kind)
+kinds_with set [] = Some set
+kinds_with set (word ∷ words) = option_and_then (λ kind. kinds_with (set_of (kind ∷ set)) words) (kind_of word)
+
+-- a set of at least one kind, by the codes of its kinds with commas between them, in the one order in which a set is written
+unfoldable pub some_kinds : List ℕ → Option (List Kind)
+some_kinds field =
+    option_and_then (λ kinds. if are_kinds kinds && bytes_eq (kinds_text kinds) field then Some kinds else None)
+    (kinds_with [] (slice_split (λ b. b == 44) field))

@@ -1,0 +1,10 @@
+pub mod Declaring
+pub mod EditReading
+pub mod EditTexts
+pub mod Examples
+pub mod Faults
+pub mod Forms
+pub mod Laws
+pub mod Reading
+pub mod RowReading
+pub mod RowTexts
