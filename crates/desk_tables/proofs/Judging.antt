@@ -26,12 +26,12 @@ none_some : {X : Type 0} {P : Type 0} {x : X} → None ≡ Some x → P
 none_some e = cc
 
 -- the first of a list in two pieces
-first_in_front : {X : Type 0} (xs ys : List (Option X)) (x : X) → first_some xs ≡ Some x → first_some (xs ++ ys) ≡ Some x
+pub first_in_front : {X : Type 0} (xs ys : List (Option X)) (x : X) → first_some xs ≡ Some x → first_some (xs ++ ys) ≡ Some x
 first_in_front [] ys x e = none_some e
 first_in_front (None ∷ xs) ys x e = first_in_front xs ys x e
 first_in_front (Some y ∷ xs) ys x e = e
 
-first_behind : {X : Type 0} (xs ys : List (Option X)) → first_some xs ≡ None → first_some (xs ++ ys) ≡ first_some ys
+pub first_behind : {X : Type 0} (xs ys : List (Option X)) → first_some xs ≡ None → first_some (xs ++ ys) ≡ first_some ys
 first_behind [] ys e = refl
 first_behind (None ∷ xs) ys e = first_behind xs ys e
 first_behind (Some y ∷ xs) ys e = some_none e

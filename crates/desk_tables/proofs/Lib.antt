@@ -8,3 +8,12 @@ pub mod ParentLines
 pub mod Judging
 pub mod StartTexts
 pub mod KeptForms
+pub mod OwnMasses
+pub mod HeavyParts
+pub mod HeavyYears
+pub mod HeldMasses
+pub mod FindingSums
+pub mod Accepting
+pub mod Gathers
+pub mod DeclaredText
+pub mod AtStart

@@ -1,15 +1,17 @@
 -- What the rules 1 to 19 leave of an edit: a plan, which the rules on the whole bill have yet to pass, or a refusal.
-use Rattle.std.specs.Prelude.{◌≡◌, ℕ, List, [], ◌∷◌, Option, Some, None}
+use Rattle.std.specs.Prelude.{◌≡◌, ℕ, true, List, [], ◌∷◌, Option, Some, None, Err}
 use Rattle.desk_model.specs.declared.edit.Edit.{Edit}
 use Rattle.desk_model.specs.declared.rows.ticket.TicketRow.{TicketRow}
 use Rattle.desk_model.specs.declared.rule_fault.RuleFault.{RuleFault}
-use Rattle.desk_model.specs.Effect.{entered, next_number}
+use Rattle.desk_model.specs.Effect.{entered, made, next_number}
 use Rattle.desk_model.specs.Lists.{Lists}
 use Rattle.desk_history.specs.Refused.{exemption_span, foreign_material, kind_changed, masses_exceed, name_taken, no_such_line, outside_annex}
 use Rattle.desk_history.specs.Refused.{refused_by_rows, ship_below_zero, stale_declaration, unknown_exemption, unknown_material}
 use Rattle.desk_history.specs.Refused.{unknown_part, unknown_product, unknown_substance, units_too_large, wrong_child}
-use Rattle.desk_history.specs.Step.{kept_number}
+use Rattle.desk_history.specs.Step.{kept_number, step}
+use Rattle.desk_tables.specs.Change.{changed}
 use Rattle.desk_tables.specs.Desk.{Desk}
+use Rattle.desk_tables.specs.Sums.{is_of_sums, may_raise_sums}
 use Rattle.desk_tables.specs.Plan.{CanEnter, entered_by}
 use Rattle.desk_tables.specs.declared.edit_fault.EditFault.{EditFault}
 use Rattle.desk_tables.specs.declared.edit_fault.EditFault.TheVariants as edit_fault
@@ -47,7 +49,9 @@ rules_of_values t edit =
 pub record PassesLimits (desk : Desk) (edit : Edit) (change : RowChange) (ticket : TicketRow) (room : Option ℕ) : Type 0 where
   pub new : kept_number desk.lists edit ≡ None
   pub unrefused : refused_by_rows desk.lists edit ≡ None
+  pub made : changed desk.lists change ≡ made desk.lists edit
   pub leaves : entered_by desk.lists change ticket ≡ entered desk.lists edit
+  pub sums : may_raise_sums edit ≡ true → is_of_sums change ≡ true
   pub number : ticket.number ≡ next_number desk.lists
   pub can_enter : CanEnter desk change ticket room
 
@@ -60,3 +64,8 @@ IsRowsPlan desk edit (plan.New change ticket room) = PassesLimits desk edit chan
 unfoldable pub IsRowsFault : Lists → Edit → EditFault → Type 0
 IsRowsFault t edit (edit_fault.Rule fault) = (kept_number t edit ≡ None) × (refused_by_rows t edit ≡ Some fault)
 IsRowsFault t edit edit_fault.OutOfMemory = Unit {0}
+
+-- an edit is refused by the first of all rules that it breaks; of want of memory nothing is said
+unfoldable pub IsRefusal : Lists → Edit → EditFault → Type 0
+IsRefusal t edit (edit_fault.Rule fault) = (step t edit).0 ≡ Err fault
+IsRefusal t edit edit_fault.OutOfMemory = Unit {0}

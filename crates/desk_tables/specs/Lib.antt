@@ -4,4 +4,7 @@ pub mod Desk
 pub mod Faults
 pub mod Judged
 pub mod Plan
+pub mod Sums
 pub mod Ticket
+pub mod FindingCounts
+pub mod Gathered

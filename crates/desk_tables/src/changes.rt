@@ -7,6 +7,7 @@ ghost use Rattle.desk_model.specs.Lists.{line_key, line_key_cmp};
 ghost use Rattle.desk_model.specs.declared.edit.Edit.TheVariants.{Declare};
 ghost use Rattle.desk_history.specs.Refused.{units_too_large};
 ghost use Rattle.desk_tables.specs.Change.{IsReady, changed};
+ghost use Rattle.desk_tables.specs.Sums.{is_of_sums, may_raise_sums};
 
 use crate::refuse::year_number;
 use crate::{RowChange, Tables};
@@ -26,6 +27,7 @@ impl Tables {
         requires { units_too_large self.now.lists edit.now ≡ None }
         ensures made { IfOk result (λ change. changed self.now.lists change ≡ made self.now.lists edit.now) }
         ensures ready { IfOk result (λ change. IsReady self.now change) }
+        ensures sums { IfOk result (λ change. may_raise_sums edit.now ≡ true → is_of_sums change ≡ true) }
     {
         match edit {
             Edit::Substance {
@@ -55,6 +57,7 @@ impl Tables {
         requires units { units_too_large self.now.lists edit.now ≡ None }
         ensures made { IfOk result (λ change. changed self.now.lists change ≡ made self.now.lists edit.now) }
         ensures ready { IfOk result (λ change. IsReady self.now change) }
+        ensures sums { IfOk result (λ change. may_raise_sums edit.now ≡ true → is_of_sums change ≡ true) }
     {
         match edit {
             Edit::Part {
@@ -128,6 +131,7 @@ impl Tables {
     ) -> Result<RowChange, OutOfMemory>
         ensures made { IfOk result (λ change. changed self.now.lists change ≡ with_factor self.now.lists substance rule factor) }
         ensures ready { IfOk result (λ change. IsReady self.now change) }
+        ensures sums { IfOk result (λ change. is_of_sums change ≡ true) }
     {
         let factor = factor.get() as u32;
         if factor == 0 {
@@ -151,6 +155,7 @@ impl Tables {
     ) -> Result<RowChange, OutOfMemory>
         ensures made { IfOk result (λ change. changed self.now.lists change ≡ made self.now.lists (Declare declaration.now)) }
         ensures ready { IfOk result (λ change. IsReady self.now change) }
+        ensures sums { IfOk result (λ change. is_of_sums change ≡ true) }
     {
         let rows = declared_rows(alloc, declaration)?;
         let room = self.materials.room_for(alloc, rows.as_slice().len())?;
@@ -183,6 +188,7 @@ impl Tables {
         ensures made { IfOk result (λ change. changed self.now.lists change
             ≡ record self.now.lists { candidates = with_row (λ row. row.substance) code_cmp (record { substance = substance; day = day }) self.now.lists.candidates }) }
         ensures ready { IfOk result (λ change. IsReady self.now change) }
+        ensures sums { IfOk result (λ change. is_of_sums change ≡ true) }
     {
         let row = CandidateRow { substance, day };
         let room = self.candidates.room_for(alloc, 1)?;
@@ -220,6 +226,7 @@ impl Tables {
         ensures made { IfOk result (λ change. changed self.now.lists change
             ≡ record self.now.lists { lines = with_row line_key line_key_cmp (record { parent = parent; child = child; count = count }) self.now.lists.lines }) }
         ensures ready { IfOk result (λ change. IsReady self.now change) }
+        ensures sums { IfOk result (λ change. is_of_sums change ≡ true) }
     {
         let row = LineRow {
             parent,
@@ -253,6 +260,7 @@ impl Tables {
     ) -> Result<RowChange, OutOfMemory>
         ensures made { IfOk result (λ change. changed self.now.lists change ≡ with_units self.now.lists year product units) }
         ensures ready { IfOk result (λ change. IsReady self.now change) }
+        ensures sums { IfOk result (λ change. is_of_sums change ≡ true) }
     {
         if units == 0 {
             return Ok(RowChange::DropShipment { year, product });

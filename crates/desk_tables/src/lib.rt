@@ -1,10 +1,23 @@
 //! The tables of the desk: every edit is judged by the rules and made, exactly as the model defines.
 #![tactic(auto)]
 
+mod accept;
+#[cfg(test)]
+mod accept_tests;
+mod at_start;
+mod bill_sums;
+mod changed_table;
 mod changes;
 mod counts;
+mod cycle;
 mod declared;
 mod edit_fault;
+mod finding_counts;
+mod findings;
+mod gather;
+#[cfg(test)]
+mod gather_tests;
+mod heavy_years;
 mod judge;
 mod limits;
 mod lookups;
@@ -16,6 +29,8 @@ mod row_change;
 mod rules;
 mod share;
 mod start;
+mod sums;
+mod table_lists;
 mod tables;
 mod terms;
 #[cfg(test)]
@@ -31,4 +46,5 @@ pub use desk_model::{
 pub use edit_fault::EditFault;
 pub use plan::TablesPlan;
 pub use row_change::RowChange;
+pub use table_lists::TableLists;
 pub use tables::Tables;

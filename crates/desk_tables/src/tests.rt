@@ -72,6 +72,33 @@ fn words_of_refusal(alloc: Global, tables: &mut Tables, edit: &Edit) -> Result<S
     }
 }
 
+/// The words of the rule by which the start tables refuse a declaration, or none where they don't.
+fn words_at_start(alloc: Global, edit: &Edit) -> Result<String, Fail> {
+    let Edit::Declare { declaration } = edit else {
+        return Err(Fail::new("no declaration"));
+    };
+    let tables = Tables::start(alloc)?;
+    match tables.refused_at_start(declaration) {
+        Some(fault) => Ok(format!(in alloc; "{fault}")?),
+        None => Ok(String::new(alloc)),
+    }
+}
+
+#[test]
+fn the_start_tables_look_at_substances_and_then_at_masses(rt: HostRuntime) -> Result<(), Fail> {
+    let alloc = rt.alloc();
+    for (substance, mass, words) in [
+        ("lead", 1_000_000, ""),
+        ("lead", 1_000_001, "masses-exceed SOLDER"),
+        ("zinc", 1_000_000, "unknown-substance zinc"),
+        ("zinc", 1_000_001, "unknown-substance zinc"),
+    ] {
+        let told = words_at_start(alloc, &solder(alloc, substance, mass)?)?;
+        assert_eq!(rt; told.as_str(), words);
+    }
+    Ok(())
+}
+
 #[test]
 fn a_desk_starts_with_the_ten_base_substances(rt: HostRuntime) -> Result<(), Fail> {
     let tables = Tables::start(rt.alloc())?;

@@ -53,7 +53,9 @@ returns-clause-plan c =
     record {
       new = c.requires.new;
       unrefused = at_limits t edit c.requires.unused c.requires.names c.requires.values ∙ limits;
+      made = c.in_ok-change.ensures.made;
       leaves = after;
+      sums = c.in_ok-change.ensures.sums;
       number = ap (λ ticket. ticket.number) c.requires.ticket;
       can_enter = can_enter c;
     }

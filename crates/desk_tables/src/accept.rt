@@ -1,0 +1,131 @@
+ghost use Rattle.std.specs.Prelude.{◌≡◌, [], ◌∷◌, None, Ok, true, is_ok, Err, IfErr, IfOk, IfSome, OnErr, OnOk};
+ghost use Rattle.desk_model.specs.Effect.{made};
+ghost use Rattle.desk_history.specs.History.{PassesRows};
+ghost use Rattle.desk_history.specs.Refused.{findings_full, first_some, refused_by_bill, refused_by_rows, total_too_large, year_too_large};
+ghost use Rattle.desk_history.specs.Sound.{Sound};
+ghost use Rattle.desk_history.specs.Step.{kept_number, step};
+ghost use Rattle.desk_tables.specs.Change.{changed};
+ghost use Rattle.desk_tables.specs.Judged.{IsRefusal, IsRowsPlan};
+ghost use Rattle.desk_tables.specs.Plan.{IsPlan};
+ghost use Rattle.desk_tables.specs.Sums.{is_of_sums, may_raise_sums};
+
+use crate::sums::may_raise_sums;
+use crate::{EditFault, RowChange, Tables, TablesPlan};
+use desk_model::{Edit, RuleFault};
+use desk_text::OutOfMemory;
+use std::alloc::Global;
+
+/// Judgement by all rules, and what it leads to.
+impl Tables {
+    /// Whether the edit would be accepted, or is kept already. Nothing changes.
+    ///
+    /// `Rule`: the first rule that it breaks. `OutOfMemory`: none was left to judge it.
+    pub fn check(&self, alloc: Global, edit: &Edit) -> Result<(), EditFault>
+        requires { Sound self.now.lists }
+        ensures ok { OnOk result (is_ok (step self.now.lists edit.now).0 ≡ true) }
+        ensures fault { IfErr result (λ fault. IsRefusal self.now.lists edit.now fault) }
+    {
+        self.prepare(alloc, edit)?;
+        Ok(())
+    }
+
+    /// Takes the edit, and gives its number: the kept number of an edit that is kept, and else the next.
+    ///
+    /// `Rule`: the first rule that it breaks. `OutOfMemory`: none was left to take it. After a refusal the tables are as they were.
+    pub fn accept(&mut self, alloc: Global, edit: Edit) -> Result<u64, EditFault>
+        requires { Sound self.old.lists }
+        ensures number { IfOk result (λ number. (step self.old.lists edit).0 ≡ Ok number) }
+        ensures fault { IfErr result (λ fault. IsRefusal self.old.lists edit fault) }
+        ensures ok { OnOk result (self.new.lists ≡ (step self.old.lists edit).1) }
+        ensures err { OnErr result (self.new.lists ≡ self.old.lists) }
+        ensures sound { Sound self.new.lists }
+    {
+        edit.in_form();
+        let plan = self.prepare(alloc, &edit)?;
+        Ok(self.commit(plan))
+    }
+
+    /// The plan of an edit that is kept, or that breaks no rule. Nothing changes.
+    ///
+    /// `Rule`: the first rule that it breaks. `OutOfMemory`: none was left for the plan.
+    #[tactic(auto, unfolding(crate::specs::Judged::IsRefusal))]
+    pub fn prepare(&self, alloc: Global, edit: &Edit) -> Result<TablesPlan, EditFault>
+        requires { Sound self.now.lists }
+        ensures plan { IfOk result (λ plan. IsPlan self.now edit.now plan) }
+        ensures fault { IfErr result (λ fault. IsRefusal self.now.lists edit.now fault) }
+    {
+        let plan = match self.plan_rows(alloc, edit) {
+            Ok(plan) => plan,
+            Err(fault) => return Err(fault),
+        };
+        match self.plan_fault(alloc, edit, &plan)? {
+            Some(fault) => Err(EditFault::Rule(fault)),
+            None => Ok(plan),
+        }
+    }
+
+    /// The first of the rules 20 to 23 that an edit with this plan breaks.
+    #[tactic(auto, unfolding(crate::specs::Judged::IsRowsPlan))]
+    fn plan_fault(
+        &self,
+        alloc: Global,
+        edit: &Edit,
+        plan: &TablesPlan,
+    ) -> Result<Option<RuleFault>, OutOfMemory>
+        requires sound { Sound self.now.lists }
+        requires plan { IsRowsPlan self.now edit.now plan.now }
+        ensures fault { IfOk result (λ fault. IfSome fault (λ fault. (step self.now.lists edit.now).0 ≡ Err fault)) }
+        ensures plan { IfOk result (λ fault. fault ≡ None → IsPlan self.now edit.now plan.now) }
+    {
+        match plan {
+            TablesPlan::Kept { .. } => Ok(None),
+            TablesPlan::New { change, .. } => self.refused_by_bill(alloc, edit, change),
+        }
+    }
+
+    /// The first of the rules 20 to 23, on the whole bill, that a new edit breaks.
+    #[tactic(auto, unfolding(desk_history::specs::Refused::refused_by_bill))]
+    fn refused_by_bill(
+        &self,
+        alloc: Global,
+        edit: &Edit,
+        change: &RowChange,
+    ) -> Result<Option<RuleFault>, OutOfMemory>
+        requires sound { Sound self.now.lists }
+        requires new { kept_number self.now.lists edit.now ≡ None }
+        requires unrefused { refused_by_rows self.now.lists edit.now ≡ None }
+        requires made { changed self.now.lists change.now ≡ made self.now.lists edit.now }
+        requires sums { may_raise_sums edit.now ≡ true → is_of_sums change.now ≡ true }
+        ensures { IfOk result (λ fault. fault ≡ refused_by_bill self.now.lists edit.now) }
+    {
+        edit.in_form();
+        match self.closes_cycle(alloc, edit)? {
+            Some(fault) => Ok(Some(fault)),
+            None => self.refused_by_sums(alloc, edit, change),
+        }
+    }
+
+    /// The first of the rules 21 to 23, on sums over the whole bill, that a new edit breaks.
+    fn refused_by_sums(
+        &self,
+        alloc: Global,
+        edit: &Edit,
+        change: &RowChange,
+    ) -> Result<Option<RuleFault>, OutOfMemory>
+        requires sound { Sound self.now.lists }
+        requires passes { PassesRows self.now.lists edit.now }
+        requires made { changed self.now.lists change.now ≡ made self.now.lists edit.now }
+        requires sums { may_raise_sums edit.now ≡ true → is_of_sums change.now ≡ true }
+        ensures { IfOk result (λ fault. fault ≡ first_some (
+            total_too_large self.now.lists edit.now
+            ∷ findings_full self.now.lists edit.now
+            ∷ year_too_large self.now.lists edit.now
+            ∷ [])) }
+    {
+        if may_raise_sums(edit) {
+            self.sums_fault_with(alloc, change)
+        } else {
+            Ok(None)
+        }
+    }
+}

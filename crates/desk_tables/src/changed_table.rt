@@ -1,0 +1,122 @@
+ghost use Rattle.std.specs.Prelude.{◌≡◌, IfOk, true};
+ghost use Rattle.desk_tables.specs.Change.{changed};
+ghost use Rattle.desk_tables.specs.Sums.{is_of_lines_or_shipments, is_of_sums, with_table};
+
+use crate::{RowChange, TableLists, Tables};
+use desk_model::{CandidateRow, LineRow, MaterialRow, MemberRow, ShipmentRow};
+use desk_rows::{Keyed, Table};
+use desk_text::OutOfMemory;
+use std::alloc::Global;
+
+/// A copy of the one table that a sum is taken over and that an edit changes, as the edit leaves it.
+#[derive(Drop)]
+pub(crate) enum ChangedTable {
+    /// What rules count of substances.
+    Members(Table<MemberRow>),
+    /// The materials.
+    Materials(Table<MaterialRow>),
+    /// The lines.
+    Lines(Table<LineRow>),
+    /// The candidates.
+    Candidates(Table<CandidateRow>),
+    /// The shipments.
+    Shipments(Table<ShipmentRow>),
+}
+
+impl Tables {
+    /// A copy of the table that the change is of, with the change made. It takes a copy of each row of that table.
+    #[tactic(auto, unfolding(crate::specs::Change::changed))]
+    pub(crate) fn changed_table(
+        &self,
+        alloc: Global,
+        change: &RowChange,
+    ) -> Result<ChangedTable, OutOfMemory>
+        requires { is_of_sums change.now ≡ true }
+        ensures { IfOk result (λ table. with_table self.now.lists table ≡ changed self.now.lists change.now) }
+    {
+        match change {
+            RowChange::PutMember { row, .. } => {
+                let mut members = self.members.copied(alloc)?;
+                members.put(*row)?;
+                Ok(ChangedTable::Members(members))
+            }
+            RowChange::DropMember { substance, rule } => {
+                let mut members = self.members.copied(alloc)?;
+                members.take(&(*substance, rule.number()));
+                Ok(ChangedTable::Members(members))
+            }
+            RowChange::PutMaterials { rows, .. } => {
+                let mut materials = self.materials.copied(alloc)?;
+                materials.put_all(copied_rows(alloc, rows.as_slice())?)?;
+                Ok(ChangedTable::Materials(materials))
+            }
+            RowChange::PutCandidate { row, .. } => {
+                let mut candidates = self.candidates.copied(alloc)?;
+                candidates.put(*row)?;
+                Ok(ChangedTable::Candidates(candidates))
+            }
+            _ => self.changed_bill_table(alloc, change),
+        }
+    }
+
+    /// The same for a change of lines or shipments.
+    #[tactic(auto, unfolding(crate::specs::Change::changed))]
+    fn changed_bill_table(
+        &self,
+        alloc: Global,
+        change: &RowChange,
+    ) -> Result<ChangedTable, OutOfMemory>
+        requires { is_of_lines_or_shipments change.now ≡ true }
+        ensures { IfOk result (λ table. with_table self.now.lists table ≡ changed self.now.lists change.now) }
+    {
+        match change {
+            RowChange::PutLine { row, .. } => {
+                let mut lines = self.lines.copied(alloc)?;
+                lines.put(*row)?;
+                Ok(ChangedTable::Lines(lines))
+            }
+            RowChange::DropLine { parent, child } => {
+                let mut lines = self.lines.copied(alloc)?;
+                lines.take(&(*parent, *child));
+                Ok(ChangedTable::Lines(lines))
+            }
+            RowChange::PutShipment { row, .. } => {
+                let mut shipments = self.shipments.copied(alloc)?;
+                shipments.put(*row)?;
+                Ok(ChangedTable::Shipments(shipments))
+            }
+            RowChange::DropShipment { year, product } => {
+                let mut shipments = self.shipments.copied(alloc)?;
+                shipments.take(&(*year, *product));
+                Ok(ChangedTable::Shipments(shipments))
+            }
+            _ => unreachable!(),
+        }
+    }
+
+    /// The lists with the changed table in the place of theirs.
+    pub(crate) fn lists_with<'a>(&'a self, table: &'a ChangedTable) -> TableLists<'a>
+        ensures { result ≡ with_table self.now.lists table.now }
+    {
+        match table {
+            ChangedTable::Members(members) => self.lists().with_members(members.as_slice()),
+            ChangedTable::Materials(materials) => self.lists().with_materials(materials.as_slice()),
+            ChangedTable::Lines(lines) => self.lists().with_lines(lines.as_slice()),
+            ChangedTable::Candidates(candidates) => {
+                self.lists().with_candidates(candidates.as_slice())
+            }
+            ChangedTable::Shipments(shipments) => self.lists().with_shipments(shipments.as_slice()),
+        }
+    }
+}
+
+/// The same rows once more.
+fn copied_rows(alloc: Global, rows: &[MaterialRow]) -> Result<Vec<MaterialRow>, OutOfMemory>
+    ensures { IfOk result (λ copies. copies.items ≡ rows.now) }
+{
+    let mut copies = Vec::with_capacity(alloc, rows.len())?;
+    for row in rows {
+        copies.push_reserved(row.copied(alloc)?);
+    }
+    Ok(copies)
+}

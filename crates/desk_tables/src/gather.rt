@@ -1,0 +1,144 @@
+ghost use Rattle.std.specs.Prelude.{◌≡◌, IfOk, OnOk, length, sum_by};
+ghost use Rattle.desk_model.specs.Lists.{IsOrdered, Lists};
+ghost use Rattle.desk_model.specs.Rows.{rows_of};
+ghost use Rattle.desk_tables.specs.Gathered.{gathered, no_rows, put_in};
+
+use crate::Tables;
+use desk_model::{
+    CandidateRow, ExemptionRow, LineRow, MaterialRow, MemberRow, PartRow, ProductRow, Row,
+    ShipmentRow, SubstanceRow, TicketRow,
+};
+use desk_rows::Table;
+use desk_text::OutOfMemory;
+use std::alloc::Global;
+use std::marker::Model;
+
+/// Rows that are put together as tables. Contracts see the lists.
+#[derive(Drop)]
+struct Gathering {
+    substances: Table<SubstanceRow>,
+    members: Table<MemberRow>,
+    materials: Table<MaterialRow>,
+    parts: Table<PartRow>,
+    lines: Table<LineRow>,
+    products: Table<ProductRow>,
+    exemptions: Table<ExemptionRow>,
+    candidates: Table<CandidateRow>,
+    shipments: Table<ShipmentRow>,
+    tickets: Table<TicketRow>,
+}
+
+impl Model for Gathering {
+    ghost use Rattle.desk_model.specs.Lists.{Lists};
+
+    ghost Value = { Lists };
+
+    ghost view = { λ t. record {
+      substances = t.substances.rows;
+      members = t.members.rows;
+      materials = t.materials.rows;
+      parts = t.parts.rows;
+      lines = t.lines.rows;
+      products = t.products.rows;
+      exemptions = t.exemptions.rows;
+      candidates = t.candidates.rows;
+      shipments = t.shipments.rows;
+      tickets = t.tickets.rows;
+    } };
+}
+
+impl Tables {
+    /// The tables with just these rows, which aren't tested yet: `Tables::is_sound` does that. Rows may come in any order; of two with
+    /// one key in a table the later is kept.
+    ///
+    /// Rows in the order of their tables and keys go in one behind the other; each other one takes a binary search and moves the rows
+    /// behind it. `OutOfMemory`: none was left for the tables.
+    pub fn gather(alloc: Global, rows: Vec<Row>) -> Result<Tables, OutOfMemory>
+        ensures lists { IfOk result (λ tables. tables.lists ≡ gathered rows.items) }
+        // The rows of tables, gathered again, are those tables.
+        ensures again { (t : Lists) → IsOrdered t → rows.items ≡ rows_of t → IfOk result (λ tables. tables.lists ≡ t) }
+    {
+        let gathering = Gathering::of(alloc, rows)?;
+        Ok(gathering.into_tables())
+    }
+}
+
+impl Gathering {
+    /// These rows and no others.
+    fn of(alloc: Global, rows: Vec<Row>) -> Result<Gathering, OutOfMemory>
+        ensures { IfOk result (λ gathering. gathering ≡ gathered rows.items) }
+    {
+        let mut gathering = Gathering::new(alloc);
+        for row in rows {
+            gathering.put(row)?;
+        }
+        Ok(gathering)
+    }
+
+    /// No rows.
+    fn new(alloc: Global) -> Gathering
+        ensures { result ≡ no_rows }
+    {
+        Gathering {
+            substances: Table::new(alloc),
+            members: Table::new(alloc),
+            materials: Table::new(alloc),
+            parts: Table::new(alloc),
+            lines: Table::new(alloc),
+            products: Table::new(alloc),
+            exemptions: Table::new(alloc),
+            candidates: Table::new(alloc),
+            shipments: Table::new(alloc),
+            tickets: Table::new(alloc),
+        }
+    }
+
+    /// Puts the row in its place.
+    fn put(&mut self, row: Row) -> Result<(), OutOfMemory>
+        ensures { OnOk result (self.new ≡ put_in row self.old) }
+    {
+        match row {
+            Row::Substance(row) => self.substances.put(row),
+            Row::Member(row) => self.members.put(row),
+            Row::Material(row) => self.materials.put(row),
+            Row::Part(row) => self.parts.put(row),
+            Row::Line(row) => self.lines.put(row),
+            Row::Product(row) => self.products.put(row),
+            Row::Exemption(row) => self.exemptions.put(row),
+            Row::Candidate(row) => self.candidates.put(row),
+            Row::Shipment(row) => self.shipments.put(row),
+            Row::Ticket(row) => self.tickets.put(row),
+        }
+    }
+
+    /// The tables of the rows.
+    fn into_tables(self) -> Tables
+        ensures { result.lists ≡ self }
+    {
+        let text = text_length(self.tickets.as_slice());
+        Tables {
+            substances: self.substances,
+            members: self.members,
+            materials: self.materials,
+            parts: self.parts,
+            lines: self.lines,
+            products: self.products,
+            exemptions: self.exemptions,
+            candidates: self.candidates,
+            shipments: self.shipments,
+            tickets: self.tickets,
+            text,
+        }
+    }
+}
+
+/// How many bytes the texts of these tickets have together.
+fn text_length(tickets: &[TicketRow]) -> u128
+    ensures { result ≡ sum_by (λ ticket. length ticket.text) tickets.now }
+{
+    let mut length = 0u128;
+    for ticket in tickets {
+        length += ticket.text.len() as u128;
+    }
+    length
+}
