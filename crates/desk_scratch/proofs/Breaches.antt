@@ -20,7 +20,6 @@ use Rattle.desk_findings.specs.Reaches.{reaches}
 use Rattle.desk_findings.specs.Verdicts.{verdict_on}
 use Rattle.desk_scratch.specs.Judgement.{breach_count, has_breach, is_breach, is_breached, reaches_breach}
 use Rattle.desk_scratch.specs.Laws.{BreachesNone, ReachesNoBreach}
-use Rattle.desk_scratch.proofs.BaseShare.{rule-at}
 
 -- one equivalence after another
 pub both : {A B C : Type 0} → A ↔ B → B ↔ C → A ↔ C
@@ -33,6 +32,20 @@ none-at p xs i d none inside = by (p (get_or xs i d)) refl
     by : (b : Bool) → p (get_or xs i d) ≡ b → b ≡ false
     by true e = absurd (false≢true (sym none ∙ list_any_at p xs i d inside e))
     by false e = refl
+
+-- a rule is found by its number
+pub rule-at : (rule : Rule) → get_or all_rules (rule_number rule - 1) Lead ≡ rule
+unfolding rule_number
+rule-at Lead = refl
+rule-at Mercury = refl
+rule-at Cadmium = refl
+rule-at ChromiumVi = refl
+rule-at Pbb = refl
+rule-at Pbde = refl
+rule-at Dehp = refl
+rule-at Bbp = refl
+rule-at Dbp = refl
+rule-at Dibp = refl
 
 pub rule-inside : (rule : Rule) → rule_number rule - 1 < 10
 unfolding rule_number

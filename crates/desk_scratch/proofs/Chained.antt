@@ -28,7 +28,7 @@ use Rattle.desk_scratch.specs.Judgement.{is_breach, reaches_breach}
 use Rattle.desk_scratch.specs.Laws.{AreBreachesChained}
 use Rattle.desk_scratch.specs.Rohs.{asked_product_line, over_line, over_lines, rohs_text}
 use Rattle.desk_scratch.specs.SharedLines.{chain_line, compliance_line, version_line}
-use Rattle.desk_scratch.proofs.BaseShare.{rule-at}
+use Rattle.desk_scratch.proofs.Breaches.{rule-at}
 use Rattle.desk_scratch.proofs.Breaches.{rule-inside}
 
 -- the piece stands in the text

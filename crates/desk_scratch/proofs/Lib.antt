@@ -1,8 +1,14 @@
-pub mod BaseShare
 pub mod Breaches
 pub mod Chained
 pub mod Compliant
 pub mod Content
+pub mod Counted
+pub mod DutyParts
 pub mod ExampleProofs
 pub mod LastLine
+pub mod Light
 pub mod Lines
+pub mod Overs
+pub mod Reached
+pub mod TermsInOrder
+pub mod Years

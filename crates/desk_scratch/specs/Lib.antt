@@ -1,3 +1,5 @@
+pub mod Assessment
+pub mod Bill
 pub mod CheckText
 pub mod Eval
 pub mod Examples

@@ -1,92 +1,182 @@
-ghost use Rattle.std.specs.Prelude.{◌≡◌, ◌↔◌, ◌++◌, codes, false, not, IfOk, OnOk, string_bytes};
-ghost use Rattle.std.specs.List.{flat_map};
-ghost use Rattle.desk_model.specs.Effect.{declared_row};
-ghost use Rattle.desk_model.specs.Start.{start};
-ghost use Rattle.desk_scratch.specs.CheckText.{EndsIn, check_line, check_text, some_breach};
-ghost use Rattle.desk_scratch.specs.SharedLines.{compliance_line};
-ghost use Rattle.desk_scratch.specs.MaterialBlock.{material_block};
+ghost use Rattle.std.specs.Prelude.{◌≡◌, ◌≢◌, ◌≤◌, ◌++◌, ℕ, List, length, true, Ok, Err, IfErr, IfOk, OnErr, OnOk};
+ghost use Rattle.desk_text.specs.Day.{is_askable};
+ghost use Rattle.desk_history.specs.Sound.{Sound};
+ghost use Rattle.desk_model.specs.Lists.{is_part};
+ghost use Rattle.desk_scratch.specs.declared.ask_fault.AskFault.TheVariants as ask;
+ghost use Rattle.desk_scratch.specs.declared.question.Question.TheVariants as question;
+ghost use Rattle.desk_scratch.specs.Eval.{eval};
+ghost use Rattle.desk_scratch.specs.Questions.{is_question_in_range};
 
+use crate::ask_fault::AskFault;
 use crate::asked::Asked;
-use crate::judgement::has_breach;
-use crate::material_block::push_material_block;
-use desk_model::Declaration;
-use desk_text::{Bytes, Code, OutOfMemory};
-use std::alloc::{AllocError, Global};
+use crate::material::material_text;
+use crate::part::part_text;
+use crate::question::Question;
+use crate::reach7::reach7_text;
+use crate::reach33::reach33_text;
+use crate::rohs::rohs_text;
+use crate::shared_lines::push_version_line;
+use crate::summary::summary_text;
+use crate::uses::uses_text;
+use desk_law::Kind;
+use desk_tables::Tables;
+use desk_text::{Bytes, Code, Day};
+use std::alloc::Global;
 
-/// The whole answer to `check` for a declaration, over the tables that a desk starts with: what was
-/// asked, what was declared of each material and its verdict for each rule, and whether no verdict
-/// is a breach.
-pub fn check_text(
+/// Appends the answer to the question, made of the tables alone.
+///
+/// `NoSuchCode`: the question is about a material, a part, or either, of which nothing is kept. `NotAProduct`: a RoHS
+/// question is about a part that is no product. `OutOfMemory`: none was left for the answer. After an error `out` is as
+/// it was.
+pub fn answer_plain(
     alloc: Global,
-    asked: &Asked,
-    declaration: &Declaration,
-) -> Result<Bytes, OutOfMemory>
-    ensures value { IfOk result (λ text. text ≡ check_text start asked.now.kind asked.now.day declaration.now) }
-    // "compliant" means that no verdict on any material for any rule is a breach.
-    ensures compliant { IfOk result (λ text.
-        EndsIn text (codes "\ncompliant\n") ↔ (some_breach start asked.now.kind asked.now.day declaration.now ≡ false)) }
+    tables: &Tables,
+    question: &Question,
+    out: &mut Bytes,
+) -> Result<(), AskFault>
+    requires sound { Sound tables.now.lists }
+    requires in_range { is_question_in_range question.now ≡ true }
+    ensures answer { OnOk result ((text : List ℕ) × (eval tables.now.lists question.now ≡ Ok text) × (out.new ≡ out.old ++ text)) }
+    ensures refusal { IfErr result (λ fault. fault ≢ ask.OutOfMemory → eval tables.now.lists question.now ≡ Err fault) }
+    ensures unchanged { OnErr result (out.new ≡ out.old) }
 {
-    let first = first_line(alloc, asked, declaration.supplier(), declaration.number())?;
-    let mut text = Bytes::from(first.into_bytes());
-    push_blocks(alloc, &mut text, asked, declaration)?;
-    text.push_all(last_line(asked, declaration).as_bytes())?;
+    match answer_text(alloc, tables, question) {
+        Ok(text) => {
+            out.push_all(text.as_slice())?;
+            Ok(())
+        }
+        Err(fault) => Err(fault),
+    }
+}
+
+/// The answer to the question.
+fn answer_text(alloc: Global, tables: &Tables, question: &Question) -> Result<Bytes, AskFault>
+    requires sound { Sound tables.now.lists }
+    requires in_range { is_question_in_range question.now ≡ true }
+    ensures { result ≢ Err ask.OutOfMemory → result ≡ eval tables.now.lists question.now }
+{
+    match *question {
+        Question::Material { code, kind, day } => on_material(alloc, tables, code, kind, day),
+        Question::Rohs { code, day } => on_rohs(alloc, tables, code, day),
+        Question::Reach33 { code, day } => on_reach33(alloc, tables, code, day),
+        Question::Reach7 { year, day } => on_reach7(alloc, tables, year, day),
+        Question::Part { code } => on_part(alloc, tables, code),
+        Question::Uses { code } => on_uses(alloc, tables, code),
+        Question::Summary { day } => on_summary(alloc, tables, day),
+        Question::Version => on_version(alloc, tables),
+    }
+}
+
+/// The answer on a material.
+#[tactic(auto, unfolding(crate::specs::Eval::eval))]
+fn on_material(
+    alloc: Global,
+    tables: &Tables,
+    code: Code,
+    kind: Kind,
+    day: Day,
+) -> Result<Bytes, AskFault>
+    requires sound { Sound tables.now.lists }
+    requires askable { is_askable day ≡ true }
+    ensures { result ≢ Err ask.OutOfMemory → result ≡ eval tables.now.lists (question.Material code kind day) }
+{
+    match tables.material(&code) {
+        Some(material) => {
+            let text = material_text(alloc, tables, &Asked { kind, day }, material)?;
+            Ok(text)
+        }
+        None => Err(AskFault::NoSuchCode { code }),
+    }
+}
+
+/// The answer on a product's compliance.
+#[tactic(auto, unfolding(crate::specs::Eval::eval))]
+fn on_rohs(alloc: Global, tables: &Tables, code: Code, day: Day) -> Result<Bytes, AskFault>
+    requires sound { Sound tables.now.lists }
+    requires askable { is_askable day ≡ true }
+    ensures { result ≢ Err ask.OutOfMemory → result ≡ eval tables.now.lists (question.Rohs code day) }
+{
+    if !tables.is_part(&code) {
+        return Err(AskFault::NoSuchCode { code });
+    }
+    match tables.product(&code) {
+        Some(product) => {
+            let kind = product.kind;
+            let text = rohs_text(alloc, tables, &Asked { kind, day }, product)?;
+            Ok(text)
+        }
+        None => Err(AskFault::NotAProduct { code }),
+    }
+}
+
+/// The answer on a part's duties to inform.
+#[tactic(auto, unfolding(crate::specs::Eval::eval))]
+fn on_reach33(alloc: Global, tables: &Tables, code: Code, day: Day) -> Result<Bytes, AskFault>
+    requires { Sound tables.now.lists }
+    ensures { result ≢ Err ask.OutOfMemory → result ≡ eval tables.now.lists (question.Reach33 code day) }
+{
+    if !tables.is_part(&code) {
+        return Err(AskFault::NoSuchCode { code });
+    }
+    let text = reach33_text(alloc, tables, &code, day)?;
     Ok(text)
 }
 
-/// What was asked, and which declaration is judged.
-fn first_line(
-    alloc: Global,
-    asked: &Asked,
-    supplier: &Code,
-    number: u64,
-) -> Result<String, AllocError>
-    ensures { IfOk result (λ line. string_bytes line ≡ check_line asked.now.kind asked.now.day supplier.now number) }
+/// The answer on the notices of a year.
+#[tactic(auto, unfolding(crate::specs::Eval::eval))]
+fn on_reach7(alloc: Global, tables: &Tables, year: u16, day: Day) -> Result<Bytes, AskFault>
+    requires { Sound tables.now.lists }
+    ensures { result ≢ Err ask.OutOfMemory → result ≡ eval tables.now.lists (question.Reach7 year day) }
 {
-    let day = asked.day;
-    let kind = asked.kind;
-    let line = format!(in alloc;
-        "check {day} kind {kind} supplier {supplier} declaration {number}\n"
-    )?;
-    Ok(line)
+    let text = reach7_text(alloc, tables, year, day)?;
+    Ok(text)
 }
 
-/// Appends the block of each material, in order of code.
-fn push_blocks(
-    alloc: Global,
-    out: &mut Bytes,
-    asked: &Asked,
-    declaration: &Declaration,
-) -> Result<(), OutOfMemory>
-    ensures { OnOk result (out.new ≡ out.old
-        ++ flat_map (λ m. material_block start asked.now.kind asked.now.day (declared_row declaration.now m)) declaration.now.materials) }
+/// The answer on a part.
+#[tactic(auto, unfolding(crate::specs::Eval::eval))]
+fn on_part(alloc: Global, tables: &Tables, code: Code) -> Result<Bytes, AskFault>
+    requires { Sound tables.now.lists }
+    ensures { result ≢ Err ask.OutOfMemory → result ≡ eval tables.now.lists (question.Part code) }
 {
-    let supplier = declaration.supplier();
-    let number = declaration.number();
-    for material in declaration.materials() {
-        push_material_block(alloc, out, supplier, number, material, asked)?;
-    }
-    Ok(())
-}
-
-/// The line that says whether no material breaches any rule.
-fn last_line(asked: &Asked, declaration: &Declaration) -> &'static str
-    ensures { result.now ≡ compliance_line (not (some_breach start asked.now.kind asked.now.day declaration.now)) }
-{
-    if some_breach(asked, declaration) {
-        "not-compliant\n"
-    } else {
-        "compliant\n"
-    }
-}
-
-/// Whether some material breaches some rule.
-fn some_breach(asked: &Asked, declaration: &Declaration) -> bool
-    ensures { result ≡ some_breach start asked.now.kind asked.now.day declaration.now }
-{
-    for material in declaration.materials() {
-        if has_breach(material, asked) {
-            return true;
+    match tables.part(&code) {
+        Some(part) => {
+            let text = part_text(alloc, tables, part)?;
+            Ok(text)
         }
+        None => Err(AskFault::NoSuchCode { code }),
     }
-    false
+}
+
+/// The answer on where a material or a part is used.
+#[tactic(auto, unfolding(crate::specs::Eval::eval))]
+fn on_uses(alloc: Global, tables: &Tables, code: Code) -> Result<Bytes, AskFault>
+    requires { Sound tables.now.lists }
+    ensures { result ≢ Err ask.OutOfMemory → result ≡ eval tables.now.lists (question.Uses code) }
+{
+    if !tables.is_kept(&code) {
+        return Err(AskFault::NoSuchCode { code });
+    }
+    let text = uses_text(alloc, tables, &code)?;
+    Ok(text)
+}
+
+/// The answer on the whole desk.
+#[tactic(auto, unfolding(crate::specs::Eval::eval))]
+fn on_summary(alloc: Global, tables: &Tables, day: Day) -> Result<Bytes, AskFault>
+    requires sound { Sound tables.now.lists }
+    requires askable { is_askable day ≡ true }
+    ensures { result ≢ Err ask.OutOfMemory → result ≡ eval tables.now.lists (question.Summary day) }
+{
+    let text = summary_text(alloc, tables, day)?;
+    Ok(text)
+}
+
+/// The answer on the number of the tables. It has one line.
+#[tactic(auto, unfolding(crate::specs::Eval::eval))]
+fn on_version(alloc: Global, tables: &Tables) -> Result<Bytes, AskFault>
+    ensures { result ≢ Err ask.OutOfMemory → result ≡ eval tables.now.lists question.Version }
+{
+    let mut text = String::new(alloc);
+    push_version_line(&mut text, tables)?;
+    Ok(Bytes::from(text.into_bytes()))
 }

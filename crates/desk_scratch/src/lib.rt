@@ -6,17 +6,35 @@
 mod answer;
 mod ask_fault;
 mod asked;
+mod assessment;
+mod bill;
+#[cfg(test)]
+mod bill_tests;
+mod check;
+mod duties;
 pub mod examples;
-mod judgement;
+mod facts;
+#[cfg(test)]
+mod gateway_tests;
 pub mod laws;
+mod material;
 mod material_block;
+mod part;
 mod question;
-mod share;
+mod reach33;
+mod reach7;
+mod rohs;
+mod shared_lines;
+mod summary;
+#[cfg(test)]
+mod test_steps;
 #[cfg(test)]
 mod tests;
+mod uses;
 mod verdict_words;
 
-pub use answer::check_text;
+pub use answer::answer_plain;
 pub use ask_fault::AskFault;
 pub use asked::Asked;
+pub use check::check_text;
 pub use question::Question;

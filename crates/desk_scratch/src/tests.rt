@@ -1,11 +1,14 @@
 ghost use Rattle.std.specs.Prelude.{◌≤◌};
+ghost use Rattle.desk_history.specs.Sound.{Sound};
 
 use crate::verdict_words::VerdictWords;
 use crate::{AskFault, Asked, check_text};
 use desk_law::{Annex, Kind, KindSet, Rule, Terms, Verdict};
 use desk_model::Declaration;
+use desk_tables::Tables;
 use desk_text::{Code, Day, ExemptionNumber, Name};
 use std::alloc::Global;
+use std::process::Abort;
 use std::test::Fail;
 
 /// A gram of paste with these micrograms of lead and of cadmium.
@@ -43,13 +46,20 @@ not-compliant
 
 #[test]
 fn a_material_is_judged_for_each_rule(rt: HostRuntime) -> Result<(), Fail> {
+    let tables = Tables::start(rt.alloc())?;
+    judges(&rt, rt.alloc(), &tables)
+}
+
+fn judges(rt: &impl Abort, alloc: Global, tables: &Tables) -> Result<(), Fail>
+    requires { Sound tables.now.lists }
+{
     let day = Day::read(b"2024-01-23")?;
     assert!(rt; day.is_askable());
     let asked = Asked {
         kind: Kind::Telecommunications,
         day,
     };
-    let text = check_text(rt.alloc(), &asked, &paste(rt.alloc(), 1001, 100)?)?;
+    let text = check_text(alloc, tables, &asked, &paste(alloc, 1001, 100)?)?;
     assert_eq!(rt; text.as_slice(), OVER.as_bytes());
     Ok(())
 }

@@ -1,15 +1,18 @@
--- What was appended so far are the lines of the first rules.
-use Rattle.std.proofs.Common.{◌≡◌, ◌++◌, take}
-use Rattle.std.specs.List.{flat_map}
+-- What was appended so far are the lines of the first rules, of which some verdict was a breach or none.
+use Rattle.std.proofs.Common.{◌≡◌, ◌++◌, string_bytes, take}
+use Rattle.std.specs.List.{flat_map, list_any}
 use Rattle.desk_law.specs.Rule.{all_rules}
-use Rattle.desk_model.specs.Declaration.{Declared}
-use Rattle.desk_model.specs.Start.{start}
-use Rattle.desk_model.specs.Effect.{declared_row}
+use Rattle.desk_model.specs.declared.rows.material.MaterialRow.{MaterialRow}
+use Rattle.desk_scratch.specs.Assessment.{facts_of}
+use Rattle.desk_scratch.specs.Judgement.{is_breached}
 use Rattle.desk_scratch.specs.MaterialBlock.{rule_line}
 use Rattle.desk_scratch.proofs.material_block.push_rule_lines.Given as goal
 
 abbrev pub invariant-loop-rule : goal.invariant-loop-rule
 invariant-loop-rule l = record {
   rules : l.rule-items ≡ all_rules;
-  lines : (d : Declared) → l.out ≡ l.fn.out ++ flat_map (rule_line start l.fn.asked.kind l.fn.asked.day (declared_row d l.fn.material)) (take l.rule-index l.rule-items);
+  lines : (material : MaterialRow) → l.facts ≡ facts_of material
+      → string_bytes l.out ≡ string_bytes l.fn.out ++ flat_map (rule_line l.by.lists l.by.kind l.by.day material) (take l.rule-index l.rule-items);
+  breach : (material : MaterialRow) → l.facts ≡ facts_of material
+      → l.breach ≡ list_any (is_breached l.by.lists l.by.kind l.by.day material) (take l.rule-index l.rule-items);
 }

@@ -1,0 +1,104 @@
+ghost use Rattle.std.specs.Prelude.{◌≡◌, ◌≤◌, ◌+◌, ◌*◌, ◌<◌, ◌^◌, length, sum_by, map, IfOk};
+ghost use Rattle.desk_history.specs.Sound.{Sound};
+ghost use Rattle.desk_model.specs.declared.limits.TheConstants.{CONTENT_LIMIT};
+ghost use Rattle.desk_model.specs.declared.rows.material.MaterialRow.{MaterialRow};
+ghost use Rattle.desk_findings.specs.Share.{factor_of, share};
+ghost use Rattle.desk_findings.specs.Verdicts.{terms_of, verdict_on};
+ghost use Rattle.desk_scratch.specs.Assessment.{facts_of};
+
+use crate::asked::Asked;
+use crate::facts::Facts;
+use desk_law::{Rule, Terms, Verdict, judge};
+use desk_model::SubstanceMass;
+use desk_tables::Tables;
+use desk_text::OutOfMemory;
+use std::alloc::Global;
+use std::marker::Model;
+
+/// What materials are judged by: sound tables, the terms of their exemption rows, the kind of equipment and the day.
+#[derive(Drop)]
+pub(crate) struct Assessment<'a> {
+    tables: &'a Tables,
+    terms: &'a [Terms],
+    asked: Asked,
+}
+
+impl<'a> Model for Assessment<'a> {
+    ghost use Rattle.std.specs.Prelude.{◌≡◌};
+    ghost use Rattle.desk_history.specs.Sound.{Sound};
+    ghost use Rattle.desk_findings.specs.Verdicts.{terms_of};
+    ghost use Rattle.desk_scratch.specs.Assessment.{Assessed};
+
+    ghost Value = { Assessed };
+
+    ghost view = { λ a. record { lists = a.tables.now.lists; kind = a.asked.kind; day = a.asked.day } };
+
+    ghost invariant = { λ a. Sound a.tables.now.lists × (a.terms.now ≡ terms_of a.tables.now.lists) };
+}
+
+impl<'a> Assessment<'a> {
+    /// By these tables, whose exemption rows have these terms.
+    pub(crate) fn new(tables: &'a Tables, terms: &'a [Terms], asked: Asked) -> Assessment<'a>
+        requires sound { Sound tables.now.lists }
+        requires terms { terms.now ≡ terms_of tables.now.lists }
+        ensures { result ≡ record { lists = tables.now.lists; kind = asked.kind; day = asked.day } }
+    {
+        Assessment {
+            tables,
+            terms,
+            asked,
+        }
+    }
+
+    /// The terms of the exemption rows, in order of the rows' codes.
+    pub(crate) fn terms(&self) -> &'a [Terms]
+        ensures { result.now ≡ terms_of self.now.lists }
+    {
+        self.terms
+    }
+
+    /// The share of the rule in a material of these substances, in millionths of a microgram. It takes a binary search
+    /// for each.
+    #[tactic(auto, unfolding(desk_findings::specs::Share::share))]
+    pub(crate) fn share(&self, rule: Rule, substances: &[SubstanceMass]) -> u128
+        requires { length substances.now ≤ CONTENT_LIMIT }
+        ensures { (material : MaterialRow) → substances.now ≡ material.substances → result ≡ share self.now.lists rule material }
+    {
+        let mut share = 0u128;
+        for held in substances {
+            share += u128::from(held.mass)
+                * u128::from(self.tables.factor_of(rule, &held.substance));
+        }
+        share
+    }
+
+    /// The verdict on a material for the rule, whose share in it is given. It looks at each exemption row where the
+    /// share is over the limit.
+    #[tactic(auto, unfolding(desk_findings::specs::Verdicts::verdict_on))]
+    pub(crate) fn verdict(&self, rule: Rule, its_share: u128, facts: &Facts<'_>) -> Verdict
+        ensures { (material : MaterialRow) → facts.now ≡ facts_of material → its_share ≡ share self.now.lists rule material
+            → result ≡ verdict_on self.now.lists self.now.kind self.now.day material rule }
+    {
+        judge(
+            its_share,
+            facts.mass,
+            facts.claims,
+            rule,
+            self.asked.kind,
+            self.asked.day,
+            self.terms,
+        )
+    }
+}
+
+/// The terms of the exemption rows, in order of the rows' codes. They are as many as the rows.
+pub(crate) fn terms_of(alloc: Global, tables: &Tables) -> Result<Vec<Terms>, OutOfMemory>
+    ensures { IfOk result (λ terms. terms.items ≡ terms_of tables.now.lists) }
+{
+    let rows = tables.exemptions();
+    let mut terms = Vec::with_capacity(alloc, rows.len())?;
+    for row in rows {
+        terms.push_reserved(row.terms);
+    }
+    Ok(terms)
+}
