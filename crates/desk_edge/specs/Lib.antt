@@ -1,4 +1,7 @@
+pub mod Content
 pub mod Failed
 pub mod Faults
 pub mod Memory
+pub mod Stores
+pub mod Shelves
 pub mod Transfer

@@ -1,0 +1,21 @@
+use Rattle.std.proofs.Common.{◌≡◌, rules}
+use Rattle.std.specs.Ordering.{is_lt}
+use Rattle.std.proofs.lemmas.Fn.{always_returns_same}
+use Rattle.std.proofs.lemmas.List.MinMax.{ranks_by}
+use Rattle.desk_rows.specs.Rows.{IsByKey}
+use Rattle.desk_edge.specs.Content.{key_cmp, key_of}
+use Rattle.desk_edge.proofs.Keys.{key_order}
+use Rattle.desk_edge.proofs.SortedKeys.{sorted_by_key}
+use Rattle.desk_edge.proofs.map_keeper.MapKeeper.new.Goals as goal
+
+by_key : (c : goal.After-sort_unstable_by) → IsByKey key_of key_cmp c.sort_unstable_by.new.self.items
+by_key c =
+    let sorted = c.sort_unstable_by.ensures.sorted (λ a b. is_lt (key_cmp (key_of a) (key_of b))) (ranks_by key_order key_of)
+    (always_returns_same _ (λ a r. is_lt r ≡ is_lt (key_cmp (key_of a.0.now) (key_of a.1.0.now))) _ (λ a r h called. search rules)) in
+    sorted_by_key key_of key_cmp key_order c.args.records.items c.sort_unstable_by.new.self.items c.sort_unstable_by.ensures.permutation c.requires sorted
+
+pub invariant_of-result : goal.invariant_of-result
+invariant_of-result c = by_key c
+
+pub returns-clause-by_key : goal.returns-clause-by_key
+returns-clause-by_key c = by_key c

@@ -1,0 +1,55 @@
+-- A shelf in memory: which stores it keeps and which are lent, call by call.
+use Rattle.std.specs.Prelude.{◌≡◌, ℕ, ◌==◌, ◌<◌, Bool, true, ◌||◌, List, Option, None, Some, is_some, length, remove, slice_index_or}
+use Rattle.std.specs.Option.{option_map_or}
+use Rattle.std.specs.Cmp.Lexicographic.{slice_cmp}
+use Rattle.std.specs.List.{list_any}
+use Rattle.std.specs.Ordering.{nat_cmp}
+use Rattle.std.specs.declared.cmp.Ordering.{Ordering}
+use Rattle.desk_edge.specs.Content.{Content}
+use Rattle.desk_edge.specs.Faults.{counted}
+use Rattle.desk_edge.specs.Stores.{Kept, blank, content_of}
+use Rattle.desk_rows.specs.Rows.{row_of, without_row}
+
+-- a shelf in memory, as its calls see it
+pub record Shelved : Type 0 where
+  -- the stores that aren't lent, each behind its name
+  pub stores : List (List ℕ × Kept)
+  -- the names of those that are
+  pub lent : List (List ℕ)
+  -- the numbers of the openings that fail, counted from 1
+  pub failing : List ℕ
+  -- how many openings there were, counted up to the last value of the count
+  pub calls : ℕ
+  -- how many faults, counted in the same way
+  pub faults : ℕ
+
+-- names are compared by their bytes
+abbrev pub name_cmp : List ℕ → List ℕ → Ordering
+name_cmp = slice_cmp nat_cmp
+
+-- a store of this name is lent
+abbrev pub is_lent : Shelved → List ℕ → Bool
+is_lent s name = is_some (row_of (λ lent. lent) name_cmp name s.lent)
+
+-- the store of this name, if there is one that isn't lent
+abbrev pub store_of : Shelved → List ℕ → Option (List ℕ × Kept)
+store_of s name = row_of (λ store. store.0) name_cmp name s.stores
+
+-- what the store of this name keeps; a store that isn't there keeps nothing
+abbrev pub content_in : Shelved → List ℕ → Content
+content_in s name key = option_map_or (λ store. content_of store.1 key) (store_of s name) None
+
+-- the first element of the name stands at the place: there it is found, and from there it is taken out
+pub record StandsFirst {X : Type 0} (name_of : X → List ℕ) (name : List ℕ) (xs : List X) (place : ℕ) : Type 0 where
+  pub within : place < length xs
+  pub found : (d : X) → row_of name_of name_cmp name xs ≡ Some (slice_index_or xs place d)
+  pub is_there : is_some (row_of name_of name_cmp name xs) ≡ true
+  pub taken : without_row name_of name_cmp name xs ≡ remove xs place
+
+-- the store of this name as it is opened: with no fault counted; one that isn't there is blank
+abbrev pub opened : Shelved → List ℕ → Kept
+opened s name = option_map_or (λ store. record store.1 { faults = 0 }) (store_of s name) blank
+
+-- whether the next opening, of this name, fails: by its number, or since the store is lent
+abbrev pub refuses : Shelved → List ℕ → Bool
+refuses s name = list_any (λ n. n == counted s.calls) s.failing || is_lent s name

@@ -1,0 +1,148 @@
+ghost use Rattle.std.specs.Prelude.{◌≡◌, ◌≢◌, ◌≤◌, true, Err, IfOk, IfSome, OnOk, OnErr, IsErrOf, IsPermutation, option_copied, Ok, if◌then◌else◌};
+ghost use Rattle.desk_edge.specs.Content.{HaveDistinctKeys, IsChanged, IsFirstPast, IsSame, is_past, key_cmp, key_of};
+ghost use Rattle.desk_edge.specs.Faults.{Rose};
+ghost use Rattle.desk_edge.specs.Stores.{Kept, after_call, after_fault, blank, content_of, fails_next, first_past, records_with_all};
+ghost use Rattle.desk_rows.specs.Rows.{IsByKey};
+
+use crate::change::Change;
+use crate::keep_fault::KeepFault;
+use crate::keeper::Keeper;
+use crate::key::Key;
+use crate::record::Record;
+use crate::records::{copied_all, copied_past, make_all};
+use desk_rows::Keyed;
+use std::alloc::Global;
+use std::marker::Model;
+
+/// A keeper in memory. It tells what it keeps, and fails on the calls that it is told to fail on, and on no other.
+#[derive(Debug, Drop)]
+pub struct MapKeeper {
+    records: Vec<Record>,
+    failing: Vec<u64>,
+    calls: u64,
+    faults: u64,
+}
+
+impl Model for MapKeeper {
+    ghost use Rattle.desk_edge.specs.Content.{key_cmp, key_of};
+    ghost use Rattle.desk_edge.specs.Stores.{Kept};
+    ghost use Rattle.desk_rows.specs.Rows.{IsByKey};
+
+    ghost Value = { Kept };
+
+    ghost view = { λ k. record { records = k.records.items; failing = k.failing.items; calls = k.calls; faults = k.faults } };
+
+    ghost invariant = { λ k. IsByKey key_of key_cmp k.records.items };
+}
+
+impl MapKeeper {
+    /// A keeper of these records, no two of which have one key, in any order. The calls whose numbers `failing` has fail, counted
+    /// from 1. It takes no memory.
+    pub fn new(records: Vec<Record>, failing: Vec<u64>) -> MapKeeper
+        requires { HaveDistinctKeys records.items }
+        ensures records { IsPermutation records.items result.records }
+        ensures by_key { IsByKey key_of key_cmp result.records }
+        ensures calls { (result.calls ≡ 0) × (result.faults ≡ 0) × (result.failing ≡ failing.items) }
+    {
+        let mut records = records;
+        records.sort_unstable_by(|a, b| a.compare_row(b));
+        MapKeeper {
+            records,
+            failing,
+            calls: 0,
+            faults: 0,
+        }
+    }
+
+    /// The records, in order of their keys.
+    pub fn records(&self) -> &[Record]
+        ensures records { result.now ≡ self.now.records }
+        ensures by_key { IsByKey key_of key_cmp self.now.records }
+    {
+        self.records.as_slice()
+    }
+
+    /// How many calls have failed.
+    pub fn faults(&self) -> u64
+        ensures { result ≡ self.now.faults }
+    {
+        self.faults
+    }
+
+    /// A keeper of nothing, whose calls never fail. It takes no memory.
+    pub(crate) fn blank(alloc: Global) -> MapKeeper
+        ensures { result ≡ blank }
+    {
+        MapKeeper {
+            records: Vec::new(alloc),
+            failing: Vec::new(alloc),
+            calls: 0,
+            faults: 0,
+        }
+    }
+
+    /// The same keeper with no fault counted.
+    pub(crate) fn without_faults(self) -> MapKeeper
+        ensures { result ≡ record self { faults = 0 } }
+    {
+        MapKeeper { faults: 0, ..self }
+    }
+
+    /// Counts a call, and where it is one that fails, the fault.
+    fn count_call(&mut self) -> Result<(), KeepFault>
+        ensures answer { result ≡ (if fails_next self.old then Err KeepFault.Failed else Ok tt) }
+        ensures after { self.new ≡ (if fails_next self.old then after_fault self.old else after_call self.old) }
+        ensures never_falls { self.old.faults ≤ self.new.faults }
+    {
+        self.calls = self.calls.saturating_add(1);
+        if self.failing.contains(&self.calls) {
+            self.faults = self.faults.saturating_add(1);
+            return Err(KeepFault::Failed);
+        }
+        Ok(())
+    }
+}
+
+impl Keeper for MapKeeper {
+    ghost faults = { λ k. k.faults };
+
+    ghost Tells = { λ _. Unit {0} };
+
+    ghost content = { content_of };
+
+    fn next_record(
+        &mut self,
+        alloc: Global,
+        after: Option<&Key>,
+    ) -> Result<Option<Record>, KeepFault>
+        ensures told { Unit {0} → Unit {0} }
+        ensures stays { Unit {0} → IsSame (content_of self.old) (content_of self.new) }
+        ensures gives { IfOk result (λ found. Unit {0} → IsFirstPast (content_of self.new) (option_copied after.entry) found) }
+        ensures later { IfOk result (λ found. IfSome found (λ kept. is_past (option_copied after.entry) (key_of kept) ≡ true)) }
+        ensures never_falls { self.old.faults ≤ self.new.faults }
+        ensures steady { result ≢ Err KeepFault.Failed → self.new.faults ≡ self.old.faults }
+        ensures failed { IsErrOf result KeepFault.Failed → Rose self.old.faults self.new.faults }
+        ensures answer { IfOk result (λ found. found ≡ first_past self.old (option_copied after.entry)) }
+        ensures after { self.new ≡ (if fails_next self.old then after_fault self.old else after_call self.old) }
+    {
+        self.count_call()?;
+        Ok(copied_past(alloc, self.records.as_slice(), after)?)
+    }
+
+    fn commit(&mut self, alloc: Global, batch: &[Change]) -> Result<(), KeepFault>
+        ensures told { Unit {0} → Unit {0} }
+        ensures ok { OnOk result (Unit {0} → IsChanged batch.now (content_of self.old) (content_of self.new)) }
+        ensures err { OnErr result (Unit {0} → IsSame (content_of self.old) (content_of self.new)) }
+        ensures never_falls { self.old.faults ≤ self.new.faults }
+        ensures steady { result ≢ Err KeepFault.Failed → self.new.faults ≡ self.old.faults }
+        ensures failed { IsErrOf result KeepFault.Failed → Rose self.old.faults self.new.faults }
+        ensures made { OnOk result (self.new ≡ after_call (record self.old { records = records_with_all batch.now self.old.records })) }
+        ensures refused { OnErr result (self.new ≡ (if fails_next self.old then after_fault self.old else after_call self.old)) }
+    {
+        self.count_call()?;
+        let changes = copied_all(alloc, batch)?;
+        self.records.reserve(changes.len())?;
+        make_all(&mut self.records, changes);
+        Ok(())
+    }
+}
