@@ -1,1 +1,3 @@
+mod ExampleProofs
 pub mod RowFacts
+pub mod Texts

@@ -2,7 +2,7 @@
 use Rattle.std.proofs.Common.{◌≡◌, ◌∙◌, sym, ap, refl, ℕ, suc, zero, ◌+◌, ◌<◌, ◌≤◌, ◌==◌, ◌||◌, Bool, true, false, cond, List, [], ◌∷◌, ◌++◌, length, Option, None, Some, is_some, Bor, inl, add-one, arith}
 use Rattle.std.proofs.lemmas.Bool.{false≢true}
 use Rattle.csv.specs.Machine.{Read, ends_at_end, fields_after, field_after, in_field, is_end, next_record, start_field, start_record, step}
-use Rattle.csv.specs.Reading.{NextIs, ReadRecord, ReadsNext, Ready, default_config, is_flexible, pending_of, reader_state, reader_trim, records_from, records_next, strip_bom, took_first}
+use Rattle.csv.specs.Reading.{NextIs, ReadRecord, ReadsNext, Ready, default_config, is_bom, is_flexible, pending_of, reader_state, reader_trim, records_from, records_next, strip_bom, took_first}
 use Rattle.csv.specs.declared.reader.Reader.{Reader}
 use Rattle.csv.specs.declared.reader.Trim.TheVariants as trim
 use Rattle.csv.specs.declared.parser.Action.{Action}
@@ -200,3 +200,38 @@ one-taken a b fields plain reads flexible first =
 pub start-rows : (a : Source) (text : List ℕ) → reader_state a ≡ st.StartRecord → bytes_left a ≡ Some (strip_bom text) → rows_left a ≡ rows_of text
 unfolding rows_left
 start-rows a text e f = rw (e, f) refl
+
+-- there are at most as many rows as bytes
+from-room : (n : ℕ) (s : State) (xs : List ℕ) → ends_at_end s ≡ false → length (records_from default_config n s xs) ≤ length xs
+unfolding records_from
+from-room zero s xs b = omega arith
+from-room (suc n) s xs b = by (next_record default_config s [] [] xs) refl (from-room n)
+  where
+    by : (o : Option Read) → next_record default_config s [] [] xs ≡ o
+        → ((s2 : State) (ys : List ℕ) → ends_at_end s2 ≡ false → length (records_from default_config n s2 ys) ≤ length ys)
+        → length (records_next (records_from default_config n) o) ≤ length xs
+    by None e more = omega arith
+    by (Some p) e more =
+        let r = next-reads s [] [] xs p e in
+        let some = next-some s xs p b e in
+        let shorter = r.shorter some in
+        let rest = more p.1 p.2 r.between in
+        omega arith
+
+-- the byte-order mark that is taken off is no longer than the text
+strip-room : (text : List ℕ) → length (strip_bom text) ≤ length text
+unfolding strip_bom
+strip-room [] = omega arith
+strip-room (a ∷ []) = omega arith
+strip-room (a ∷ b ∷ []) = omega arith
+strip-room (a ∷ b ∷ c ∷ rest) = by (is_bom a b c)
+  where
+    by : (mark : Bool) → length (cond mark rest (a ∷ b ∷ c ∷ rest)) ≤ length (a ∷ b ∷ c ∷ rest)
+    by true = omega arith
+    by false = omega arith
+
+pub rows-room : (text : List ℕ) → length (rows_of text) ≤ length text
+rows-room text =
+    let rows = from-room (length (strip_bom text) + 1) st.StartRecord (strip_bom text) refl in
+    let strip = strip-room text in
+    omega arith

@@ -1,99 +1,99 @@
--- A plain declaration: a head, then materials and base substances, in rows that name nothing before it is listed.
-use Rattle.std.specs.Prelude.{ℕ, ◌^◌, ◌==◌, ◌&&◌, Bool, not, if◌then◌else◌, List, [], ◌∷◌, length, codes, nat_le}
-use Rattle.std.specs.Prelude.{Option, None, Some, Result, is_some, option_and_then}
-use Rattle.std.specs.List.{list_any}
-use Rattle.std.specs.Option.{ok_or}
-use Rattle.std.specs.Result.{result_ok}
-use Rattle.std.specs.Str.{bytes_eq}
-use Rattle.desk_text.specs.Code.{code_of}
-use Rattle.desk_text.specs.Name.{name_of}
-use Rattle.desk_text.specs.Number.{number_below}
-use Rattle.desk_law.specs.Rule.{rule_of}
-use Rattle.desk_model.specs.Content.{holds_too_much}
+-- A declaration in rows: a head, then materials, with what they hold and what is claimed for them, each after its material.
+-- The first record with a fault decides, and its faults are tried in the order in which `DeclareFault` lists them.
+use Rattle.std.specs.Prelude.{ℕ, ◌+◌, Bool, false, ◌&&◌, if◌then◌else◌, List, [], ◌∷◌, codes, Option, None, Some, Result, Ok, Err}
+use Rattle.std.specs.List.{list_all}
+use Rattle.std.specs.Result.{result_map_both}
+use Rattle.std.specs.Str.{bytes_eq, is_utf8}
 use Rattle.desk_model.specs.Declaration.{Declared}
-use Rattle.desk_model.specs.Declaring.{declaration_start, empty_material, material_added, substance_added}
-use Rattle.desk_declare.specs.Head.{field, head_of}
+use Rattle.desk_model.specs.Declaring.{claim_added, declaration_start, empty_material, material_added, substance_added}
+use Rattle.desk_model.specs.declared.decl_error.DeclError.{DeclError}
+use Rattle.desk_model.specs.declared.edit.Edit.{Edit}
+use Rattle.desk_model.specs.declared.edit.Edit.TheVariants.{Declare}
+use Rattle.desk_declare.specs.Columns.{Columns, after, ◌then◌, field_in, made_by}
+use Rattle.desk_declare.specs.Faults.{unfit}
+use Rattle.desk_declare.specs.Forms.{a_code, a_day, a_declaration_number, a_mass, a_name, a_rule, a_substance_mass, an_exemption_number}
 use Rattle.desk_declare.specs.Rows.{Row, rows_of}
-use Rattle.desk_declare.specs.declared.head.Head.{Head}
-use Rattle.desk_declare.specs.declared.material.ListedMaterial.{ListedMaterial}
-use Rattle.desk_declare.specs.declared.substance.ListedSubstance.{ListedSubstance}
-use Rattle.desk_declare.specs.declared.read.DeclareFault.{DeclareFault}
-use Rattle.desk_declare.specs.declared.read.DeclareFault.TheVariants.{NotADeclaration}
+use Rattle.desk_declare.specs.declared.declare_fault.DeclareFault.{DeclareFault}
+use Rattle.desk_declare.specs.declared.declare_fault.DeclareFault.TheVariants.{NotText, NoHead, BadField, RepeatedMaterial, RepeatedRow}
 
--- a mass in micrograms from a least one on, at most 10^15
-abbrev pub mass_from : ℕ → List ℕ → Option ℕ
-mass_from least bytes =
-    option_and_then (λ n. if nat_le least n && nat_le n (10 ^ 15) then Some n else None) (result_ok (number_below (2 ^ 64) bytes))
+-- what a row adds to a declaration, or why it doesn't fit in
+abbrev pub Addition : Type 0
+Addition = Declared → Result Declared DeclError
 
--- the code of one of the ten base substances, each of which has the code of its rule
-abbrev pub base_code_of : List ℕ → Option (List ℕ)
-base_code_of bytes = option_and_then (λ code. if is_some (rule_of code) then Some code else None) (result_ok (code_of bytes))
+-- the columns of the head: `D`, `1`, the supplier, the declaration's number, its day
+abbrev pub head_columns : Columns Declared
+head_columns = after 2 declaration_start then a_code then a_declaration_number then a_day
 
--- a material of these parts, where each is there
-abbrev pub material_with : Option (List ℕ) → Option (List ℕ) → Option ℕ → Option ListedMaterial
-material_with (Some code) (Some name) (Some mass) = Some (record { code = code; name = name; mass = mass })
-material_with (Some code) (Some name) None = None
-material_with (Some code) None mass = None
-material_with None name mass = None
+-- the columns of a material: `M`, its code, its name, its mass
+abbrev pub material_columns : Columns Addition
+material_columns = after 1 (λ code name mass. material_added (empty_material code name mass)) then a_code then a_name then a_mass
 
--- the material that a row spells: `M`, the code, the name, the mass, which is at least 1
-unfoldable pub material_of : Row → Option ListedMaterial
-material_of row =
-    if (length row == 4) && bytes_eq (field row 0) (codes "M")
-    then material_with (result_ok (code_of (field row 1))) (result_ok (name_of (field row 2))) (mass_from 1 (field row 3))
-    else None
+-- the columns of a substance: `S`, the material that holds it, its code, its mass
+abbrev pub substance_columns : Columns Addition
+substance_columns =
+    after 1 (λ material code mass. substance_added material (record { substance = code; mass = mass }))
+    then a_code then a_code then a_substance_mass
 
--- a substance in a material of these parts, where each is there
-abbrev pub substance_with : Option (List ℕ) → Option (List ℕ) → Option ℕ → Option ListedSubstance
-substance_with (Some material) (Some substance) (Some mass) = Some (record { material = material; substance = substance; mass = mass })
-substance_with (Some material) (Some substance) None = None
-substance_with (Some material) None mass = None
-substance_with None substance mass = None
+-- the columns of a claim of exemption: `E`, the material that it is for, the rule, the exemption's number
+abbrev pub claim_columns : Columns Addition
+claim_columns =
+    after 1 (λ material rule number. claim_added material (record { rule = rule; number = number }))
+    then a_code then a_rule then an_exemption_number
 
--- the substance that a row spells: `S`, the material that holds it, its code, its mass
-unfoldable pub substance_of : Row → Option ListedSubstance
-substance_of row =
-    if (length row == 4) && bytes_eq (field row 0) (codes "S")
-    then substance_with (result_ok (code_of (field row 1))) (base_code_of (field row 2)) (mass_from 0 (field row 3))
-    else None
+-- there is a field, and it is this word
+abbrev pub is_word : List ℕ → Option (List ℕ) → Bool
+is_word word None = false
+is_word word (Some field) = bytes_eq field word
 
--- the declaration with the material that a row lists, where it lists one that fits in
-abbrev pub with_material : Option ListedMaterial → Declared → Option Declared
-with_material None d = None
-with_material (Some m) d = result_ok (material_added (empty_material m.code m.name m.mass) d)
+-- what a row is read as whose fields are all text in UTF-8
+abbrev pub if_text : ℕ → Row → Result Declared DeclareFault → Result Declared DeclareFault
+if_text place row read = if list_all is_utf8 row then read else Err (NotText place)
 
--- the declaration with the substance that a row lists, where it lists one that fits in
-abbrev pub with_substance : Option ListedSubstance → Declared → Option Declared
-with_substance None d = None
-with_substance (Some s) d = result_ok (substance_added s.material (record { substance = s.substance; mass = s.mass }) d)
+-- the declaration that the first row begins, all of whose fields are text
+abbrev pub begun_by : Row → Result Declared DeclareFault
+begun_by row =
+    if is_word (codes "D") (field_in 1 row) && is_word (codes "1") (field_in 2 row) then made_by head_columns 1 row else Err NoHead
 
--- the declaration with what a row lists: an `M` row a material, any other a substance
-unfoldable pub row_added : Row → Declared → Option Declared
-row_added row d =
-    if bytes_eq (field row 0) (codes "M") then with_material (material_of row) d
-    else with_substance (substance_of row) d
+-- the declaration that the first row begins
+unfoldable pub head_of : Row → Result Declared DeclareFault
+head_of row = if_text 1 row (begun_by row)
 
--- the declaration with what each of the rows lists, in order
-abbrev pub rows_added : List Row → Declared → Option Declared
-rows_added [] d = Some d
-rows_added (row ∷ rows) d = option_and_then (rows_added rows) (row_added row d)
+-- the declaration with an addition, where it fits in
+abbrev pub with_addition : DeclareFault → ℕ → Result Addition DeclareFault → Declared → Result Declared DeclareFault
+with_addition repeated place (Err fault) d = Err fault
+with_addition repeated place (Ok addition) d = result_map_both (λ new. new) (unfit repeated place) (addition d)
 
--- in no material do the substances weigh more than the material
-abbrev pub has_sound_masses : Declared → Bool
-has_sound_masses d = not (list_any (λ m. holds_too_much m.mass m.substances) d.materials)
+-- the declaration with what a row under the head adds, by the word in its first column, all of whose fields are text
+abbrev pub extended_by : ℕ → Row → Declared → Result Declared DeclareFault
+extended_by place row d =
+    if is_word (codes "M") (field_in 1 row) then with_addition (RepeatedMaterial place) place (made_by material_columns place row) d
+    else if is_word (codes "S") (field_in 1 row) then with_addition (RepeatedRow place) place (made_by substance_columns place row) d
+    else if is_word (codes "E") (field_in 1 row) then with_addition (RepeatedRow place) place (made_by claim_columns place row) d
+    else Err (BadField place 1)
 
--- the declaration that a head and the rows below it spell
-abbrev pub declaration_under : List Row → Option Head → Option Declared
-declaration_under rows None = None
-declaration_under rows (Some head) =
-    option_and_then (λ d. if has_sound_masses d then Some d else None)
-    (rows_added rows (declaration_start head.supplier head.number head.day))
+-- the declaration with what a row under the head adds
+unfoldable pub row_added : ℕ → Row → Declared → Result Declared DeclareFault
+row_added place row d = if_text place row (extended_by place row d)
 
--- the declaration that rows spell
-unfoldable pub declaration_of_rows : List Row → Option Declared
-declaration_of_rows [] = None
-declaration_of_rows (first ∷ rows) = declaration_under rows (head_of first)
+-- what is read on from a declaration, unless there is a fault already
+abbrev pub read_on : (Declared → Result Declared DeclareFault) → Result Declared DeclareFault → Result Declared DeclareFault
+read_on further (Err fault) = Err fault
+read_on further (Ok d) = further d
 
--- the declaration that a text spells
-abbrev pub declaration_of : List ℕ → Result Declared DeclareFault
-declaration_of bytes = ok_or (declaration_of_rows (rows_of bytes)) NotADeclaration
+-- the declaration with what each of the rows adds, the first of which is the record of this number
+abbrev pub rows_added : ℕ → List Row → Declared → Result Declared DeclareFault
+rows_added place [] d = Ok d
+rows_added place (row ∷ rows) d = read_on (rows_added (place + 1) rows) (row_added place row d)
+
+-- the declaration that rows spell, or the first fault
+unfoldable pub declaration_in : List Row → Result Declared DeclareFault
+declaration_in [] = Err NoHead
+declaration_in (first ∷ rows) = read_on (rows_added 2 rows) (head_of first)
+
+-- the declaration that bytes spell, or their first fault
+abbrev pub declared_of : List ℕ → Result Declared DeclareFault
+declared_of bytes = declaration_in (rows_of bytes)
+
+-- the edit of the declaration that bytes spell, or their first fault
+abbrev pub declaration_of : List ℕ → Result Edit DeclareFault
+declaration_of bytes = result_map_both Declare (λ fault. fault) (declared_of bytes)

@@ -1,13 +1,16 @@
 //! Suppliers' declarations, as they come in comma-separated values.
 #![tactic(auto)]
 
+mod declare_fault;
+pub mod examples;
 mod fields;
-mod head;
-mod material;
 mod read;
+mod row;
 mod rows;
-mod substance;
+mod text;
+
+pub use declare_fault::DeclareFault;
+pub use read::read_declaration;
+
 #[cfg(test)]
 mod tests;
-
-pub use read::{DeclareFault, read_declaration};

@@ -1,4 +1,4 @@
-ghost use Rattle.std.specs.Prelude.{◌≡◌, [], ◌∷◌, IfOk, MatchBool};
+ghost use Rattle.std.specs.Prelude.{◌≡◌, ◌≤◌, [], ◌∷◌, IfOk, MatchBool, length};
 ghost use Rattle.csv.specs.Records.{fields_of};
 ghost use Rattle.desk_declare.specs.Rows.{rows_of};
 
@@ -28,7 +28,8 @@ impl<'a> Model for Rows<'a> {
 impl<'a> Rows<'a> {
     /// The rows of a text, without its byte-order mark.
     pub(crate) fn new(alloc: Global, text: &'a [u8]) -> Rows<'a>
-        ensures { result ≡ rows_of text.now }
+        ensures rows { result ≡ rows_of text.now }
+        ensures room { length result ≤ length text.now }
     {
         let reader = ReaderBuilder::new()
             .has_headers(false)

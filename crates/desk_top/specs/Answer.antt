@@ -1,11 +1,13 @@
 -- What the program answers: how it ends, and all that it writes.
-use Rattle.std.specs.Prelude.{◌≡◌, ℕ, ◌⊎◌, if◌then◌else◌, ◌==◌, List, codes, Option, None, Some, Result, Ok, Err}
+use Rattle.std.specs.Prelude.{◌≡◌, ℕ, ◌⊎◌, if◌then◌else◌, ◌==◌, List, ◌++◌, codes, Option, None, Some, Result, Ok, Err}
 use Rattle.std.specs.Io.KnownBytes.{Appends, Keeps}
 use Rattle.desk_edge.specs.Transfer.{AppendsBeginning, AppendsPart}
+use Rattle.desk_declare.specs.Faults.{declare_fault_words}
+use Rattle.desk_model.specs.Refusals.{refusal_words}
 use Rattle.desk_top.specs.Check.{checked}
 use Rattle.desk_top.specs.declared.command.Check.{Check}
 use Rattle.desk_top.specs.declared.refusal.Refusal.{Refusal}
-use Rattle.desk_top.specs.declared.refusal.Refusal.TheVariants.{InputTooLong, NotADeclaration}
+use Rattle.desk_top.specs.declared.refusal.Refusal.TheVariants.{InputTooLong, BadDeclaration, Rule}
 use Rattle.desk_top.specs.declared.status.Status.{Status}
 use Rattle.desk_top.specs.declared.status.Status.TheVariants.{Done, BadWords, ConsoleFault, Refused, OutOfMemory}
 use Rattle.desk_top.specs.declared.words.WordsFault.{WordsFault}
@@ -19,10 +21,15 @@ status_code ConsoleFault = 3
 status_code Refused = 6
 status_code OutOfMemory = 8
 
+-- the words of a refusal
+abbrev pub refusal_text : Refusal → List ℕ
+refusal_text InputTooLong = codes "refused input-too-long"
+refusal_text (BadDeclaration fault) = codes "bad-declaration " ++ declare_fault_words fault
+refusal_text (Rule fault) = codes "refused " ++ refusal_words fault
+
 -- the line of a refusal
 abbrev pub refusal_line : Refusal → List ℕ
-refusal_line InputTooLong = codes "refused input-too-long\n"
-refusal_line NotADeclaration = codes "bad-declaration not-a-declaration\n"
+refusal_line refusal = refusal_text refusal ++ codes "\n"
 
 -- how a command ends, and the whole text that it writes
 pub record Answer : Type 0 where

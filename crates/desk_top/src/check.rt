@@ -1,9 +1,11 @@
-ghost use Rattle.std.specs.Prelude.{◌≡◌, ◌≢◌, ◌+◌, ◌≤◌, List, ℕ, length, true, OnOk, IsErrOf, Err, Some};
+ghost use Rattle.std.specs.Prelude.{◌≡◌, ◌≢◌, ◌⊎◌, ◌+◌, ◌≤◌, List, ℕ, length, true, OnOk, IsErrOf, Err, Ok, Some};
 ghost use Rattle.std.specs.Io.KnownBytes.{Consumes, IsAtEnd};
 ghost use Rattle.desk_text.specs.Day.{is_askable};
+ghost use Rattle.desk_model.specs.Declaration.{Declared};
+ghost use Rattle.desk_model.specs.declared.edit.Edit.TheVariants.{Declare};
 ghost use Rattle.desk_edge.specs.Faults.{Rose};
-ghost use Rattle.desk_top.specs.Answer.{Answers, IsInput, answer_to, status_code};
-ghost use Rattle.desk_top.specs.Check.{Agrees, checked, input_limit};
+ghost use Rattle.desk_top.specs.Answer.{Answers, IsInput, answer_of_check, answer_to, status_code};
+ghost use Rattle.desk_top.specs.Check.{Agrees, checked, input_limit, judged};
 
 use crate::command::Check;
 use crate::refusal::Refusal;
@@ -11,7 +13,9 @@ use crate::status::Status;
 use crate::tell::{answer_no_memory, tell};
 use desk_declare::{DeclareFault, read_declaration};
 use desk_edge::{Link, ReadFault, read_up_to, write_all};
+use desk_model::Edit;
 use desk_scratch::{Asked, check_text};
+use desk_tables::Tables;
 use desk_text::{Bytes, OutOfMemory};
 use std::alloc::Global;
 
@@ -19,7 +23,7 @@ use std::alloc::Global;
 pub const INPUT_LIMIT: usize = 65_536;
 
 /// Why `check` has no answer to write.
-#[derive(Clone, Copy, Debug, PartialEq, Eq)]
+#[derive(Debug, Drop)]
 pub enum CheckFault {
     /// The input was read, and is refused.
     Refused(Refusal),
@@ -51,8 +55,8 @@ impl From<DeclareFault> for CheckFault {
 
     fn from(fault: DeclareFault) -> CheckFault {
         match fault {
-            DeclareFault::NotADeclaration => CheckFault::Refused(Refusal::NotADeclaration),
             DeclareFault::OutOfMemory => CheckFault::OutOfMemory,
+            fault => CheckFault::Refused(Refusal::BadDeclaration(fault)),
         }
     }
 }
@@ -90,9 +94,23 @@ pub fn answer_check<L: Link>(alloc: Global, check: &Check, console: &mut L) -> S
             Ok(()) => Status::Done,
             Err(_) => Status::ConsoleFault,
         },
-        Err(CheckFault::Refused(refusal)) => tell(console, Status::Refused, refusal.line()),
+        Err(CheckFault::Refused(refusal)) => answer_refused(alloc, &refusal, console),
         Err(CheckFault::Failed) => Status::ConsoleFault,
         Err(CheckFault::OutOfMemory) => answer_no_memory(console),
+    }
+}
+
+/// Writes why the input is refused.
+fn answer_refused<L: Link>(alloc: Global, refusal: &Refusal, console: &mut L) -> Status
+    ensures status { (result ≡ Status.Refused) ⊎ (result ≡ Status.OutOfMemory) }
+    ensures answer { Answers (answer_of_check (Err refusal.now)) (status_code result)
+        (L.written console.old) (L.written console.new) (Rose (L.faults console.old) (L.faults console.new)) }
+    ensures input_stays { L.unread console.new ≡ L.unread console.old }
+    ensures never_falls { L.faults console.old ≤ L.faults console.new }
+{
+    match refusal.line(alloc) {
+        Ok(line) => tell(console, Status::Refused, line.as_str()),
+        Err(_) => answer_no_memory(console),
     }
 }
 
@@ -129,10 +147,26 @@ pub fn check_bytes(alloc: Global, check: &Check, bytes: &[u8]) -> Result<Bytes, 
     if bytes.len() > INPUT_LIMIT {
         return Err(CheckFault::Refused(Refusal::InputTooLong));
     }
-    let declaration = read_declaration(alloc, bytes)?;
+    let edit = read_declaration(alloc, bytes)?;
+    check_edit(alloc, check, &edit)
+}
+
+/// The answer to `check` for a declaration that was read.
+fn check_edit(alloc: Global, check: &Check, edit: &Edit) -> Result<Bytes, CheckFault>
+    requires askable { is_askable check.now.day ≡ true }
+    requires declares { (d : Declared) × (edit.now ≡ Declare d) }
+    ensures answer { (d : Declared) → edit.now ≡ Declare d → Agrees result (judged check.now (Ok d)) }
+{
+    let Edit::Declare { declaration } = edit else {
+        unreachable!()
+    };
+    let tables = Tables::start(alloc)?;
     let asked = Asked {
         kind: check.kind,
         day: check.day,
     };
-    Ok(check_text(alloc, &asked, &declaration)?)
+    match tables.refused_at_start(declaration) {
+        Some(fault) => Err(CheckFault::Refused(Refusal::Rule(fault))),
+        None => Ok(check_text(alloc, &tables, &asked, declaration)?),
+    }
 }

@@ -48,7 +48,7 @@ const HEAD: &[u8] = b"D,1,ACME,7,2024-01-23";
 
 const ANSWER: &str = "check 2024-01-23 kind 3 supplier ACME declaration 7\ncompliant\n";
 
-const NO_DECLARATION: &str = "bad-declaration not-a-declaration\n";
+const NO_HEAD: &str = "bad-declaration no-head\n";
 
 const TOO_LONG: &str = "refused input-too-long\n";
 
@@ -85,27 +85,94 @@ fn check_answers_a_declaration_however_it_is_cut(rt: HostRuntime) -> Result<(), 
     Ok(())
 }
 
-#[test]
-fn check_refuses_what_is_no_declaration(rt: HostRuntime) -> Result<(), Fail> {
+/// Whether check refuses each input with its line, however it is cut.
+fn are_refused<R: Wait + Sync + Threads>(
+    rt: &R,
+    alloc: Global,
+    inputs: &[(&[u8], &str)],
+) -> Result<bool, Fail> {
     let words = ["check", "2024-01-23", "3"];
-    for input in [
-        b"".as_slice(),
-        b"D,1,ACME,07,2024-01-23",
-        b"D,1,ACME,0,2024-01-23",
-        b"D,1,ACME,7,2024-01-23\nM,SOLDER,Solder paste,0\n",
-        b"D,1,ACME,7,2024-01-23\nS,SOLDER,lead,1000\nM,SOLDER,Solder paste,1000000\n",
-        b"D,1,ACME,7,2024-01-23\nM,SOLDER,Solder paste,1000000\nS,SOLDER,tin,1000\n",
-        b"D,1,ACME,7,2024-01-23\nM,SOLDER,Solder paste,1000\nS,SOLDER,lead,1001\n",
-        b"D,1,ACME,7,2024-01-23\nM,SOLDER,Solder paste,1000000\nM,SOLDER,Solder wire,1000000\n",
-        b"D,1,A\xffCME,7,2024-01-23",
-        b"\xef\xbb\xbf\xef\xbb\xbfD,1,ACME,7,2024-01-23",
-    ] {
+    for (input, line) in inputs {
         for piece in [1, 100_000] {
-            let (status, text) = outcome(&rt, rt.alloc(), &words, input, piece, &[])?;
-            assert_eq!(rt; status, 6);
-            assert_eq!(rt; text.as_slice(), NO_DECLARATION.as_bytes(), "of {input:?}");
+            let (status, text) = outcome(rt, alloc, &words, input, piece, &[])?;
+            if status != 6 || text.as_slice() != line.as_bytes() {
+                return Ok(false);
+            }
         }
     }
+    Ok(true)
+}
+
+#[test]
+fn check_tells_the_first_fault_of_what_is_no_declaration(rt: HostRuntime) -> Result<(), Fail> {
+    let refused = are_refused(
+        &rt,
+        rt.alloc(),
+        &[
+            (b"".as_slice(), NO_HEAD),
+            (b"\xef\xbb\xbf\xef\xbb\xbfD,1,ACME,7,2024-01-23", NO_HEAD),
+            (
+                b"D,1,A\xffCME,7,2024-01-23",
+                "bad-declaration not-text record 1\n",
+            ),
+            (
+                b"D,1,ACME,07,2024-01-23",
+                "bad-declaration bad-field record 1 column 4\n",
+            ),
+            (
+                b"D,1,ACME,7,2024-01-23\nM,SOLDER,Solder paste,01\nS,SOLDER,lead,1000\n",
+                "bad-declaration bad-field record 2 column 4\n",
+            ),
+            (
+                b"D,1,ACME,7,2024-01-23\nM,SOLDER,Paste,9\nM,SOLDER,Paste,9\nS,SOLDER,lead,1\n",
+                "bad-declaration repeated-material record 3\n",
+            ),
+            (
+                b"D,1,ACME,7,2024-01-23\nS,SOLDER,lead,1000\n",
+                "bad-declaration orphan-row record 2\n",
+            ),
+            (
+                b"D,1,ACME,7,2024-01-23\nM,SOLDER,Paste,9\nS,SOLDER,lead,1\nS,SOLDER,lead,1\n",
+                "bad-declaration repeated-row record 4\n",
+            ),
+        ],
+    )?;
+    assert!(rt; refused);
+    Ok(())
+}
+
+#[test]
+fn check_tells_the_rule_that_refuses_a_declaration(rt: HostRuntime) -> Result<(), Fail> {
+    let refused = are_refused(
+        &rt,
+        rt.alloc(),
+        &[
+            (
+                b"D,1,ACME,7,2024-01-23\nM,SOLDER,Paste,9\nS,SOLDER,zinc,1\n".as_slice(),
+                "refused unknown-substance zinc\n",
+            ),
+            (
+                b"D,1,ACME,7,2024-01-23\nM,SOLDER,Paste,9\nS,SOLDER,lead,9\nS,SOLDER,cadmium,1\n",
+                "refused masses-exceed SOLDER\n",
+            ),
+            // The first in order of material and then of substance.
+            (
+                b"D,1,ACME,7,2024-01-23\nM,B,Tin,9\nS,B,a,1\nM,A,Brass,9\nS,A,zinc,1\nS,A,tin,1\n",
+                "refused unknown-substance tin\n",
+            ),
+            // An unknown substance is told before masses, also of a later material.
+            (
+                b"D,1,ACME,7,2024-01-23\nM,A,Brass,9\nS,A,lead,10\nM,B,Tin,9\nS,B,tin,1\n",
+                "refused unknown-substance tin\n",
+            ),
+            // A fault of the bytes is told before a rule.
+            (
+                b"D,1,ACME,7,2024-01-23\nM,A,Brass,9\nS,A,zinc,10\nX\n",
+                "bad-declaration bad-field record 4 column 1\n",
+            ),
+        ],
+    )?;
+    assert!(rt; refused);
     Ok(())
 }
 
@@ -197,7 +264,7 @@ fn each_call_of_the_console_may_fail(rt: HostRuntime) -> Result<(), Fail> {
     let long = vec![in alloc; b'\n'; 65_537]?;
     assert!(rt; ends_well(&rt, alloc, HEAD, 100_000, 2, 0, ANSWER)?);
     assert!(rt; ends_well(&rt, alloc, HEAD, 1, 22, 0, ANSWER)?);
-    assert!(rt; ends_well(&rt, alloc, b"x", 1, 2, 6, NO_DECLARATION)?);
+    assert!(rt; ends_well(&rt, alloc, b"x", 1, 2, 6, NO_HEAD)?);
     assert!(rt; ends_well(&rt, alloc, long.as_slice(), 100_000, 9, 6, TOO_LONG)?);
     Ok(())
 }
@@ -398,6 +465,28 @@ fn toys_under_entry_51_have_a_limit_of_dibp_alone(rt: HostRuntime) -> Result<(),
 }
 
 #[test]
+fn a_claim_without_an_exemption_row_covers_nothing(rt: HostRuntime) -> Result<(), Fail> {
+    let alloc = rt.alloc();
+    let words = ["check", "2024-01-23", "3"];
+    let over = "2000000000 limit 1000000000 breach";
+    let meant = paste_answer(
+        alloc,
+        "2024-01-23 kind 3",
+        over,
+        NO_CADMIUM,
+        NONE,
+        NONE,
+        "not-compliant",
+    )?;
+    let claimed =
+        b"D,1,ACME,7,2024-01-23\nM,SOLDER,Paste,1000000\nS,SOLDER,lead,2000\nE,SOLDER,lead,7(a)\n";
+    let (status, text) = outcome(&rt, alloc, &words, claimed, 100_000, &[])?;
+    assert_eq!(rt; status, 0);
+    assert_eq!(rt; text.as_slice(), meant.as_bytes());
+    Ok(())
+}
+
+#[test]
 fn the_order_of_the_rows_changes_nothing(rt: HostRuntime) -> Result<(), Fail> {
     let alloc = rt.alloc();
     let words = ["check", "2024-01-23", "3"];
@@ -425,8 +514,9 @@ fn check_takes_256_materials(rt: HostRuntime) -> Result<(), Fail> {
         input.extend_from_slice(row.as_bytes())?;
         if number >= 255 {
             let (status, text) = outcome(&rt, alloc, &words, input.as_slice(), 100_000, &[])?;
-            // 52 bytes of the first line, 447 of each block, 914 of the codes in them, 10 of the last line.
-            let (meant, length) = if number == 255 { (0, 115_408) } else { (6, 34) };
+            // 52 bytes of the first line, 447 of each block, 914 of the codes in them, 10 of the last line; and the
+            // line that tells record 258.
+            let (meant, length) = if number == 255 { (0, 115_408) } else { (6, 41) };
             assert_eq!(rt; status, meant);
             assert_eq!(rt; text.len(), length);
         }

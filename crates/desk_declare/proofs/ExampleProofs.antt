@@ -1,0 +1,48 @@
+-- The examples hold by computation.
+use Rattle.std.proofs.Common.{refl, Bool, true}
+use Rattle.std.specs.Fmt.{digits}
+use Rattle.csv.specs.Records.{field_at}
+use Rattle.desk_text.specs.Code.{code_of, exemption_number_of}
+use Rattle.desk_text.specs.Day.{day_of}
+use Rattle.desk_text.specs.Number.{number_below}
+use Rattle.desk_law.specs.Rule.{rule_code, rule_number, rule_of}
+use Rattle.desk_model.specs.Declaring.{claim_added, material_added, substance_added}
+use Rattle.desk_declare.specs.Columns.{read_in}
+use Rattle.desk_declare.specs.Declaration.{declaration_in}
+use Rattle.desk_declare.specs.Examples.Rows.{FaultExamples, ReadExamples}
+use Rattle.desk_declare.specs.Faults.{declare_fault_words}
+use Rattle.desk_declare.specs.Forms.{a_code, a_day, a_declaration_number, a_mass, a_name, a_rule, a_substance_mass, an_exemption_number}
+
+-- what the examples compute with
+unfoldable pub examples : Bool
+unfolding a_code a_day a_declaration_number a_mass a_name a_rule a_substance_mass an_exemption_number claim_added code_of day_of declaration_in declare_fault_words digits exemption_number_of field_at material_added number_below read_in rule_code rule_number rule_of substance_added
+examples = true
+
+pub read_examples : ReadExamples
+unfolding examples
+read_examples = record {
+  the_head = refl;
+  a_substance = refl;
+  a_lesser_substance = refl;
+  a_claim = refl;
+}
+
+pub fault_examples : FaultExamples
+unfolding examples
+fault_examples = record {
+  nothing = refl;
+  no_head = refl;
+  other_version = refl;
+  cut_head = refl;
+  long_head = refl;
+  second_head = refl;
+  bad_code = refl;
+  bad_mass = refl;
+  first_of_two = refl;
+  column_missing = refl;
+  column_too_many = refl;
+  orphan = refl;
+  repeated_substance = refl;
+  repeated_claim = refl;
+  words = refl;
+}
