@@ -1,4 +1,5 @@
 pub mod AnswerLemmas
+pub mod FrontLemmas
 pub mod HeadLemmas
 pub mod LaterLemmas
 pub mod LinesLemmas

@@ -132,7 +132,7 @@ same_end rest stream.body_too_long other x y = same_headed rest x.0 stream.body_
 -- ---- streams
 
 -- where a request begins a rest the stream doesn't end
-no_end : (rest : List ℕ) (m : Message) (more : List ℕ) (end : End) → BeginsWith rest m more → EndsAs rest end → ⊥
+pub no_end : (rest : List ℕ) (m : Message) (more : List ℕ) (end : End) → BeginsWith rest m more → EndsAs rest end → ⊥
 no_end rest m more end x y =
     let clean : end ≡ stream.clean = headed_end rest x.h end x.head.head y ∙ ap end_at (answer_whole rest m more x) in
     let empty : rest ≡ [] = subst (λ v. EndsAs rest v) clean y in
@@ -180,7 +180,7 @@ over_behind rest more ms e true goes over x = x
 over_behind rest more ms e false goes over x = goes over x
 
 -- and what follows a stream that is over
-over_later : (bytes more : List ℕ) (ms : List Message) (e : End) → IsTrue (is_ended ms e) → IsStream bytes ms e
+pub over_later : (bytes more : List ℕ) (ms : List Message) (e : End) → IsTrue (is_ended ms e) → IsStream bytes ms e
     → IsStream (bytes ++ more) ms e
 over_later bytes more [] e over x = refused_later bytes more e over x
 over_later bytes more (m ∷ ms) e over x = (

@@ -1,6 +1,7 @@
 pub mod Endpoints
 pub mod Faults
 pub mod Fields
+pub mod Front
 pub mod Head
 pub mod Limits
 pub mod Lines

@@ -1,6 +1,6 @@
 //! What holds of requests and streams whatever they are. Each function is called for its clause alone.
 
-ghost use Rattle.std.specs.Prelude.{◌≡◌, ◌≢◌, ℕ, ◌+◌, ◌<◌, ◌≤◌, ◌⊎◌, false, List, [], ◌++◌, length, IsTrue, IfSome, IfNone};
+ghost use Rattle.std.specs.Prelude.{◌≡◌, ◌≢◌, ℕ, ◌+◌, ◌<◌, ◌≤◌, ◌⊎◌, false, true, List, [], ◌++◌, length, IsTrue, IfSome, IfNone, Some};
 ghost use Rattle.std.specs.List.{flat_map};
 ghost use Rattle.httparse.specs.Grammar.{RequestHead, IsRequestHead, print_request};
 ghost use Rattle.desk_http.specs.Limits.{head_limit, body_limit};
@@ -8,7 +8,10 @@ ghost use Rattle.desk_http.specs.declared.request.Request.{Request};
 ghost use Rattle.desk_http.specs.declared.taken.Taken.{Taken};
 ghost use Rattle.desk_http.specs.Reader.{Event, pieces_of, requests_of, IsReadAs};
 ghost use Rattle.desk_http.specs.Rest.{Message, BeginsWith, IsInDoubt};
-ghost use Rattle.desk_http.specs.Stream.{End, IsStream, HasRequests, IsSameEnd};
+ghost use Rattle.desk_http.specs.Front.{LeadsTo, last_reply, open_end, refusal_at, refusal_of};
+ghost use Rattle.desk_http.specs.Reply.{fixed_reply};
+ghost use Rattle.desk_http.specs.Stream.{End, EndsAs, IsStream, HasRequests, IsSameEnd, is_ended};
+ghost use Rattle.desk_http.specs.declared.fixed.Fixed.{Fixed};
 ghost use Rattle.desk_http.specs.Taken.{Takes, answer_of, may_replace};
 
 use crate::take::take_request;
@@ -84,4 +87,30 @@ pub fn pieces_make_no_difference()
     ensures same { (bytes : List ℕ) (events others : List Event) (e f : End)
         → IsReadAs bytes events e → IsReadAs bytes others f
         → (requests_of events ≡ requests_of others) × IsSameEnd bytes (requests_of events) e f }
+{}
+
+/// Requests at the front of bytes stay there whatever follows, and further ones behind them are at the front too. Every stream of
+/// the bytes begins with them, and goes on as what is behind them does.
+pub fn requests_stay_at_the_front()
+    ensures later { (bytes more rest : List ℕ) (ms : List Message) → LeadsTo bytes ms rest → LeadsTo (bytes ++ more) ms (rest ++ more) }
+    ensures onward { (bytes behind rest : List ℕ) (ms ns : List Message) → LeadsTo bytes ms behind → LeadsTo behind ns rest
+        → LeadsTo bytes (ms ++ ns) rest }
+    ensures stream { (bytes rest : List ℕ) (ms ns : List Message) (end : End) → LeadsTo bytes ms rest → IsStream rest ns end
+        → IsStream bytes (ms ++ ns) end }
+    ensures first { (bytes rest : List ℕ) (ms all : List Message) (end : End) → LeadsTo bytes ms rest → IsStream bytes all end
+        → (ns : List Message) × (all ≡ ms ++ ns) × IsStream rest ns end }
+{}
+
+/// What follows a request that closes, or what is refused, counts for nothing.
+pub fn an_ended_stream_stays_ended()
+    ensures { (bytes more : List ℕ) (ms : List Message) (end : End) → IsTrue (is_ended ms end) → IsStream bytes ms end
+        → IsStream (bytes ++ more) ms end }
+{}
+
+/// Where a front is no request, a stream that ends there ends so: what is no request yet is nothing or a part of one, and what is
+/// refused is answered the refusal, with the line that closes.
+pub fn what_is_left_ends_a_stream()
+    ensures not_yet { (bytes : List ℕ) → Takes bytes Taken.NotYet → EndsAs bytes (open_end bytes) }
+    ensures refused { (bytes : List ℕ) (taken : Taken) (refused : Fixed) → Takes bytes taken → refusal_of taken ≡ Some refused
+        → (end : End) × EndsAs bytes end × (refusal_at end ≡ Some refused) × (last_reply end ≡ fixed_reply refused true) }
 {}

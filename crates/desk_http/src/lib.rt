@@ -24,8 +24,9 @@ pub use ask::Ask;
 pub use fixed::{Fixed, fixed_reply};
 pub use http_fault::{HttpFault, QueryKey};
 pub use laws::{
-    answers_last, each_stream_has_requests, no_head_begins_another, one_answer,
-    pieces_make_no_difference, request_is_bounded,
+    an_ended_stream_stays_ended, answers_last, each_stream_has_requests, no_head_begins_another,
+    one_answer, pieces_make_no_difference, request_is_bounded, requests_stay_at_the_front,
+    what_is_left_ends_a_stream,
 };
 pub use limits::{BODY_BYTES, HEAD_BYTES, HEAD_LINES};
 pub use method::Method;

@@ -1,3 +1,7 @@
+ghost use Rattle.std.specs.Prelude.{◌≡◌};
+ghost use Rattle.desk_http.specs.Front.{refusal_of};
+
+use crate::fixed::Fixed;
 use crate::request::Request;
 
 /// What the front of a buffer is.
@@ -17,4 +21,19 @@ pub enum Taken {
     NoLength,
     /// The head gives its body a length over 65,536 bytes.
     BodyTooLong,
+}
+
+impl Taken {
+    /// The refusal of a front that is no request and never will be, if it is one. Its reply closes the connection.
+    pub fn refusal(&self) -> Option<Fixed>
+        ensures { result ≡ refusal_of self.now }
+    {
+        match self {
+            Taken::Whole(_) | Taken::NotYet => None,
+            Taken::BadHead => Some(Fixed::BadHead),
+            Taken::HeadTooLong => Some(Fixed::HeadTooLong),
+            Taken::NoLength => Some(Fixed::LengthRequired),
+            Taken::BodyTooLong => Some(Fixed::BodyTooLong),
+        }
+    }
 }
