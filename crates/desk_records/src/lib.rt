@@ -1,0 +1,15 @@
+//! The tables as records that any store can keep: each row is one record, in one spelling.
+#![tactic(auto)]
+
+pub mod laws;
+mod plan_records;
+mod row_record;
+mod table_records;
+mod table_row;
+#[cfg(test)]
+mod tests;
+
+pub use desk_fields::RowFault as RecordFault;
+pub use plan_records::changes;
+pub use row_record::{read_record, write_record};
+pub use table_records::records_of;

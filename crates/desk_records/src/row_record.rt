@@ -1,0 +1,62 @@
+ghost use Rattle.std.specs.Prelude.{◌≡◌, Err, IfOk};
+ghost use Rattle.desk_fields.specs.RowTexts.{HasVersion};
+ghost use Rattle.desk_model.specs.declared.row.Row.{Row};
+ghost use Rattle.desk_model.specs.Rows.{table_number};
+ghost use Rattle.desk_records.specs.Records.{IsRecordOf, record_of};
+
+use crate::RecordFault;
+use desk_edge::Record;
+use desk_fields::{read_row, row_body, row_code};
+use desk_model::Row;
+use desk_text::{Bytes, OutOfMemory};
+use std::alloc::Global;
+
+/// The record of a row: the number of its table as the kind, its code, and its text as the body.
+///
+/// `OutOfMemory`: none was left for the record.
+pub fn write_record(alloc: Global, row: &Row) -> Result<Record, OutOfMemory>
+    ensures { IfOk result (λ kept. kept ≡ record_of row.now) }
+{
+    let mut code = Bytes::start(alloc);
+    row_code(row, &mut code)?;
+    let mut body = Bytes::start(alloc);
+    row_body(row, &mut body)?;
+    Ok(Record {
+        kind: kind_of(row),
+        code,
+        body,
+    })
+}
+
+/// The number of the row's table.
+#[tactic(auto, unfolding(desk_model::specs::Rows::table_number))]
+fn kind_of(row: &Row) -> u8
+    ensures { result ≡ table_number row.now }
+{
+    match row {
+        Row::Substance(_) => 1,
+        Row::Member(_) => 2,
+        Row::Material(_) => 3,
+        Row::Part(_) => 4,
+        Row::Line(_) => 5,
+        Row::Product(_) => 6,
+        Row::Exemption(_) => 7,
+        Row::Candidate(_) => 8,
+        Row::Shipment(_) => 9,
+        Row::Ticket(_) => 10,
+    }
+}
+
+/// The row that has this record.
+///
+/// `Version`: the first field of the body isn't `1`. `Shape`: it is, and no row has this record: its kind is no
+/// table's, its code or a field has another form or another spelling, a value is out of range, or a field is
+/// missing or too many. `OutOfMemory`: there was no memory to read it.
+pub fn read_record(alloc: Global, kept: &Record) -> Result<Row, RecordFault>
+    ensures row { IfOk result (λ row. IsRecordOf row kept.now) }
+    ensures version { result ≡ Err RecordFault.Version → HasVersion kept.now.body → ⊥ }
+    ensures versioned { result ≡ Err RecordFault.Shape → HasVersion kept.now.body }
+    ensures shape { result ≡ Err RecordFault.Shape → (row : Row) → IsRecordOf row kept.now → ⊥ }
+{
+    read_row(alloc, kept.kind, kept.code.as_slice(), kept.body.as_slice())
+}
