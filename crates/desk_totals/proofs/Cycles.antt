@@ -1,26 +1,27 @@
 -- Bills without cycles, by heights that fall along each line, and parts that reach themselves, by rounds from blank bits.
-use Rattle.std.proofs.Common.{◌≡◌, ℕ, zero, suc, ◌+◌, ◌-◌, ◌<◌, ◌≤◌, true, false, not, ◌&&◌, ◌||◌, List, [], ◌∷◌, ◌++◌, length, get_or, map, replicate, refl, sym, ap, ◌∙◌, subst, inl, inr, arith}
+use Rattle.std.proofs.Common.{◌≡◌, ℕ, zero, suc, ◌+◌, ◌-◌, ◌<◌, ◌≤◌, true, false, not, ◌&&◌, ◌||◌, List, [], ◌∷◌, ◌++◌, length, get_or, map, replicate, refl, sym, ap, ◌∙◌, subst, inl, inr, arith, Option, Some, None, MatchOption}
 use Rattle.std.specs.Prelude.{◌==◌, nat_lt}
 use Rattle.std.specs.List.{AllByRecursion, list_all, list_any}
-use Rattle.std.proofs.lemmas.Bool.{false≢true, false_from_ne_true, not_from_false, or_cases}
+use Rattle.std.proofs.lemmas.Bool.{and_parts, eqb-true, false≢true, false_from_ne_true, not_from_false, or_cases}
 use Rattle.std.proofs.lemmas.Bool.Decides.{nat_tests}
-use Rattle.std.proofs.lemmas.List.{get_or-append-add, get_or-replicate, length-append, length-map, length-replicate}
+use Rattle.std.proofs.lemmas.List.{get_or-append-add, get_or-map, get_or-replicate, length-append, length-map, length-replicate}
 use Rattle.std.proofs.lemmas.List.Elements.{recursion_from_All}
-use Rattle.desk_text.specs.Code.{code_cmp, same_code}
+use Rattle.desk_text.specs.Code.{same_code}
 use Rattle.desk_model.specs.declared.rows.line.LineRow.{LineRow}
-use Rattle.desk_model.specs.Lists.{Lists, is_part}
+use Rattle.desk_model.specs.Lists.{Lists}
 use Rattle.desk_model.proofs.Elements.{all_from_each, any-filter, any-map, any_gives, any_none, any_same, each, each_both, each_filter, each_from_all, each_in_map, each_map, each_of_map}
-use Rattle.desk_model.proofs.Kept.{code_cmp_total, each_kept, same_code-true}
+use Rattle.desk_model.proofs.Kept.{same_code-true}
 use Rattle.desk_findings.specs.Bill.{are_parents_kept, is_acyclic}
 use Rattle.desk_findings.specs.Reaches.{enough, is_or_reaches, lines_of, reaches, reaches_within}
 use Rattle.desk_findings.proofs.Bill.{has_parents, reaches-deeper, reaches-step}
 use Rattle.desk_findings.proofs.FindingRolls.{same_code_back}
 use Rattle.desk_totals.proofs.BitsGoUp.{has_bit-lines}
 use Rattle.desk_totals.proofs.CountsGoUp.{same_place}
-use Rattle.desk_totals.proofs.Distinct.{among_at, each_at, place_of_among}
+use Rattle.desk_totals.proofs.Distinct.{among_at, place_of_among}
 use Rattle.desk_totals.proofs.Scatter.{value_of-at, value_of-map}
 use Rattle.desk_totals.proofs.Settle.{parts-le}
 use Rattle.desk_totals.specs.declared.link.Link.{Link}
+use Rattle.desk_totals.specs.Cycles.{IsOnCycle}
 use Rattle.desk_totals.specs.Linked.{IsBillOf, Linked, are_distinct, is_among}
 use Rattle.desk_totals.specs.Marks.{has_bit, with_bits}
 use Rattle.desk_totals.specs.Places.{ArePlaces, line_at, node_at}
@@ -86,16 +87,6 @@ part_place t bill of i =
     ap (λ nodes. node_at nodes (bill.material_count + i)) of.nodes
     ∙ ap (λ n. node_at (map (λ row. row.code) t.materials ++ map (λ row. row.code) t.parts) (n + i)) (of.material_count ∙ sym (length-map t.materials (λ row. row.code)))
     ∙ get_or-append-add (map (λ row. row.code) t.materials) (map (λ row. row.code) t.parts) i []
-
--- each node behind the materials is a part
-pub part_at : (t : Lists) (bill : Linked) → IsBillOf bill t → (place : ℕ) → bill.material_count ≤ place → place < length bill.nodes → is_part t (node_at bill.nodes place) ≡ true
-part_at t bill of place from within =
-    let e : place ≡ bill.material_count + (place - bill.material_count) = omega (arith, from) in
-    let few : place - bill.material_count < length (map (λ row. row.code) t.parts) =
-    omega (arith, within, from, ap length of.nodes, length-append (map (λ row. row.code) t.materials) (map (λ row. row.code) t.parts), length-map t.materials (λ row. row.code), of.material_count) in
-    ap (is_part t) (ap (node_at bill.nodes) e ∙ part_place t bill of (place - bill.material_count))
-    ∙ each_at (λ code. is_part t code ≡ true) (map (λ row. row.code) t.parts) (place - bill.material_count) few
-    (each_of_map (λ code. is_part t code ≡ true) (λ row. row.code) t.parts (each_kept (λ row. row.code) code_cmp code_cmp_total t.parts))
 
 each_from_at : (P : List ℕ → Type 0) (codes : List (List ℕ)) → ((i : ℕ) → i < length codes → P (node_at codes i)) → AllByRecursion P codes
 each_from_at P [] f = tt
@@ -193,3 +184,29 @@ reaches_itself_by_links t bill of distinct children parents links lines places o
     ∙ ap (list_any (λ line. same_code line.parent target && is_or_reaches t line.child target)) (sym lines ∙ of.lines)
     ∙ sym (any-filter (λ line. same_code line.parent target) (λ line. is_or_reaches t line.child target) t.lines)
     ∙ sym (reaches-step t (has_parents t parents) target target)
+
+-- a link from a node to what is the node or reaches it stands for a line on a cycle; where there is none the node doesn't reach itself
+pub line_by_link : (t : Lists) (bill : Linked) (of : IsBillOf bill t) (distinct : are_distinct bill.nodes ≡ true) (children : AllByRecursion (λ line. is_among line.child bill.nodes ≡ true) t.lines) (parents : are_parents_kept t ≡ true)
+    (links : List Link) (lines : bill.lines ≡ map (line_at bill.nodes) links) (places : ArePlaces (length bill.nodes) links) (own bits : List ℕ) (place : ℕ) (within : place < length bill.nodes)
+    (its_own : (code : List ℕ) → is_among code bill.nodes ≡ true → has_bit 0 (value_of 0 bill.nodes own code) ≡ same_code code (node_at bill.nodes place)) (size : length bits ≡ length bill.nodes)
+    (so : bits ≡ rounds with_bits 0 bill own (length bill.nodes + 2) (replicate (length bill.nodes) 0)) (found : Option ℕ) →
+    MatchOption found (list_any (λ link. link.parent == place && has_bit 0 (get_or bits link.child 0)) links ≡ false)
+    (λ i. (i < length links) × ((d : Link) → ((get_or links i d).parent == place && has_bit 0 (get_or bits (get_or links i d).child 0)) ≡ true)) →
+    MatchOption found (reaches t (node_at bill.nodes place) (node_at bill.nodes place) ≡ false) (IsOnCycle t)
+line_by_link t bill of distinct children parents links lines places own bits place within its_own size so None none =
+    sym (reaches_itself_by_links t bill of distinct children parents links lines places own bits place within its_own size so) ∙ none
+line_by_link t bill of distinct children parents links lines places own bits place within its_own size so (Some i) found =
+    let all : t.lines ≡ map (line_at bill.nodes) links = sym of.lines ∙ lines in (
+      omega (arith, found.0, ap length all, length-map links (line_at bill.nodes)),
+      λ d.
+          let blank : Link = record { parent = 0; child = 0; count = 0 } in
+          let link : Link = get_or links i blank in
+          let test = and_parts (link.parent == place) (has_bit 0 (get_or bits link.child 0)) (found.1 blank) in
+          let parent : link.parent ≡ place = eqb-true link.parent place test.0 in
+          let inside = places i blank found.0 in
+          let reached : is_or_reaches t (node_at bill.nodes link.child) (node_at bill.nodes place) ≡ true =
+          sym (ap (has_bit 0) (sym (value_of-at 0 bill.nodes bits link.child distinct inside.1 size)) ∙ above t bill of children own (node_at bill.nodes place) its_own distinct parents bits so (node_at bill.nodes link.child) (among_at bill.nodes link.child inside.1))
+          ∙ test.1 in
+          let line : get_or t.lines i d ≡ line_at bill.nodes link = ap (λ list. get_or list i d) all ∙ get_or-map (line_at bill.nodes) links i blank d found.0 in
+          subst (λ one. is_or_reaches t one.child one.parent ≡ true) (sym line) (subst (λ n. is_or_reaches t (node_at bill.nodes link.child) (node_at bill.nodes n) ≡ true) (sym parent) reached),
+    )

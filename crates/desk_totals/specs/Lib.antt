@@ -1,3 +1,4 @@
+pub mod Cycles
 pub mod Fit
 pub mod Laws
 pub mod Linked

@@ -1,8 +1,10 @@
-ghost use Rattle.std.specs.Prelude.{◌≡◌, ◌==◌, ◌&&◌, ◌<◌, ◌≤◌, true, length, nat_lt, slice_index, IfOk, IfSome, MatchOption};
+ghost use Rattle.std.specs.Prelude.{◌≡◌, ◌==◌, ◌&&◌, ◌<◌, ◌≤◌, true, false, length, nat_lt, slice_index, slice_index_or, IfOk, IfSome, MatchOption};
 ghost use Rattle.std.specs.List.{list_all, list_any};
-ghost use Rattle.desk_model.specs.Lists.{Lists, is_part};
+ghost use Rattle.desk_model.specs.Lists.{Lists};
 ghost use Rattle.desk_findings.specs.Bill.{are_parents_kept, is_acyclic};
 ghost use Rattle.desk_findings.specs.Reaches.{reaches};
+ghost use Rattle.desk_totals.specs.declared.link.Link.{Link};
+ghost use Rattle.desk_totals.specs.Cycles.{IsOnCycle};
 ghost use Rattle.desk_totals.specs.Linked.{IsBillOf};
 ghost use Rattle.desk_totals.specs.Marks.{has_bit};
 ghost use Rattle.desk_totals.specs.Places.{ArePlaces, node_at};
@@ -12,25 +14,27 @@ use crate::guess::place_on_cycle;
 use crate::link::Link;
 use crate::links::Links;
 use crate::reach::{bits_at_target, has_lowest};
-use desk_text::{Code, OutOfMemory};
+use desk_text::OutOfMemory;
 use std::alloc::Global;
 
 impl Links {
-    /// A part that reaches itself, or None where no part does: then the bill is acyclic.
+    /// The place of a line on a cycle: its child is its parent or reaches it. None where there is none: then the bill
+    /// is acyclic.
     ///
-    /// It takes two passes over the lines where there is none. Where there is one it takes, for a part that a guess found, a pass
-    /// over the lines for each step of the longest way to it; and that for each part, if the guess was wrong.
-    pub fn part_on_cycle(&self, alloc: Global) -> Result<Option<Code>, OutOfMemory>
+    /// It takes two passes over the lines where there is none. Where there is one it takes, for a part that a guess
+    /// found, a pass over the lines for each step of the longest way to it; and that for each part, if the guess was
+    /// wrong.
+    pub fn line_on_cycle(&self, alloc: Global) -> Result<Option<usize>, OutOfMemory>
         ensures { (t : Lists) → IsBillOf self.now t → are_parents_kept t ≡ true
-            → IfOk result (λ part. MatchOption part (is_acyclic t ≡ true) (λ code. (is_part t code ≡ true) × (reaches t code code ≡ true))) }
+            → IfOk result (λ line. MatchOption line (is_acyclic t ≡ true) (IsOnCycle t)) }
     {
         let heights = guessed_heights(alloc, self)?;
         if does_fall(self.links(), heights.as_slice()) {
             return Ok(None);
         }
         let guess = place_on_cycle(alloc, self)?;
-        match part_at_on_cycle(alloc, self, guess)? {
-            Some(part) => Ok(Some(part)),
+        match line_from(alloc, self, guess)? {
+            Some(line) => Ok(Some(line)),
             None => first_on_cycle(alloc, self),
         }
     }
@@ -73,62 +77,56 @@ fn does_fall(links: &[Link], heights: &[usize]) -> bool
     true
 }
 
-/// The node at the place, where it is a part and reaches itself.
-fn part_at_on_cycle(alloc: Global, bill: &Links, place: usize) -> Result<Option<Code>, OutOfMemory>
+/// The place of a line of the node at the place, where that is a node, whose child is the node or reaches it.
+fn line_from(alloc: Global, bill: &Links, place: usize) -> Result<Option<usize>, OutOfMemory>
     ensures { (t : Lists) → IsBillOf bill.now t → are_parents_kept t ≡ true
-        → IfOk result (λ part. IfSome part (λ code. (is_part t code ≡ true) × (reaches t code code ≡ true))) }
+        → IfOk result (λ line. IfSome line (IsOnCycle t)) }
 {
-    let nodes = bill.nodes();
-    if place < bill.material_count() {
+    if place >= bill.nodes().len() {
         return Ok(None);
     }
-    if place >= nodes.len() {
-        return Ok(None);
-    }
-    let is_found = reaches_itself(alloc, bill, place)?;
-    if is_found {
-        return Ok(Some(nodes[place]));
-    }
-    Ok(None)
+    line_to_itself(alloc, bill, place)
 }
 
-/// The first part that reaches itself.
-fn first_on_cycle(alloc: Global, bill: &Links) -> Result<Option<Code>, OutOfMemory>
+/// The place of a line of the first part that reaches itself, whose child is the part or reaches it.
+fn first_on_cycle(alloc: Global, bill: &Links) -> Result<Option<usize>, OutOfMemory>
     ensures { (t : Lists) → IsBillOf bill.now t → are_parents_kept t ≡ true
-        → IfOk result (λ part. MatchOption part (is_acyclic t ≡ true) (λ code. (is_part t code ≡ true) × (reaches t code code ≡ true))) }
+        → IfOk result (λ line. MatchOption line (is_acyclic t ≡ true) (IsOnCycle t)) }
 {
-    let nodes = bill.nodes();
-    for place in bill.material_count()..nodes.len() {
-        let is_found = reaches_itself(alloc, bill, place)?;
-        if is_found {
-            return Ok(Some(nodes[place]));
+    for place in bill.material_count()..bill.nodes().len() {
+        if let Some(line) = line_to_itself(alloc, bill, place)? {
+            return Ok(Some(line));
         }
     }
     Ok(None)
 }
 
-/// Whether the node at the place reaches itself.
-fn reaches_itself(alloc: Global, bill: &Links, place: usize) -> Result<bool, OutOfMemory>
+/// The place of a line of the node at the place whose child is the node or reaches it. None where the node doesn't
+/// reach itself.
+fn line_to_itself(alloc: Global, bill: &Links, place: usize) -> Result<Option<usize>, OutOfMemory>
     requires { place < length bill.now.nodes }
     ensures { (t : Lists) → IsBillOf bill.now t → are_parents_kept t ≡ true
-        → IfOk result (λ does. does ≡ reaches t (node_at bill.now.nodes place) (node_at bill.now.nodes place)) }
+        → IfOk result (λ line. MatchOption line (reaches t (node_at bill.now.nodes place) (node_at bill.now.nodes place) ≡ false) (IsOnCycle t)) }
 {
     let nodes = bill.nodes();
     let own = bits_at_target(alloc, nodes, &nodes[place])?;
     let blank = vec![in alloc; 0; nodes.len()]?;
     let bits = rounds_of_bits(alloc, bill, own.as_slice(), blank)?;
-    Ok(has_child_above(bill.links(), bits.as_slice(), place))
+    Ok(link_to_bit(bill.links(), bits.as_slice(), place))
 }
 
-/// Whether a link from the place leads to a node with the lowest bit.
-fn has_child_above(links: &[Link], bits: &[u64], place: usize) -> bool
+/// The place of the first link from the node that leads to a node with the lowest bit.
+fn link_to_bit(links: &[Link], bits: &[u64], place: usize) -> Option<usize>
     requires { ArePlaces (length bits.now) links.now }
-    ensures { result ≡ list_any (λ link. link.parent == place && has_bit 0 (slice_index bits.now link.child)) links.now }
+    ensures { MatchOption result
+        (list_any (λ link. link.parent == place && has_bit 0 (slice_index bits.now link.child)) links.now ≡ false)
+        (λ at. (at < length links.now)
+        × ((d : Link) → ((slice_index_or links.now at d).parent == place && has_bit 0 (slice_index bits.now (slice_index_or links.now at d).child)) ≡ true)) }
 {
-    for link in links {
+    for (index, link) in links.iter().enumerate() {
         if (link.parent == place) & has_lowest(bits[link.child]) {
-            return true;
+            return Some(index);
         }
     }
-    false
+    None
 }

@@ -176,6 +176,21 @@ fn parts_that_reach_each_node_are_counted(rt: HostRuntime) -> Result<(), Fail> {
     Ok(())
 }
 
+#[test]
+fn what_a_node_is_or_reaches_is_told_target_by_target(rt: HostRuntime) -> Result<(), Fail> {
+    let alloc = rt.alloc();
+    let bill = kettle(alloc)?;
+    assert_eq!(rt; bill.nodes().len(), 5);
+    let marks = bill.reached_among(alloc, 4, &[4, 0, 2, 1, 3])?;
+    assert_eq!(rt;
+        marks.as_slice(),
+        [true, true, false, true, false].as_slice()
+    );
+    let marks = bill.reached_among(alloc, 0, &[0, 1])?;
+    assert_eq!(rt; marks.as_slice(), [true, false].as_slice());
+    Ok(())
+}
+
 /// A line that is set, put in or taken out at a place.
 #[derive(Drop)]
 enum Change {
@@ -224,13 +239,12 @@ fn a_changed_line_changes_the_masses_above_it(rt: HostRuntime) -> Result<(), Fai
 }
 
 #[test]
-fn a_line_that_closes_a_cycle_puts_a_part_on_it(rt: HostRuntime) -> Result<(), Fail> {
+fn a_line_on_a_cycle_is_told(rt: HostRuntime) -> Result<(), Fail> {
     let alloc = rt.alloc();
-    assert_eq!(rt; kettle(alloc)?.part_on_cycle(alloc)?, None);
+    assert_eq!(rt; kettle(alloc)?.line_on_cycle(alloc)?, None);
     let bill = changed(alloc, Change::Insert(1, line("cable", "kettle", 1)?))?;
-    let on_cycle = codes(alloc, &["cable", "kettle"])?;
-    let part = bill.part_on_cycle(alloc)?;
-    assert!(rt; part.is_some_and(|part| is_among(&part, on_cycle.as_slice())));
+    let place = bill.line_on_cycle(alloc)?;
+    assert!(rt; place == Some(1) || place == Some(3));
     Ok(())
 }
 
@@ -334,5 +348,20 @@ fn more_nodes_are_counted_than_a_number_has_bits(rt: HostRuntime) -> Result<(), 
     assert_eq!(rt; (counts[0], counts[1]), (80, 80));
     assert_eq!(rt; (counts[2], counts[63], counts[64]), (78, 18, 16));
     assert_eq!(rt; (counts[80], counts[81]), (0, 0));
+    Ok(())
+}
+
+#[test]
+fn more_targets_are_told_than_a_number_has_bits(rt: HostRuntime) -> Result<(), Fail> {
+    let alloc = rt.alloc();
+    let bill = layers(alloc, 40, 3)?;
+    let count = bill.nodes().len();
+    let places = places_below(alloc, count)?;
+    if count <= 40 {
+        return Err(Fail::new("too few layers"));
+    }
+    let marks = bill.reached_among(alloc, 40, places.as_slice())?;
+    assert_eq!(rt; marks.len(), 82);
+    assert_eq!(rt; marks.iter().filter(|mark| **mark).count(), 41);
     Ok(())
 }

@@ -1,23 +1,8 @@
-use Rattle.std.proofs.Common.{◌≡◌, ◌<◌, [], length, sym, ap, subst, ◌∙◌, arith}
-use Rattle.std.proofs.lemmas.List.{get_or_read}
-use Rattle.desk_findings.specs.Reaches.{reaches}
-use Rattle.desk_model.specs.Lists.{is_part}
-use Rattle.desk_totals.proofs.Cycles.{acyclic_by_parts, part_at}
-use Rattle.desk_totals.specs.Places.{node_at}
+use Rattle.std.proofs.Common.{length, ap, arith}
+use Rattle.desk_totals.proofs.Cycles.{acyclic_by_parts}
 use Rattle.desk_totals.proofs.acyclic.first_on_cycle.Goals as goal
-
-pub returns-then-is_found : goal.returns-then-is_found
-returns-then-is_found c t of parents =
-    let bill = c.args.bill.now in
-    let place = c.loop-place.place in
-    let within : place < length bill.nodes = subst (λ nodes. place < length nodes) c.nodes-nodes.ensures.nodes c.loop-place-test.true in
-    let read : c.index-nodes-place.result ≡ node_at bill.nodes place =
-    get_or_read c.nodes-nodes.result.now place c.index-nodes-place.result c.loop-place-test.true c.index-nodes-place.is [] ∙ ap (λ nodes. node_at nodes place) c.nodes-nodes.ensures.nodes in (
-      ap (is_part t) read ∙ part_at t bill of place (omega (arith, c.material_count-place.ensures.count, c.loop-place.auto.place)) within,
-      ap (λ code. reaches t code code) read ∙ sym (c.in_ok-is_found.ensures t of parents) ∙ c.if-is_found.true,
-    )
 
 pub returns : goal.returns
 returns c t of parents =
     acyclic_by_parts t c.args.bill.now of
-    (λ place from within. c.loop-place.invariant t of parents place from (omega (arith, within, c.loop-place-test.false, ap length c.nodes-nodes.ensures.nodes)))
+    (λ place from within. c.loop-place.invariant t of parents place from (omega (arith, within, c.loop-place-test.false, ap length c.nodes-place-end.ensures.nodes)))

@@ -2,7 +2,7 @@ use Rattle.std.proofs.Common.{get_or, sym, ap, ◌∙◌}
 use Rattle.std.specs.Prelude.{nat_lt}
 use Rattle.std.specs.List.{list_all}
 use Rattle.desk_totals.proofs.Cycles.{acyclic_by_heights}
-use Rattle.desk_totals.proofs.links.Links.part_on_cycle.Goals as goal
+use Rattle.desk_totals.proofs.links.Links.line_on_cycle.Goals as goal
 
 pub returns-then-does_fall : goal.returns-then-does_fall
 returns-then-does_fall c t of parents =
