@@ -1,8 +1,8 @@
 -- An unsound desk has a row that breaks a clause, and a sound one has none.
-use Rattle.std.proofs.Common.{◌≡◌, ℕ, zero, suc, ◌^◌, ◌<◌, Bool, true, false, not, ◌&&◌, ◌||◌, List, [], ◌∷◌, ◌++◌, length, map, sum_by, get_or, refl, sym, ap, ◌∙◌, subst, ◌⊎◌, inl, inr, ⊎_elim, arith}
+use Rattle.std.proofs.Common.{◌≡◌, ℕ, zero, suc, ◌^◌, ◌<◌, Bool, true, false, not, ◌&&◌, ◌||◌, List, [], ◌∷◌, ◌++◌, length, map, sum_by, refl, sym, ap, ◌∙◌, subst, ◌⊎◌, inl, inr, ⊎_elim, arith}
 use Rattle.std.specs.Prelude.{nat_le, nat_lt, ◌==◌, if◌then◌else◌}
 use Rattle.std.specs.List.{AllByRecursion, Any, list_all, list_any}
-use Rattle.std.proofs.lemmas.Bool.{and_from, and_parts, cases_Bool, eqb-true, leb-false, lt-leb, ltb-false, not-false, not-true, not_from_false, or_left, or_right, true≢false, false≢true}
+use Rattle.std.proofs.lemmas.Bool.{and_from, and_parts, cases_Bool, ltb-false, not-false, not-true, not_from_false, or_left, or_right, true≢false, false≢true}
 use Rattle.desk_text.specs.Code.{same_code}
 use Rattle.desk_model.specs.declared.limits.TheConstants.{SUBSTANCE_LIMIT, MEMBER_LIMIT, MATERIAL_LIMIT, PART_LIMIT, LINE_LIMIT, LINES_OF_PARENT_LIMIT, PRODUCT_LIMIT, EXEMPTION_LIMIT, CANDIDATE_LIMIT, SHIPMENT_LIMIT, TICKET_LIMIT}
 use Rattle.desk_model.specs.declared.row.Row.{Row}
@@ -34,10 +34,10 @@ use Rattle.desk_history.proofs.Numbers.{are_numbers-once, each_number_once}
 use Rattle.desk_history.proofs.Sounds.{NamesKept, names_of}
 
 -- some element, and none
-any_here : {X : Type 0} (P : X → Type 0) (x : X) (xs : List X) → P x → Any P (x ∷ xs)
+pub any_here : {X : Type 0} (P : X → Type 0) (x : X) (xs : List X) → P x → Any P (x ∷ xs)
 any_here P x xs p = (0, x, omega arith, refl, p)
 
-any_later : {X : Type 0} (P : X → Type 0) (x : X) (xs : List X) → Any P xs → Any P (x ∷ xs)
+pub any_later : {X : Type 0} (P : X → Type 0) (x : X) (xs : List X) → Any P xs → Any P (x ∷ xs)
 any_later P x xs a = (suc a.0, a.1, omega (arith, a.2), a.3, a.4)
 
 any_not : {X : Type 0} (P : X → Type 0) (xs : List X) → AllByRecursion (λ x. P x → ⊥) xs → Any P xs → ⊥
@@ -61,7 +61,7 @@ any_right P [] ys a = a
 any_right P (x ∷ xs) ys a = any_later P x (xs ++ ys) (any_right P xs ys a)
 
 -- an element that passes a test, with its image
-any_passing : {X Y : Type 0} (P : Y → Type 0) (f : X → Y) (test : X → Bool) (xs : List X) → ((x : X) → test x ≡ true → P (f x)) → list_any test xs ≡ true → Any P (map f xs)
+pub any_passing : {X Y : Type 0} (P : Y → Type 0) (f : X → Y) (test : X → Bool) (xs : List X) → ((x : X) → test x ≡ true → P (f x)) → list_any test xs ≡ true → Any P (map f xs)
 any_passing P f test [] given e = absurd (false≢true e)
 any_passing P f test (x ∷ xs) given e =
     elim (cases_Bool (test x)) [
@@ -155,43 +155,43 @@ module _ (t : Lists) where
     unfolding rows3
     from2 a = from3 (any_left P rows2 (map Material t.materials) a)
 
-    in_substances : Any P (map Substance t.substances) → Any P (rows_of t)
+    pub in_substances : Any P (map Substance t.substances) → Any P (rows_of t)
     unfolding rows1 rows2
     in_substances a = from2 (any_left P (map Substance t.substances) (map Member t.members) a)
 
-    in_members : Any P (map Member t.members) → Any P (rows_of t)
+    pub in_members : Any P (map Member t.members) → Any P (rows_of t)
     unfolding rows2
     in_members a = from2 (any_right P rows1 (map Member t.members) a)
 
-    in_materials : Any P (map Material t.materials) → Any P (rows_of t)
+    pub in_materials : Any P (map Material t.materials) → Any P (rows_of t)
     unfolding rows3
     in_materials a = from3 (any_right P rows2 (map Material t.materials) a)
 
-    in_parts : Any P (map Part t.parts) → Any P (rows_of t)
+    pub in_parts : Any P (map Part t.parts) → Any P (rows_of t)
     unfolding rows4
     in_parts a = from4 (any_right P rows3 (map Part t.parts) a)
 
-    in_lines : Any P (map Line t.lines) → Any P (rows_of t)
+    pub in_lines : Any P (map Line t.lines) → Any P (rows_of t)
     unfolding rows5
     in_lines a = from5 (any_right P rows4 (map Line t.lines) a)
 
-    in_products : Any P (map Product t.products) → Any P (rows_of t)
+    pub in_products : Any P (map Product t.products) → Any P (rows_of t)
     unfolding rows6
     in_products a = from6 (any_right P rows5 (map Product t.products) a)
 
-    in_exemptions : Any P (map Exemption t.exemptions) → Any P (rows_of t)
+    pub in_exemptions : Any P (map Exemption t.exemptions) → Any P (rows_of t)
     unfolding rows7
     in_exemptions a = from7 (any_right P rows6 (map Exemption t.exemptions) a)
 
-    in_candidates : Any P (map Candidate t.candidates) → Any P (rows_of t)
+    pub in_candidates : Any P (map Candidate t.candidates) → Any P (rows_of t)
     unfolding rows8
     in_candidates a = from8 (any_right P rows7 (map Candidate t.candidates) a)
 
-    in_shipments : Any P (map Shipment t.shipments) → Any P (rows_of t)
+    pub in_shipments : Any P (map Shipment t.shipments) → Any P (rows_of t)
     unfolding rows9
     in_shipments a = from9 (any_right P rows8 (map Shipment t.shipments) a)
 
-    in_tickets : Any P (map Ticket t.tickets) → Any P (rows_of t)
+    pub in_tickets : Any P (map Ticket t.tickets) → Any P (rows_of t)
     in_tickets a = subst (Any P) (sym unfolding_rows) (any_right P rows9 (map Ticket t.tickets) a)
 
     -- what holds of each row of each table holds of each row
@@ -274,43 +274,43 @@ module _ (t : Lists) where
     unfolding over2
     up1 e = up2 (any_some_left p over1 (if_over 2 MEMBER_LIMIT (length t.members)) e)
 
-  full1 : nat_lt SUBSTANCE_LIMIT (length t.substances) ≡ true → is_overfull t 1 ≡ true
+  pub full1 : nat_lt SUBSTANCE_LIMIT (length t.substances) ≡ true → is_overfull t 1 ≡ true
   unfolding over1
   full1 e = up1 (λ n. n == 1) (rw e refl)
 
-  full2 : nat_lt MEMBER_LIMIT (length t.members) ≡ true → is_overfull t 2 ≡ true
+  pub full2 : nat_lt MEMBER_LIMIT (length t.members) ≡ true → is_overfull t 2 ≡ true
   unfolding over2
   full2 e = up2 (λ n. n == 2) (any_some_right (λ n. n == 2) over1 (if_over 2 MEMBER_LIMIT (length t.members)) (rw e refl))
 
-  full3 : nat_lt MATERIAL_LIMIT (length t.materials) ≡ true → is_overfull t 3 ≡ true
+  pub full3 : nat_lt MATERIAL_LIMIT (length t.materials) ≡ true → is_overfull t 3 ≡ true
   unfolding over3
   full3 e = up3 (λ n. n == 3) (any_some_right (λ n. n == 3) over2 (if_over 3 MATERIAL_LIMIT (length t.materials)) (rw e refl))
 
-  full4 : nat_lt PART_LIMIT (length t.parts) ≡ true → is_overfull t 4 ≡ true
+  pub full4 : nat_lt PART_LIMIT (length t.parts) ≡ true → is_overfull t 4 ≡ true
   unfolding over4
   full4 e = up4 (λ n. n == 4) (any_some_right (λ n. n == 4) over3 (if_over 4 PART_LIMIT (length t.parts)) (rw e refl))
 
-  full5 : nat_lt LINE_LIMIT (length t.lines) ≡ true → is_overfull t 5 ≡ true
+  pub full5 : nat_lt LINE_LIMIT (length t.lines) ≡ true → is_overfull t 5 ≡ true
   unfolding over5
   full5 e = up5 (λ n. n == 5) (any_some_right (λ n. n == 5) over4 (if_over 5 LINE_LIMIT (length t.lines)) (rw e refl))
 
-  full6 : nat_lt PRODUCT_LIMIT (length t.products) ≡ true → is_overfull t 6 ≡ true
+  pub full6 : nat_lt PRODUCT_LIMIT (length t.products) ≡ true → is_overfull t 6 ≡ true
   unfolding over6
   full6 e = up6 (λ n. n == 6) (any_some_right (λ n. n == 6) over5 (if_over 6 PRODUCT_LIMIT (length t.products)) (rw e refl))
 
-  full7 : nat_lt EXEMPTION_LIMIT (length t.exemptions) ≡ true → is_overfull t 7 ≡ true
+  pub full7 : nat_lt EXEMPTION_LIMIT (length t.exemptions) ≡ true → is_overfull t 7 ≡ true
   unfolding over7
   full7 e = up7 (λ n. n == 7) (any_some_right (λ n. n == 7) over6 (if_over 7 EXEMPTION_LIMIT (length t.exemptions)) (rw e refl))
 
-  full8 : nat_lt CANDIDATE_LIMIT (length t.candidates) ≡ true → is_overfull t 8 ≡ true
+  pub full8 : nat_lt CANDIDATE_LIMIT (length t.candidates) ≡ true → is_overfull t 8 ≡ true
   unfolding over8
   full8 e = up8 (λ n. n == 8) (any_some_right (λ n. n == 8) over7 (if_over 8 CANDIDATE_LIMIT (length t.candidates)) (rw e refl))
 
-  full9 : nat_lt SHIPMENT_LIMIT (length t.shipments) ≡ true → is_overfull t 9 ≡ true
+  pub full9 : nat_lt SHIPMENT_LIMIT (length t.shipments) ≡ true → is_overfull t 9 ≡ true
   unfolding over9
   full9 e = up9 (λ n. n == 9) (any_some_right (λ n. n == 9) over8 (if_over 9 SHIPMENT_LIMIT (length t.shipments)) (rw e refl))
 
-  full10 : nat_lt TICKET_LIMIT (length t.tickets) ≡ true → is_overfull t 10 ≡ true
+  pub full10 : nat_lt TICKET_LIMIT (length t.tickets) ≡ true → is_overfull t 10 ≡ true
   unfolding over10
   full10 e = up10 (λ n. n == 10) (any_some_right (λ n. n == 10) over9 (if_over 10 TICKET_LIMIT (length t.tickets)) (rw e refl))
 
@@ -327,9 +327,22 @@ module _ (t : Lists) where
       more (x ∷ xs) e a f = true≢false (sym f ∙ a.0)
 
   -- no tickets have no text, and no findings are few
-  no_text : t.tickets ≡ [] → has_too_much_text t ≡ false
+  pub no_text : t.tickets ≡ [] → has_too_much_text t ≡ false
   unfolding has_too_much_text
   no_text e = rw e refl
+
+  -- a parent with too many lines would have one
+  pub few_lines_of_each : AllByRecursion (λ line. nat_lt LINES_OF_PARENT_LIMIT (length (lines_of t.lines line.parent)) ≡ false) t.lines → has_too_many_lines t ≡ false
+  few_lines_of_each few =
+      any_none (λ part. nat_lt LINES_OF_PARENT_LIMIT (length (lines_of t.lines part.code))) t.parts
+      (each (λ part. nat_lt LINES_OF_PARENT_LIMIT (length (lines_of t.lines part.code)) ≡ false)
+      (λ part.
+      fit part.code (lines_of t.lines part.code)
+      (each_filter (λ line. nat_lt LINES_OF_PARENT_LIMIT (length (lines_of t.lines line.parent)) ≡ false) (λ line. same_code line.parent part.code) t.lines few) refl) t.parts)
+    where
+      fit : (code : List ℕ) (own : List LineRow) → AllByRecursion (λ line. (nat_lt LINES_OF_PARENT_LIMIT (length (lines_of t.lines line.parent)) ≡ false) × (same_code line.parent code ≡ true)) own → lines_of t.lines code ≡ own → nat_lt LINES_OF_PARENT_LIMIT (length own) ≡ false
+      fit code [] a e = Rattle.std.proofs.lemmas.Bool.le-ltb LINES_OF_PARENT_LIMIT 0 (omega arith)
+      fit code (line ∷ own) a e = ap (λ lines. nat_lt LINES_OF_PARENT_LIMIT (length lines)) (sym e) ∙ subst (λ c. nat_lt LINES_OF_PARENT_LIMIT (length (lines_of t.lines c)) ≡ false) (same_code-true line.parent code a.0.1) a.0.0
 
   few_findings : sum_by (λ part. length (findings t part.code)) t.parts ≡ 0 → has_too_many_findings t ≡ false
   unfolding has_too_many_findings finding_count
@@ -451,19 +464,10 @@ module _ (t : Lists) where
       tickets_of_edits = none.edits;
     }
 
-    -- a parent with too many lines would have one
     lines_fit : has_too_many_lines t ≡ false
     lines_fit =
-        any_none (λ part. nat_lt LINES_OF_PARENT_LIMIT (length (lines_of t.lines part.code))) t.parts
-        (each (λ part. nat_lt LINES_OF_PARENT_LIMIT (length (lines_of t.lines part.code)) ≡ false)
-        (λ part.
-        fit part.code (lines_of t.lines part.code)
-        (each_filter (λ line. nat_lt LINES_OF_PARENT_LIMIT (length (lines_of t.lines line.parent)) ≡ false) (λ line. same_code line.parent part.code) t.lines
-        (each_map (λ line. breaks_line t line ≡ false) (λ line. nat_lt LINES_OF_PARENT_LIMIT (length (lines_of t.lines line.parent)) ≡ false) (λ line e. (of_line line e).3) t.lines none.lines)) refl) t.parts)
-      where
-        fit : (code : List ℕ) (own : List LineRow) → AllByRecursion (λ line. (nat_lt LINES_OF_PARENT_LIMIT (length (lines_of t.lines line.parent)) ≡ false) × (same_code line.parent code ≡ true)) own → lines_of t.lines code ≡ own → nat_lt LINES_OF_PARENT_LIMIT (length own) ≡ false
-        fit code [] a e = Rattle.std.proofs.lemmas.Bool.le-ltb LINES_OF_PARENT_LIMIT 0 (omega arith)
-        fit code (line ∷ own) a e = ap (λ lines. nat_lt LINES_OF_PARENT_LIMIT (length lines)) (sym e) ∙ subst (λ c. nat_lt LINES_OF_PARENT_LIMIT (length (lines_of t.lines c)) ≡ false) (same_code-true line.parent code a.0.1) a.0.0
+        few_lines_of_each
+        (each_map (λ line. breaks_line t line ≡ false) (λ line. nat_lt LINES_OF_PARENT_LIMIT (length (lines_of t.lines line.parent)) ≡ false) (λ line e. (of_line line e).3) t.lines none.lines)
 
     nothing_over : tables_over t ≡ []
     unfolding over1 over2 over3 over4 over5 over6 over7 over8 over9 over10
