@@ -17,3 +17,11 @@ pub mod Accepting
 pub mod Gathers
 pub mod DeclaredText
 pub mod AtStart
+pub mod GoodRows
+pub mod Telling
+pub mod RisingContent
+pub mod Numbering
+pub mod SoundTickets
+pub mod Consistent
+pub mod FoundParts
+pub mod SumsTold

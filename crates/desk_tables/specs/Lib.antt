@@ -8,3 +8,4 @@ pub mod Sums
 pub mod Ticket
 pub mod FindingCounts
 pub mod Gathered
+pub mod Soundness

@@ -1,4 +1,6 @@
-ghost use Rattle.std.specs.Prelude.{◌≡◌, ◌++◌, IfOk, length, map};
+ghost use Rattle.std.specs.Prelude.{◌≡◌, ◌++◌, true, IfOk, length, map};
+ghost use Rattle.desk_model.specs.Lists.{IsOrdered};
+ghost use Rattle.desk_findings.specs.Bill.{are_children_right, are_codes_apart};
 ghost use Rattle.desk_findings.specs.Mass.{mass, own_mass};
 ghost use Rattle.desk_findings.specs.Reaches.{is_or_reaches};
 ghost use Rattle.desk_findings.specs.Totals.{too_heavy_part};
@@ -16,6 +18,17 @@ impl<'a> TableLists<'a> {
     /// The bill of materials by the places of its nodes. It takes two binary searches for each line.
     pub fn links(&self, alloc: Global) -> Result<Links, OutOfMemory>
         requires { IsConsistent self.now }
+        ensures { IfOk result (λ bill. IsBillOf bill self.now) }
+    {
+        self.linked(alloc)
+    }
+
+    /// The bill of materials by the places of its nodes, of lists that may hold a cycle. It takes two binary searches
+    /// for each line.
+    pub(crate) fn linked(&self, alloc: Global) -> Result<Links, OutOfMemory>
+        requires ordered { IsOrdered self.now }
+        requires apart { are_codes_apart self.now ≡ true }
+        requires children { are_children_right self.now ≡ true }
         ensures { IfOk result (λ bill. IsBillOf bill self.now) }
     {
         let nodes = self.nodes(alloc)?;
@@ -54,7 +67,8 @@ impl<'a> TableLists<'a> {
         Ok(nodes)
     }
 
-    /// The mass of each part in micrograms, in order: `None` where it is 2^128 or more. It takes two passes over nodes and lines.
+    /// The mass of each part in micrograms, in order: `None` where it is 2^128 or more. It takes two passes over nodes
+    /// and lines.
     pub fn masses(&self, alloc: Global, bill: &Links) -> Result<Vec<Option<u128>>, OutOfMemory>
         requires consistent { IsConsistent self.now }
         requires bill { IsBillOf bill.now self.now }

@@ -61,7 +61,7 @@ impl<'a> TableLists<'a> {
     }
 
     /// How many findings there are on each of these materials by itself.
-    fn material_counts(
+    pub(crate) fn material_counts(
         &self,
         alloc: Global,
         materials: &[MaterialRow],
@@ -78,7 +78,7 @@ impl<'a> TableLists<'a> {
     }
 
     /// How many findings there are on each of these parts by itself, by their masses.
-    fn part_counts(
+    pub(crate) fn part_counts(
         &self,
         alloc: Global,
         parts: &[PartRow],

@@ -5,15 +5,18 @@ mod accept;
 #[cfg(test)]
 mod accept_tests;
 mod at_start;
+mod bill_sound;
 mod bill_sums;
 mod changed_table;
 mod changes;
+mod content;
 mod counts;
 mod cycle;
 mod declared;
 mod edit_fault;
 mod finding_counts;
 mod findings;
+mod found_part;
 mod gather;
 #[cfg(test)]
 mod gather_tests;
@@ -21,21 +24,31 @@ mod heavy_years;
 mod judge;
 mod limits;
 mod lookups;
+mod numbers_sound;
 mod one_row;
 mod plan;
 mod plan_rows;
 mod refuse;
 mod row_change;
+mod rows_sound;
 mod rules;
 mod share;
+mod sound;
+mod sound_fault;
+#[cfg(test)]
+mod sound_tests;
 mod start;
 mod sums;
+mod sums_sound;
 mod table_lists;
 mod tables;
 mod terms;
+mod tested_row;
+mod tested_rows;
 #[cfg(test)]
 mod tests;
 mod ticket;
+mod tickets_sound;
 
 pub use desk_model::{
     CandidateRow, Codes, Count, DeclError, Declaration, Edit, Exemption, ExemptionRow, Factor,
@@ -46,5 +59,6 @@ pub use desk_model::{
 pub use edit_fault::EditFault;
 pub use plan::TablesPlan;
 pub use row_change::RowChange;
+pub use sound_fault::SoundFault;
 pub use table_lists::TableLists;
 pub use tables::Tables;

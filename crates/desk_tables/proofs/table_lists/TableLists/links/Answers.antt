@@ -1,12 +1,5 @@
-use Rattle.std.proofs.Common.{◌≡◌, ap, length}
-use Rattle.desk_findings.proofs.Children.{children_kept, parents_kept}
 use Rattle.desk_history.proofs.Good.{right_of}
-use Rattle.desk_totals.proofs.ForTables.{linked_from_tables}
 use Rattle.desk_tables.proofs.table_lists.TableLists.links.Goals as goal
 
-pub new-requires : goal.new-requires
-new-requires c =
-    let t = c.args.self.now in
-    let s = c.requires in
-    let right = right_of t s in
-    linked_from_tables _ t (record { nodes = c.in_ok-nodes.ensures; material_count = ap length c.materials.ensures; lines = c.lines.ensures }) s.ordered s.codes_apart (parents_kept t right) (children_kept t right)
+pub linked-requires-clause-children : goal.linked-requires-clause-children
+linked-requires-clause-children c = right_of c.args.self.now c.requires
