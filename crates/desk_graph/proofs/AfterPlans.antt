@@ -64,7 +64,7 @@ pub taken_after : (new labels : List (List ℕ)) (label : List ℕ) → is_taken
 taken_after new labels label = ap (λ l. is_taken l label) (with_labels-is new labels) ∙ list_any-append (λ kept. is_eq (label_cmp kept label)) labels new
 
 module _ (edit : BillEdit) (g : Graph) (label : List ℕ) where
-  labels_are : (planned edit g).labels ≡ with_labels edit.labels g.labels
+  pub labels_are : (planned edit g).labels ≡ with_labels edit.labels g.labels
   labels_are = ap (λ h. h.labels) (with_nodes-is edit.labels (record { labels = g.labels; lines = changed_lines edit.line g.lines }))
 
   pub count_after : length (planned edit g).labels ≡ length g.labels + length edit.labels

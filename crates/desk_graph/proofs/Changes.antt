@@ -9,11 +9,11 @@ use Rattle.desk_graph.specs.Edits.{is_taken, with_line, with_node, without_line}
 use Rattle.desk_graph.specs.Order.{AreBothEnds, HasMadeWay, IsInOrder}
 use Rattle.desk_graph.specs.Plan.{IsLinePlan, Planned}
 use Rattle.desk_graph.specs.Planned.{AreFree, BillEdit, HasMadeWayFor, IsBillPlan, IsChange, IsChangeOf, changed_lines, changed_users, planned, with_empty, with_next, with_nodes}
-use Rattle.desk_graph.specs.Reaches.{enough, is_or_reaches, reaches}
+use Rattle.desk_graph.specs.Reaches.{Falls, enough, is_or_reaches, reaches}
 use Rattle.desk_graph.proofs.Ends.{has-count, lines_of-more, lines_of-other, lines_of-same, with-other, without-other}
 use Rattle.desk_graph.proofs.Kept.{bill_falls, child_there, count-set, ends-more, length-without, users-without}
 use Rattle.desk_graph.proofs.Labels.{by_label-without}
-use Rattle.desk_graph.proofs.Reached.{Falls, lower_within}
+use Rattle.desk_graph.proofs.Reached.{lower_within}
 use Rattle.desk_graph.proofs.Ordered.{AddsLine, in_order-more, in_order-with}
 
 module _ (labels : List (List ℕ)) (lines users : List (List BillLine)) (ends : AreBothEnds labels lines users) (change : LineChange) (good : IsChange (record { labels = labels; lines = lines }) change) where

@@ -14,7 +14,8 @@ use Rattle.desk_graph.specs.Order.{AreBothEnds, IsInOrder, IsSwept}
 use Rattle.desk_graph.proofs.Ends.{has-with, has-without, has_node_there, lines_of-more, lines_of-other, lines_of-same, user_is, with-other, with-same, without-other, without-same}
 use Rattle.desk_graph.proofs.Labels.{by_label-more, by_label-with, by_label-without}
 use Rattle.desk_graph.proofs.Ordered.{AddsLine, order_falls, order_swept, rank}
-use Rattle.desk_graph.proofs.Reached.{Falls, no_cycle}
+use Rattle.desk_graph.specs.Reaches.{Falls}
+use Rattle.desk_graph.proofs.Reached.{no_cycle}
 
 -- no two nodes have one label
 abbrev pub AreUnique : List (List ℕ) → Type 0
@@ -212,6 +213,7 @@ is_bill labels lines users order ends unique ordered nodes fit =
       children = child_there labels lines users ends;
       by_label = ends.by_label;
       acyclic = no_cycle lines (rank order) (order_falls lines order ordered children);
+      ranked = (rank order, order_falls lines order ordered children);
       nodes = nodes;
       lines_fit = fit;
     }

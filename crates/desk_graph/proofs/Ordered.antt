@@ -11,10 +11,10 @@ use Rattle.std.proofs.lemmas.List.Sums.{get_or-le-sum_by, passes_at_first, sum_b
 use Rattle.desk_graph.specs.declared.line.BillLine.{BillLine}
 use Rattle.desk_graph.specs.Graph.{AreUsers, has_line, is_line, lines_of}
 use Rattle.desk_graph.specs.Order.{AreMarkedUp, HasMadeWay, HasOnce, IsInOrder, IsSwept, StandsBefore, has_mark, mark_of}
-use Rattle.desk_graph.specs.Reaches.{enough, is_or_reaches, reaches}
+use Rattle.desk_graph.specs.Reaches.{Falls, enough, is_or_reaches, reaches}
 use Rattle.desk_graph.proofs.Ends.{has_node_there, lines_of-more, user_is}
 use Rattle.desk_graph.proofs.Marks.{marked_below}
-use Rattle.desk_graph.proofs.Reached.{Falls, affected-one, lower_within, marks_are}
+use Rattle.desk_graph.proofs.Reached.{affected-one, lower_within, marks_are}
 
 -- the place of a node
 pub rank : List ℕ → ℕ → ℕ

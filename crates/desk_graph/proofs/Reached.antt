@@ -7,7 +7,7 @@ use Rattle.std.proofs.lemmas.Bool.{eq-eqb, eqb-true, false_from_ne_true, false�
 use Rattle.desk_graph.specs.declared.line.BillLine.{BillLine}
 use Rattle.desk_graph.specs.Graph.{AreUsers, has_line, is_line, lines_of}
 use Rattle.desk_graph.specs.Order.{AreMarkedUp, GoesByNext, mark_of}
-use Rattle.desk_graph.specs.Reaches.{chain, chain_within, enough, has_node, is_affected, is_or_reaches, next_to, reaches, reaches_within}
+use Rattle.desk_graph.specs.Reaches.{Falls, chain, chain_within, enough, has_node, is_affected, is_or_reaches, next_to, reaches, reaches_within}
 use Rattle.desk_graph.proofs.Ends.{user_is}
 
 -- two tests that give each other are one
@@ -36,7 +36,7 @@ any-out test (line ∷ lines) e =
     ]
 
 -- a test of some node of a list
-any_node-in : (test : ℕ → Bool) (nodes : List ℕ) (node : ℕ) → has_node nodes node ≡ true → test node ≡ true → list_any test nodes ≡ true
+pub any_node-in : (test : ℕ → Bool) (nodes : List ℕ) (node : ℕ) → has_node nodes node ≡ true → test node ≡ true → list_any test nodes ≡ true
 any_node-in test [] node e good = absurd (false≢true e)
 any_node-in test (first ∷ nodes) node e good =
     elim (or_cases (first == node) (has_node nodes node) e) [
@@ -44,7 +44,7 @@ any_node-in test (first ∷ nodes) node e good =
       | inr there ↦ or_right (test first) (list_any test nodes) (any_node-in test nodes node there good)
     ]
 
-any_node-out : (test : ℕ → Bool) (nodes : List ℕ) → list_any test nodes ≡ true → (node : ℕ) × (has_node nodes node ≡ true) × (test node ≡ true)
+pub any_node-out : (test : ℕ → Bool) (nodes : List ℕ) → list_any test nodes ≡ true → (node : ℕ) × (has_node nodes node ≡ true) × (test node ≡ true)
 any_node-out test [] e = absurd (false≢true e)
 any_node-out test (first ∷ nodes) e =
     elim (or_cases (test first) (list_any test nodes) e) [
@@ -76,11 +76,6 @@ module _ (lines : List (List BillLine)) (target : ℕ) where
         | inl here ↦ step found.0 node (subst (λ n. holds n ≡ true) (sym (eqb-true found.0 target here)) at) found.1
         | inr there ↦ step found.0 node (up holds at step k found.0 there) found.1
       ]
-
--- a number of each node that falls along each line, and is below the number of nodes where there are lines
-pub record Falls (lines : List (List BillLine)) (rank : ℕ → ℕ) : Type 0 where
-  pub falls : (parent child : ℕ) → is_line lines parent child ≡ true → rank child < rank parent
-  pub within : (parent child : ℕ) → is_line lines parent child ≡ true → rank parent < length lines
 
 module _ (lines : List (List BillLine)) (rank : ℕ → ℕ) (ranked : Falls lines rank) (target : ℕ) where
   -- no chain is longer than the number of its first node

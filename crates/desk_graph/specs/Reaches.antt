@@ -1,5 +1,5 @@
 -- What a node reaches along the lines, and the chain to it.
-use Rattle.std.specs.Prelude.{◌≡◌, ℕ, zero, suc, ◌+◌, Bool, false, ◌||◌, ◌==◌, List, [], ◌∷◌, Option, length, find, option_map, if◌then◌else◌, count_by}
+use Rattle.std.specs.Prelude.{◌≡◌, ℕ, zero, suc, ◌+◌, ◌<◌, Bool, true, false, ◌||◌, ◌==◌, List, [], ◌∷◌, Option, length, find, option_map, if◌then◌else◌, count_by}
 use Rattle.std.specs.List.{AllPairs, list_any}
 use Rattle.std.specs.Option.{option_map_or}
 use Rattle.desk_graph.specs.declared.line.BillLine.{BillLine}
@@ -53,3 +53,8 @@ AreChildrenFirst lines nodes = AllPairs (λ earlier later. is_line lines earlier
 -- the list has each affected node once, and no other node
 abbrev pub AreAffected : List (List BillLine) → List ℕ → List ℕ → Type 0
 AreAffected lines seeds nodes = (node : ℕ) → count_by (λ other. other == node) nodes ≡ (if is_affected lines seeds node then 1 else 0)
+
+-- a number of each node that falls along each line, and is below the number of nodes where there are lines
+pub record Falls (lines : List (List BillLine)) (rank : ℕ → ℕ) : Type 0 where
+  pub falls : (parent child : ℕ) → is_line lines parent child ≡ true → rank child < rank parent
+  pub within : (parent child : ℕ) → is_line lines parent child ≡ true → rank parent < length lines

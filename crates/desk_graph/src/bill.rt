@@ -79,6 +79,14 @@ impl Bill {
         self.labels[id as usize].as_bytes()
     }
 
+    /// How many lines lead from a node to its children.
+    pub fn line_count(&self, id: NodeId) -> usize
+        requires { id < length self.now.labels }
+        ensures { result ≡ length (lines_of self.now.lines id) }
+    {
+        self.lines[id as usize].as_slice().len()
+    }
+
     /// Adds a node without lines, and gives its number. It takes no memory.
     pub fn add_node(&mut self, alloc: Global, label: &[u8]) -> Result<NodeId, NodeFault>
         requires some { 1 ≤ length label.now }

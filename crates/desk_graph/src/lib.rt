@@ -3,6 +3,7 @@
 
 mod bill;
 mod bill_plan;
+mod bill_view;
 mod chain;
 mod fault;
 mod label;
@@ -23,6 +24,7 @@ mod users;
 
 pub use bill::Bill;
 pub use bill_plan::BillPlan;
+pub use bill_view::BillView;
 pub use fault::{LineFault, NodeFault, PlanFault};
 pub use line::{BillLine, NodeId};
 pub use memory::OutOfMemory;

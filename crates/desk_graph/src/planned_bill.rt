@@ -1,6 +1,6 @@
 ghost use Rattle.std.specs.Prelude.{◌≡◌, ◌+◌, ◌<◌, ℕ, true, length, IfOk};
 ghost use Rattle.desk_graph.specs.Bill.{IsBill};
-ghost use Rattle.desk_graph.specs.Graph.{IsByLabel, lines_of};
+ghost use Rattle.desk_graph.specs.Graph.{IsByLabel, label_of, lines_of};
 ghost use Rattle.desk_graph.specs.Planned.{IsBillPlan, planned};
 ghost use Rattle.desk_graph.specs.Reaches.{AreAffected, AreChildrenFirst, has_node};
 
@@ -47,6 +47,22 @@ impl<'a> PlannedBill<'a> {
         ensures bill { IsBill self.now }
     {
         self.bill.node_count_after(self.plan)
+    }
+
+    /// The label of a node.
+    pub fn label(&self, id: NodeId) -> &[u8]
+        requires { id < length self.now.labels }
+        ensures { result.now ≡ label_of self.now.labels id }
+    {
+        self.bill.label_after(self.plan, id)
+    }
+
+    /// How many lines lead from a node to its children then.
+    pub fn line_count(&self, id: NodeId) -> usize
+        requires { id < length self.now.labels }
+        ensures { result ≡ length (lines_of self.now.lines id) }
+    {
+        self.bill.lines_after(self.plan, id).len()
     }
 
     /// The lines of a node to its children, in the order of their labels. It takes one step.

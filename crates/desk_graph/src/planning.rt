@@ -1,7 +1,7 @@
 ghost use Rattle.std.specs.Prelude.{◌≡◌, ◌≢◌, ◌+◌, ◌<◌, ◌≤◌, ℕ, true, false, [], None, length, slice_set, Ok, Err, IfOk, IfErr, OnOk, OnErr};
 ghost use Rattle.desk_graph.specs.Bill.{IsBill};
 ghost use Rattle.desk_graph.specs.Edits.{is_taken, line_answer, with_line_in, with_node, without_line_in};
-ghost use Rattle.desk_graph.specs.Graph.{IsByLabel, lines_of};
+ghost use Rattle.desk_graph.specs.Graph.{IsByLabel, label_of, lines_of};
 ghost use Rattle.desk_graph.specs.Planned.{IsBillPlan, IsChangeOf, changed_lines, plan_answer, planned};
 ghost use Rattle.desk_graph.specs.Reaches.{AreAffected, AreChildrenFirst, has_node};
 
@@ -180,6 +180,19 @@ impl Bill {
         ensures bill { IsBill (planned plan.now self.now) }
     {
         self.labels.len() + plan.labels.len()
+    }
+
+    /// The label of a node after the plan.
+    pub(crate) fn label_after<'a>(&'a self, plan: &'a BillPlan, id: NodeId) -> &'a [u8]
+        requires plan { IsBillPlan self.now plan.now }
+        requires there { id < length (planned plan.now self.now).labels }
+        ensures { result.now ≡ label_of (planned plan.now self.now).labels id }
+    {
+        let kept = self.labels.len();
+        if (id as usize) < kept {
+            return self.labels[id as usize].as_bytes();
+        }
+        plan.labels[id as usize - kept].as_bytes()
     }
 
     /// The lines of a node after the plan, and none of a new node.
