@@ -1,0 +1,249 @@
+-- What a sweep over the affected nodes finds at each of them.
+use Rattle.std.proofs.Common.{◌≡◌, ℕ, zero, suc, ◌+◌, ◌*◌, ◌^◌, ◌<◌, ◌≤◌, true, false, cond, ◌==◌, List, [], ◌∷◌, map, take, fold, length, nat_lt, slice_index, slice_index_or, sum_by, Option, Some, None, refl, sym, ap, ◌∙◌, subst, inl, inr, arith}
+use Rattle.std.specs.List.{AllByRecursion}
+use Rattle.std.proofs.lemmas.Bool.{both_ways, cases_Bool, cases_lt, eq-eqb, eqb-true, false_from_ne_true, le-ltb, lt-ltb, ltb-true, ne_eqb, or_cases, or_parts}
+use Rattle.std.proofs.lemmas.List.{length-map, length-take-le, get_or-map, get_or-take}
+use Rattle.std.proofs.Math.Nat.{suc-mul}
+use Rattle.std.proofs.lemmas.List.Sums.{sum_by-cons}
+use Rattle.desk_graph.specs.declared.line.BillLine.{BillLine}
+use Rattle.desk_graph.specs.Bill.{IsBill}
+use Rattle.desk_graph.specs.Graph.{Graph, is_line, lines_of}
+use Rattle.desk_graph.specs.Reaches.{AreAffected, enough, has_node, is_affected, is_or_reaches, reaches}
+use Rattle.desk_graph.proofs.Reached.{affected-seed, affected-up, any_node-out, up}
+use Rattle.desk_graph.proofs.Ends.{has_node_there}
+use Rattle.desk_rollup.specs.Gathered.{all_hops, all_loads}
+use Rattle.desk_rollup.specs.Numbers.{Rises, hop_numbers, substances}
+use Rattle.desk_rollup.specs.Places.{IsKnown, IsTold, Placed, known, place_in}
+use Rattle.desk_rollup.specs.Plan.{AllFit, AreDistinct, nodes_of}
+use Rattle.desk_rollup.specs.Rolled.{IsRolled, amount, weight}
+use Rattle.desk_rollup.specs.Step.{IsStepOver}
+use Rattle.desk_rollup.specs.Sweep.{IsSweep}
+use Rattle.desk_rollup.specs.Values.{Kept, OwnValues, RolledValues, amount_of, carried, own_at, own_with, rolled_at}
+use Rattle.desk_rollup.specs.Weights.{IsKnownWeight, fitting, known_weight, weighed, with_child}
+use Rattle.desk_rollup.proofs.Counts.{has_at, none_times, one_if, some_times}
+use Rattle.desk_rollup.proofs.Gathers.{gathered_step}
+use Rattle.desk_rollup.proofs.Lists.{each_as, each_line, sum_same}
+use Rattle.desk_rollup.proofs.Ranked.{goes_up, rolled-step}
+use Rattle.desk_rollup.proofs.Rolls.{carried_is, step_rolled}
+
+-- the list has just the affected nodes
+pub affected_had : (lines : List (List BillLine)) (seeds nodes : List ℕ) → AreAffected lines seeds nodes → (node : ℕ) → has_node nodes node ≡ is_affected lines seeds node
+affected_had lines seeds nodes affected node =
+    elim (cases_Bool (has_node nodes node)) [
+      | inl there ↦
+          elim (cases_Bool (is_affected lines seeds node)) [
+            | inl is ↦ there ∙ sym is
+            | inr no_one ↦ let none = affected node ∙ ap one_if no_one in absurd (omega (arith, none, some_times node nodes there))
+          ]
+      | inr away ↦
+          elim (cases_Bool (is_affected lines seeds node)) [
+            | inl is ↦ let one = affected node ∙ ap one_if is in absurd (omega (arith, one, none_times node nodes away))
+            | inr no_one ↦ away ∙ sym no_one
+          ]
+    ]
+
+-- an affected node is one of the bill
+pub affected_inside : (g : Graph) → IsBill g → (seeds nodes : List ℕ) → ((node : ℕ) → has_node seeds node ≡ true → node < length g.labels) → AreAffected g.lines seeds nodes → (node : ℕ) → has_node nodes node ≡ true → node < length g.labels
+affected_inside g bill seeds nodes low affected node e =
+    let found = any_node-out (λ seed. is_or_reaches g.lines node seed) seeds (sym (affected_had g.lines seeds nodes affected node) ∙ e) in
+    let seed_low = low found.0 found.1 in
+    elim (or_cases (node == found.0) (reaches g.lines node found.0) found.2) [
+      | inl here ↦ let same = eqb-true node found.0 here in omega (arith, same, seed_low)
+      | inr there ↦
+          ltb-true node (length g.labels)
+          (up g.lines found.0 (λ n. nat_lt n (length g.labels)) (lt-ltb found.0 (length g.labels) seed_low)
+          (λ child user _ line. lt-ltb user (length g.labels) (omega (arith, has_node_there g.lines user child line, bill.sizes)))
+          (enough g.lines) node there)
+    ]
+
+-- a node without new own values has those that are kept
+pub own_other : (new kept : List OwnValues) (node : ℕ) → has_node (nodes_of new) node ≡ false → own_with new kept node ≡ own_at kept node
+own_other [] kept node e = refl
+own_other (own ∷ new) kept node e =
+    let parts = or_parts (own.node == node) (has_node (nodes_of new) node) e in
+    rw parts.0 (own_other new kept node parts.1)
+
+-- a node with new own values has those
+pub own_found : (new : List OwnValues) (kept : List OwnValues) (node place : ℕ) → AreDistinct (nodes_of new) → place < length (nodes_of new) → slice_index (nodes_of new) place ≡ node → own_with new kept node ≡ own_at new place
+own_found [] kept node place distinct low is = absurd (omega arith)
+own_found (own ∷ new) kept node zero distinct low is = rw (eq-eqb own.node node is) refl
+own_found (own ∷ new) kept node (suc place) distinct low is =
+    let there : has_node (nodes_of new) node ≡ true = subst (λ n. has_node (nodes_of new) n ≡ true) is (has_at (nodes_of new) place (omega arith)) in
+    let other : (own.node == node) ≡ false = ne_eqb own.node node (λ e. both_ways (has_node (nodes_of new) node) (subst (λ n. has_node (nodes_of new) n ≡ false) e distinct.0) there) in
+    rw other (own_found new kept node place distinct.1 (omega arith) is)
+
+-- sums of weights that fit
+pub fits_yes : (n : ℕ) → n < 2 ^ 128 → fitting n ≡ Some n
+fits_yes n h = ap (λ b. cond b (Some n) None) (lt-ltb n (2 ^ 128) h)
+
+pub fits_no : (n : ℕ) → 2 ^ 128 ≤ n → fitting n ≡ None
+fits_no n h = ap (λ b. cond b (Some n) None) (le-ltb n (2 ^ 128) h)
+
+at_least : (count child : ℕ) → (count ≡ 0 → ⊥) → child ≤ count * child
+at_least zero child h = absurd (h refl)
+at_least (suc count) child h = omega (arith, suc-mul count child)
+
+one_child : (sum count child : ℕ) → with_child (fitting sum) count (fitting child) ≡ fitting (sum + count * child)
+one_child sum count child =
+    elim (cases_lt sum (2 ^ 128)) [
+      | inl small ↦
+          elim (cases_lt child (2 ^ 128)) [
+            | inl light ↦ rw (fits_yes sum small, fits_yes child light) refl
+            | inr heavy ↦
+                elim (Rattle.std.proofs.lemmas.Bool.cases_eq count 0) [
+                  | inl none ↦
+                      rw (fits_yes sum small, fits_no child heavy, eq-eqb count 0 none)
+                      (let same : sum ≡ sum + count * child = subst (λ (c : ℕ). sum ≡ sum + c * child) (sym none) (omega arith) in
+                      ap (λ n. Some n) same ∙ sym (fits_yes (sum + count * child) (omega (arith, same, small))))
+                  | inr some ↦
+                      let more = at_least count child some in
+                      rw (fits_yes sum small, fits_no child heavy, ne_eqb count 0 some) (sym (fits_no (sum + count * child) (omega (arith, more, heavy))))
+                ]
+          ]
+      | inr large ↦ rw (fits_no sum large) (sym (fits_no (sum + count * child) (omega (arith, large))))
+    ]
+
+lines_weigh : (below : ℕ → Option ℕ) (weights : ℕ → ℕ) (of_node : List BillLine) → AllByRecursion (λ line. below line.node ≡ fitting (weights line.node)) of_node → (sum : ℕ) →
+    fold (λ o line. with_child o line.count (below line.node)) (fitting sum) of_node ≡ fitting (sum + sum_by (λ line. line.count * weights line.node) of_node)
+lines_weigh below weights [] each sum = ap fitting (omega arith)
+lines_weigh below weights (line ∷ of_node) each sum =
+    ap (λ o. fold (λ p l. with_child p l.count (below l.node)) o of_node) (ap (with_child (fitting sum) line.count) each.0 ∙ one_child sum line.count (weights line.node))
+    ∙ lines_weigh below weights of_node each.1 (sum + line.count * weights line.node)
+    ∙ ap fitting (omega (arith, sum_by-cons (λ l. l.count * weights l.node) line of_node))
+
+-- what is known of a place or of a node without one
+pub by_place : (nodes : List ℕ) (node : ℕ) (place : Option ℕ) → IsTold nodes node place → (P : Option ℕ → Type 0) → (has_node nodes node ≡ false → P None) → ((at : ℕ) → at < length nodes → slice_index nodes at ≡ node → P (Some at)) → P place
+by_place nodes node None told P none some = none told
+by_place nodes node (Some at) told P none some = some at told.0 told.1
+
+module _ (g : Graph) (owns : List OwnValues) (kept : Kept) (of_owns placed : Placed) (lists : List (List BillLine)) (sweep : IsSweep g owns kept of_owns placed lists) where
+  abbrev rank : ℕ → ℕ
+  rank = sweep.bill.ranked.0
+
+  abbrev own : ℕ → OwnValues
+  own = own_with owns kept.owns
+
+  abbrev seeds : List ℕ
+  seeds = nodes_of owns
+
+  had : (node : ℕ) → has_node placed.nodes node ≡ is_affected g.lines seeds node
+  had node = affected_had g.lines seeds placed.nodes sweep.affected node
+
+  -- the lines at a place are those of the node there
+  pub list_at : {X : Type 0} (xs : List X) (f : X → List BillLine) (place : ℕ) (none : X) → lists ≡ map f xs → place < length placed.nodes → f (slice_index_or xs place none) ≡ lines_of g.lines (slice_index placed.nodes place)
+  list_at xs f place none is low =
+      let sizes : length xs ≡ length placed.nodes = sym (length-map xs f) ∙ ap (λ l. length l) (sym is ∙ sweep.lines_are) ∙ length-map placed.nodes (lines_of g.lines) in
+      sym (get_or-map f xs place none [] (omega (arith, sizes))) ∙ ap (λ l. slice_index_or l place []) (sym is ∙ sweep.lines_are) ∙ get_or-map (lines_of g.lines) placed.nodes place 0 [] low
+
+  -- a node of the bill has values, or new own ones
+  pub own_there : (node : ℕ) → node < length g.labels → has_node seeds node ≡ false → node < length kept.rolled
+  own_there node there none =
+      elim (cases_lt node (length kept.rolled)) [
+        | inl below ↦ below
+        | inr past ↦ absurd (both_ways (has_node seeds node) none (sweep.can.new_nodes node past there))
+      ]
+
+  -- a node that isn't affected has values, and no new own ones
+  untouched : (node : ℕ) → has_node placed.nodes node ≡ false → has_node seeds node ≡ false
+  untouched node away =
+      false_from_ne_true (has_node seeds node) (λ seed. both_ways (has_node placed.nodes node) away (had node ∙ affected-seed g.lines rank sweep.bill.ranked.1 seeds node seed))
+
+  pub has_kept : (node : ℕ) → node < length g.labels → has_node placed.nodes node ≡ false → node < length kept.rolled
+  has_kept node there away =
+      elim (cases_lt node (length kept.rolled)) [
+        | inl below ↦ below
+        | inr past ↦ absurd (both_ways (has_node seeds node) (untouched node away) (sweep.can.new_nodes node past there))
+      ]
+
+  -- the values of a node that isn't affected stay right
+  pub stays : (node : ℕ) → has_node placed.nodes node ≡ false → node < length g.labels → IsRolled g.lines own node (rolled_at kept.rolled node)
+  stays =
+      goes_up g.lines rank sweep.bill.ranked.1 (λ node. has_node placed.nodes node ≡ false → node < length g.labels → IsRolled g.lines own node (rolled_at kept.rolled node))
+      (λ node below away there.
+      let step = sweep.can.steps node (has_kept node there away) (untouched node away) in
+      step_rolled g.lines rank sweep.bill.ranked.1 own (rolled_at kept.rolled) node (rolled_at kept.rolled node)
+      (λ child line. below child line
+      (false_from_ne_true (has_node placed.nodes child) (λ e. both_ways (has_node placed.nodes node) away (had node ∙ affected-up g.lines rank sweep.bill.ranked.1 seeds node child line (sym (had child) ∙ e))))
+      (sweep.bill.children node child line))
+      (subst (λ o. IsStepOver (rolled_at kept.rolled) o (lines_of g.lines node) (rolled_at kept.rolled node)) (sym (own_other owns kept.owns node (untouched node away))) step))
+
+  -- an affected node is one of the bill
+  pub inside : (node : ℕ) → has_node placed.nodes node ≡ true → node < length g.labels
+  inside node e = affected_inside g sweep.bill seeds placed.nodes sweep.can.nodes sweep.affected node e
+
+  module _ (place : ℕ) (low : place < length placed.nodes) where
+    abbrev node : ℕ
+    node = slice_index placed.nodes place
+
+    -- a child stands before, or it isn't affected
+    pub child_before : (child at : ℕ) → is_line g.lines node child ≡ true → at < length placed.nodes → slice_index placed.nodes at ≡ child → at < place
+    child_before child at line h is =
+        elim (cases_lt at place) [
+          | inl before ↦ before
+          | inr past ↦
+              elim (cases_lt place at) [
+                | inl later ↦ absurd (both_ways (is_line g.lines node child) (subst (λ c. is_line g.lines node c ≡ false) is (sweep.children_first place at 0 later h)) line)
+                | inr not_later ↦
+                    let same : at ≡ place = omega arith in
+                    let itself : child ≡ node = sym is ∙ ap (slice_index placed.nodes) same in
+                    let lower = sweep.bill.ranked.1.falls node child line in
+                    let ranks = ap rank itself in
+                    absurd (omega (arith, lower, ranks))
+              ]
+        ]
+
+    pub knows_weight : (new : List (Option ℕ)) → length new ≡ place → (child : ℕ) → is_line g.lines node child ≡ true → IsKnownWeight (place_in placed.slots child) kept.rolled new child
+    knows_weight new size child line =
+        by_place placed.nodes child (place_in placed.slots child) (sweep.places child) (λ o. IsKnownWeight o kept.rolled new child)
+        (λ away. has_kept child (sweep.bill.children node child line) away) (λ at h is. let before = child_before child at line h is in omega arith)
+
+    pub knows : (new : List RolledValues) → length new ≡ place → (child : ℕ) → is_line g.lines node child ≡ true → IsKnown (place_in placed.slots child) kept.rolled new child
+    knows new size child line =
+        by_place placed.nodes child (place_in placed.slots child) (sweep.places child) (λ o. IsKnown o kept.rolled new child)
+        (λ away. has_kept child (sweep.bill.children node child line) away) (λ at h is. let before = child_before child at line h is in omega arith)
+
+    -- the weight that is found at the place
+    pub weighs : (new : List (Option ℕ)) → new ≡ map (λ n. fitting (weight g.lines own n)) (take place placed.nodes) → (own node).weight < 2 ^ 128 →
+        weighed (λ child. known_weight (place_in placed.slots child) kept.rolled new child) (own node).weight (lines_of g.lines node) ≡ fitting (weight g.lines own node)
+    weighs new is small =
+        let below : ℕ → Option ℕ = λ child. known_weight (place_in placed.slots child) kept.rolled new child in
+        ap (λ o. fold (λ p line. with_child p line.count (below line.node)) o (lines_of g.lines node)) (sym (fits_yes (own node).weight small))
+        ∙ lines_weigh below (weight g.lines own) (lines_of g.lines node)
+        (each_line (λ child. below child ≡ fitting (weight g.lines own child)) (lines_of g.lines node)
+        (λ child line.
+        by_place placed.nodes child (place_in placed.slots child) (sweep.places child) (λ o. known_weight o kept.rolled new child ≡ fitting (weight g.lines own child))
+        (λ away.
+        let right = stays child away (sweep.bill.children node child line) in
+        ap (λ w. Some w) right.weight ∙ sym (fits_yes (weight g.lines own child) (subst (λ w. w < 2 ^ 128) right.weight (sweep.fit child))))
+        (λ spot h spot_is.
+        let before = child_before child spot line h spot_is in
+        ap (λ l. slice_index_or l spot None) is
+        ∙ get_or-map (λ n. fitting (weight g.lines own n)) (take place placed.nodes) spot 0 None (omega (arith, length-take-le place placed.nodes (omega arith)))
+        ∙ ap (λ n. fitting (weight g.lines own n)) (get_or-take place placed.nodes spot 0 before ∙ spot_is))))
+        (own node).weight
+        ∙ ap fitting (sym (rolled-step g.lines rank sweep.bill.ranked.1 (λ n. (own n).weight) node))
+
+    -- the values that are found at the place
+    pub rolls : AllFit g own → (new : List RolledValues) → length new ≡ place → ((at : ℕ) → at < place → IsRolled g.lines own (slice_index placed.nodes at) (rolled_at new at)) → (found : ℕ) → found ≡ weight g.lines own node →
+        IsRolled g.lines own node
+        (let below = λ (child : ℕ). known (place_in placed.slots child) kept.rolled new child in
+        record { weight = found; hops = all_hops below (own node).marks (lines_of g.lines node); loads = all_loads below (own node).loads (lines_of g.lines node) })
+    rolls fit new size before found is =
+        let below : ℕ → RolledValues = λ child. known (place_in placed.slots child) kept.rolled new child in
+        let of_node = lines_of g.lines node in
+        let right : (child : ℕ) → is_line g.lines node child ≡ true → IsRolled g.lines own child (below child) = λ child line.
+        by_place placed.nodes child (place_in placed.slots child) (sweep.places child) (λ o. IsRolled g.lines own child (known o kept.rolled new child))
+        (λ away. stays child away (sweep.bill.children node child line))
+        (λ spot h spot_is. subst (λ c. IsRolled g.lines own c (rolled_at new spot)) spot_is (before spot (child_before child spot line h spot_is))) in
+        let each = each_line (λ child. IsRolled g.lines own child (below child)) of_node right in
+        let step = gathered_step below (own node) of_node
+        (each_as (λ line. IsRolled g.lines own line.node (below line.node)) (λ line. Rises (hop_numbers (below line.node).hops)) (λ line r. r.hops_rise) of_node each)
+        (each_as (λ line. IsRolled g.lines own line.node (below line.node)) (λ line. Rises (substances (below line.node).loads)) (λ line r. r.loads_rise) of_node each)
+        (λ what.
+        let same = sum_same (λ line. line.count * carried (below line.node).loads what) (λ line. line.count * amount g.lines own line.node what) of_node
+        (each_as (λ line. IsRolled g.lines own line.node (below line.node)) (λ line. line.count * carried (below line.node).loads what ≡ line.count * amount g.lines own line.node what)
+        (λ line r. ap (λ v. line.count * v) (carried_is g.lines rank sweep.bill.ranked.1 own line.node (below line.node) r what)) of_node each) in
+        let there = inside node (has_at placed.nodes place low) in
+        omega (arith, same, rolled-step g.lines rank sweep.bill.ranked.1 (λ n. amount_of (own n).loads what) node, sweep.can.lighter node what there, fit node there)) in
+        let rolled = step_rolled g.lines rank sweep.bill.ranked.1 own below node _ right step in
+        subst (λ w. IsRolled g.lines own node (record { weight = w; hops = all_hops below (own node).marks of_node; loads = all_loads below (own node).loads of_node })) (rolled.weight ∙ sym is) rolled

@@ -1,0 +1,16 @@
+pub mod Merged
+pub mod Lists
+pub mod Ranked
+pub mod Rolls
+pub mod Gathers
+pub mod Counts
+pub mod Frame
+pub mod MergeSteps
+pub mod Heavy
+pub mod MarkCount
+pub mod Puts
+pub mod Prepared
+pub mod RolledUp
+pub mod Ways
+pub mod OneNode
+pub mod ExampleProofs

@@ -1,0 +1,115 @@
+-- How many marks there are.
+use Rattle.std.proofs.Common.{◌≡◌, ℕ, ◌+◌, ◌<◌, ◌≤◌, false, cond, ◌==◌, List, [], ◌∷◌, ◌++◌, length, sum_by, take, refl, sym, ap, ◌∙◌, subst, inl, inr, arith}
+use Rattle.std.specs.List.{flat_map, range_with_len}
+use Rattle.std.proofs.lemmas.Bool.{cases_Bool, eqb-true, ne_eqb}
+use Rattle.std.proofs.lemmas.List.{length-map}
+use Rattle.std.proofs.lemmas.List.FromFn.{get_or-range_with_len, length-range_with_len}
+use Rattle.std.proofs.lemmas.List.Sums.{sum_by-take-le, sum_by_more}
+use Rattle.desk_graph.specs.declared.line.BillLine.{BillLine}
+use Rattle.desk_graph.specs.Graph.{Graph, lines_of}
+use Rattle.desk_graph.specs.Reaches.{Falls}
+use Rattle.desk_rollup.specs.Numbers.{RisesFrom, has, hop_numbers, mark_numbers, number_of, once}
+use Rattle.desk_rollup.specs.Places.{IsKnown, Placed, known, place_in}
+use Rattle.desk_rollup.specs.Rolled.{IsRolled, gathered, mark_count, marks}
+use Rattle.desk_rollup.specs.Sweep.{AreRolledOf, IsSweep}
+use Rattle.desk_rollup.specs.Values.{Kept, OwnValues, RolledValues, own_with, rolled_at}
+use Rattle.desk_rollup.proofs.Counts.{none_times, one_if, same_length, some_times, times, times-cons}
+use Rattle.desk_rollup.proofs.Frame.{by_place, has_kept, stays}
+use Rattle.desk_rollup.proofs.Lists.{has_once}
+use Rattle.desk_rollup.proofs.Ranked.{gathered-step}
+use Rattle.desk_rollup.proofs.Rolls.{has_marks}
+
+none_rising : (low n : ℕ) (ns : List ℕ) → n < low → RisesFrom low ns → times n ns ≡ 0
+none_rising low n [] h up = refl
+none_rising low n (first ∷ ns) h up =
+    let away = ap one_if (ne_eqb first n (λ e. omega (arith, up.0))) in
+    omega (arith, times-cons n first ns, away, none_rising (first + 1) n ns (omega (arith, up.0)) up.1)
+
+-- numbers that rise stand there once
+rising_once : (low n : ℕ) (ns : List ℕ) → RisesFrom low ns → times n ns ≤ 1
+rising_once low n [] up = omega arith
+rising_once low n (first ∷ ns) up =
+    elim (cases_Bool (first == n)) [
+      | inl here ↦
+          let same = eqb-true first n here in
+          let one = ap one_if here in
+          omega (arith, times-cons n first ns, one, none_rising (first + 1) n ns (omega (arith, same)) up.1)
+      | inr away ↦ let none = ap one_if away in omega (arith, times-cons n first ns, none, rising_once (first + 1) n ns up.1)
+    ]
+
+once_once : (n : ℕ) (ns : List ℕ) → times n (once ns) ≤ 1
+once_once n [] = omega arith
+once_once n (first ∷ ns) =
+    elim (cases_Bool (has ns first)) [
+      | inl again ↦ rw again (once_once n ns)
+      | inr new ↦
+          rw new
+          (elim (cases_Bool (first == n)) [
+            | inl here ↦
+                let one = ap one_if here in
+                let none = none_times n (once ns) (has_once ns n ∙ subst (λ m. has ns m ≡ false) (eqb-true first n here) new) in
+                omega (arith, times-cons n first (once ns), one, none)
+            | inr away ↦ let none = ap one_if away in omega (arith, times-cons n first (once ns), none, once_once n ns)
+          ])
+    ]
+
+-- lists without repeats that have the same numbers are equally long
+equally_long : (xs ys : List ℕ) → ((n : ℕ) → times n xs ≤ 1) → ((n : ℕ) → times n ys ≤ 1) → ((n : ℕ) → has xs n ≡ has ys n) → length xs ≡ length ys
+equally_long xs ys x_once y_once same =
+    same_length xs ys (λ n.
+    elim (cases_Bool (has xs n)) [
+      | inl there ↦ let x = some_times n xs there in let y = some_times n ys (sym (same n) ∙ there) in omega (arith, x, y, x_once n, y_once n)
+      | inr away ↦ none_times n xs away ∙ sym (none_times n ys (sym (same n) ∙ away))
+    ])
+
+module _ (lines : List (List BillLine)) (rank : ℕ → ℕ) (ranked : Falls lines rank) (own : ℕ → OwnValues) where
+  -- a node has as many hops as marks
+  pub hop_count : (node : ℕ) (values : RolledValues) → IsRolled lines own node values → length values.hops ≡ length (marks lines own node)
+  hop_count node values right =
+      let all = mark_numbers (own node).marks in
+      sym (length-map values.hops (λ hop. number_of hop.mark))
+      ∙ equally_long (hop_numbers values.hops) (marks lines own node) (λ n. rising_once 0 n (hop_numbers values.hops) right.hops_rise)
+      (λ n. subst (λ ns. times n ns ≤ 1) (sym (gathered-step lines rank ranked (λ m. mark_numbers (own m).marks) node)) (once_once n (all ++ flat_map (λ line. gathered lines (λ m. mark_numbers (own m).marks) line.node) (lines_of lines node))))
+      (has_marks lines rank ranked own node values right)
+
+module _ (g : Graph) (owns : List OwnValues) (kept : Kept) (of_owns placed : Placed) (lists : List (List BillLine)) (sweep : IsSweep g owns kept of_owns placed lists)
+    (new : List RolledValues) (size : length new ≡ length placed.nodes) (right : AreRolledOf g owns kept placed.nodes new) where
+  abbrev own : ℕ → OwnValues
+  own = own_with owns kept.owns
+
+  -- the values of each node are at hand, and right
+  pub all_known : (node : ℕ) → node < length g.labels → IsKnown (place_in placed.slots node) kept.rolled new node
+  all_known node there =
+      by_place placed.nodes node (place_in placed.slots node) (sweep.places node) (λ o. IsKnown o kept.rolled new node)
+      (λ away. has_kept g owns kept of_owns placed lists sweep node there away) (λ spot h is. omega (arith, h, size))
+
+  pub all_right : (node : ℕ) → node < length g.labels → IsRolled g.lines own node (known (place_in placed.slots node) kept.rolled new node)
+  all_right node there =
+      by_place placed.nodes node (place_in placed.slots node) (sweep.places node) (λ o. IsRolled g.lines own node (known o kept.rolled new node))
+      (λ away. stays g owns kept of_owns placed lists sweep node away there) (λ spot h is. subst (λ n. IsRolled g.lines own n (rolled_at new spot)) is (right spot h))
+
+  abbrev counted : ℕ → ℕ
+  counted node = cond (length (lines_of g.lines node) == 0) 0 (length (marks g.lines own node))
+
+  abbrev pub so_far : ℕ → ℕ
+  so_far node = sum_by counted (take node (range_with_len 0 (length g.lines)))
+
+  pub count_more : (node : ℕ) → node < length g.labels →
+      so_far (node + 1) ≡ so_far node + cond (length (lines_of g.lines node) == 0) 0 (length (known (place_in placed.slots node) kept.rolled new node).hops)
+  count_more node there =
+      let in_range : node < length g.lines = omega (arith, sweep.bill.sizes, there) in
+      sum_by_more counted (range_with_len 0 (length g.lines)) node 0 (omega (arith, length-range_with_len 0 (length g.lines), in_range))
+      ∙ ap (λ n. so_far node + counted n) (get_or-range_with_len 0 (length g.lines) node 0 in_range ∙ omega arith)
+      ∙ ap (λ n. so_far node + cond (length (lines_of g.lines node) == 0) 0 n) (sym (hop_count g.lines sweep.bill.ranked.0 sweep.bill.ranked.1 own node (known (place_in placed.slots node) kept.rolled new node) (all_right node there)))
+
+  pub count_within : (node : ℕ) → so_far node ≤ mark_count g.lines own
+  count_within node = sum_by-take-le counted (range_with_len 0 (length g.lines)) node
+
+  pub count_all : so_far (length g.labels) ≡ mark_count g.lines own
+  count_all =
+      ap (λ l. sum_by counted l)
+      (ap (λ n. take n (range_with_len 0 (length g.lines))) (sym sweep.bill.sizes ∙ sym (length-range_with_len 0 (length g.lines))) ∙ take-all (range_with_len 0 (length g.lines)))
+    where
+      take-all : (ns : List ℕ) → take (length ns) ns ≡ ns
+      take-all [] = refl
+      take-all (n ∷ ns) = ap (λ l. n ∷ l) (take-all ns)

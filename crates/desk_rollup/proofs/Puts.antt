@@ -1,0 +1,99 @@
+-- What is written down node by node.
+use Rattle.std.proofs.Common.{◌≡◌, ℕ, zero, suc, ◌+◌, ◌^◌, ◌<◌, ◌≤◌, Bool, true, false, ◌==◌, List, [], ◌∷◌, ◌++◌, length, set, slice_index, slice_index_or, take, Option, Some, None, refl, sym, ap, ◌∙◌, subst, inl, inr, arith, add-one}
+use Rattle.std.proofs.lemmas.Bool.{both_ways, cases_eq, eq-eqb, ne_eqb}
+use Rattle.std.proofs.lemmas.List.{get_or-set_other, get_or-set_same, get_or_append_left, get_or_at, get_or_push, length_push, length-take-le, take_more}
+use Rattle.std.proofs.lemmas.List.Folds.{list_any-append}
+use Rattle.desk_graph.specs.Reaches.{has_node}
+use Rattle.desk_rollup.specs.Places.{IsTold, place_in, place_told}
+use Rattle.desk_rollup.specs.Plan.{AreDistinct, nodes_of}
+use Rattle.desk_rollup.specs.Values.{DoFit, OwnValues, RolledValues, no_own, no_values, own_at, own_with, rolled_at}
+use Rattle.desk_rollup.proofs.Frame.{own_other}
+use Rattle.desk_rollup.proofs.Counts.{has_at}
+
+-- a place is told of a node still where another node comes behind
+told_more : (nodes : List ℕ) (more node : ℕ) (place : Option ℕ) → (more == node) ≡ false → IsTold nodes node place → IsTold (nodes ++ more ∷ []) node place
+told_more nodes more node None other told = list_any-append (λ n. n == node) nodes (more ∷ []) ∙ rw (told, other) refl
+told_more nodes more node (Some place) other told = (omega (arith, told.0, length_push nodes more), get_or_append_left nodes (more ∷ []) 0 place told.0 ∙ told.1)
+
+-- the places of so many nodes, and of one more
+pub told_next : (nodes slots : List ℕ) (place : ℕ) → place < length nodes → slice_index nodes place < length slots → ((node : ℕ) → IsTold (take place nodes) node (place_in slots node)) →
+    (node : ℕ) → IsTold (take (place + 1) nodes) node (place_in (set slots (slice_index nodes place) (place + 1)) node)
+told_next nodes slots place low there told node =
+    let at = slice_index nodes place in
+    let more = take_more nodes place 0 low in
+    let size = length-take-le place nodes (omega (arith, low)) in
+    elim (cases_eq node at) [
+      | inl same ↦
+          let slot : slice_index (set slots at (place + 1)) node ≡ suc place = ap (slice_index (set slots at (place + 1))) same ∙ get_or-set_same slots at (place + 1) 0 there ∙ add-one place in
+          let is : IsTold (take place nodes ++ at ∷ []) node (Some place) = (omega (arith, length_push (take place nodes) at, size), get_or_push (take place nodes) at 0 place size ∙ sym same) in
+          subst (λ s. IsTold (take (place + 1) nodes) node (place_told s)) (sym slot) (subst (λ l. IsTold l node (Some place)) (sym more) is)
+      | inr other ↦
+          let slot : slice_index (set slots at (place + 1)) node ≡ slice_index slots node = get_or-set_other slots at node (place + 1) 0 other in
+          subst (λ s. IsTold (take (place + 1) nodes) node (place_told s)) (sym slot)
+          (subst (λ l. IsTold l node (place_in slots node)) (sym more) (told_more (take place nodes) at node (place_in slots node) (ne_eqb at node (λ e. other (sym e))) (told node)))
+    ]
+
+-- own values that were put in are those that are kept then
+pub put_own : (own : OwnValues) (rest kept : List OwnValues) → own.node < length kept → has_node (nodes_of rest) own.node ≡ false → (node : ℕ) → own_with rest (set kept own.node own) node ≡ own_with (own ∷ rest) kept node
+put_own own rest kept there alone node =
+    elim (cases_eq own.node node) [
+      | inl same ↦
+          let is : (own.node == node) ≡ true = eq-eqb own.node node same in
+          rw is
+          (own_other rest (set kept own.node own) node (subst (λ n. has_node (nodes_of rest) n ≡ false) same alone)
+          ∙ ap (own_at (set kept own.node own)) (sym same) ∙ get_or-set_same kept own.node own no_own there)
+      | inr other ↦
+          let is_not : (own.node == node) ≡ false = ne_eqb own.node node other in
+          rw is_not (kept_other rest (set kept own.node own) kept node (get_or-set_other kept own.node node own no_own (λ e. other (sym e))))
+    ]
+  where
+    kept_other : (new a b : List OwnValues) (n : ℕ) → own_at a n ≡ own_at b n → own_with new a n ≡ own_with new b n
+    kept_other new a b n e = ap (λ o. Rattle.std.proofs.Common.unwrap_or (Rattle.std.proofs.Common.find (λ x. x.node == n) new) o) e
+
+distinct_places : (nodes : List ℕ) → AreDistinct nodes → (i j : ℕ) → i < j → j < length nodes → slice_index nodes j ≡ slice_index nodes i → ⊥
+distinct_places [] distinct i j h low e = omega arith
+distinct_places (node ∷ nodes) distinct zero zero h low e = omega arith
+distinct_places (node ∷ nodes) distinct zero (suc j) h low e =
+    both_ways (has_node nodes node) distinct.0 (subst (λ n. has_node nodes n ≡ true) e (has_at nodes j (omega arith)))
+distinct_places (node ∷ nodes) distinct (suc i) zero h low e = omega arith
+distinct_places (node ∷ nodes) distinct (suc i) (suc j) h low e = distinct_places nodes distinct.1 i j (omega arith) (omega arith) e
+
+-- values are put in from the last on
+module _ (nodes : List ℕ) (distinct : AreDistinct nodes) (kept all front : List RolledValues) (values : RolledValues) (tail : List RolledValues) (whole : all ≡ front ++ values ∷ tail) (low : length front < length nodes)
+    (there : slice_index nodes (length front) < length kept) where
+  abbrev at : ℕ
+  at = slice_index nodes (length front)
+
+  these : rolled_at all (length front) ≡ values
+  these = ap (λ l. rolled_at l (length front)) whole ∙ get_or_at front values tail no_values (length front) refl
+
+  pub put_next : ((place : ℕ) → length front + 1 ≤ place → place < length nodes → rolled_at kept (slice_index nodes place) ≡ rolled_at all place) →
+      (place : ℕ) → length front ≤ place → place < length nodes → rolled_at (set kept at values) (slice_index nodes place) ≡ rolled_at all place
+  put_next so place past h =
+      elim (cases_eq place (length front)) [
+        | inl same ↦
+            subst (λ p. rolled_at (set kept at values) (slice_index nodes p) ≡ rolled_at all p) (sym same) (get_or-set_same kept at values no_values there ∙ sym these)
+        | inr other ↦
+            let later : length front + 1 ≤ place = omega (arith, past, other) in
+            get_or-set_other kept at (slice_index nodes place) values no_values (distinct_places nodes distinct (length front) place (omega arith) h) ∙ so place later h
+      ]
+
+  pub put_stays : (node : ℕ) → has_node nodes node ≡ false → rolled_at (set kept at values) node ≡ rolled_at kept node
+  put_stays node away =
+      get_or-set_other kept at node values no_values (λ e. both_ways (has_node nodes node) away (subst (λ n. has_node nodes n ≡ true) (sym e) (has_at nodes (length front) low)))
+
+  pub put_fit : DoFit kept → DoFit all → DoFit (set kept at values)
+  put_fit fit all_fit node =
+      let P : RolledValues → Type 0 = λ v. v.weight < 2 ^ 128 in
+      elim (cases_eq node at) [
+        | inl same ↦
+            subst (λ n. P (rolled_at (set kept at values) n)) (sym same) (subst P (sym (get_or-set_same kept at values no_values there)) (subst P these (all_fit (length front))))
+        | inr other ↦ subst P (sym (get_or-set_other kept at node values no_values other)) (fit node)
+      ]
+
+-- nodes that have nothing change nothing
+pub none_more : {X : Type 0} (xs : List X) (none : X) (node : ℕ) → slice_index_or (xs ++ none ∷ []) node none ≡ slice_index_or xs node none
+none_more [] none zero = refl
+none_more [] none (suc node) = refl
+none_more (x ∷ xs) none zero = refl
+none_more (x ∷ xs) none (suc node) = none_more xs none node

@@ -1,0 +1,15 @@
+pub mod Numbers
+pub mod Values
+pub mod Rolled
+pub mod Step
+pub mod Plan
+pub mod Merge
+pub mod Faults
+pub mod Places
+pub mod Weights
+pub mod Gathered
+pub mod Sweep
+pub mod Inside
+pub mod Chain
+pub mod Laws
+pub mod Examples

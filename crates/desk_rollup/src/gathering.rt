@@ -1,0 +1,84 @@
+ghost use Rattle.std.specs.Prelude.{◌≡◌, [], ◌∷◌, map, OnOk, IfOk};
+ghost use Rattle.desk_rollup.specs.Merge.{merged};
+
+use crate::entry::Entry;
+use crate::merge::merge;
+use desk_graph::{BillLine, OutOfMemory};
+use std::alloc::Global;
+use std::marker::Model;
+use std::mem;
+
+/// A list in the order of its numbers to which others are added. Contracts see the list.
+#[derive(Drop)]
+pub struct Gathering<E> {
+    held: Vec<E>,
+    room: Vec<E>,
+    lifted: Vec<E>,
+}
+
+impl<E> Model for Gathering<E> {
+    ghost use Rattle.std.specs.Prelude.{List};
+
+    ghost Value = { List E };
+
+    ghost view = { λ gathering. gathering.held.items };
+}
+
+impl<E: Entry> Gathering<E> {
+    /// No entries. It takes no memory yet.
+    pub fn new(alloc: Global) -> Gathering<E>
+        ensures { result ≡ [] }
+    {
+        Gathering {
+            held: Vec::new(alloc),
+            room: Vec::new(alloc),
+            lifted: Vec::new(alloc),
+        }
+    }
+
+    /// Begins anew with no entries.
+    pub fn clear(&mut self)
+        ensures { self.new ≡ [] }
+    {
+        self.held.clear();
+    }
+
+    /// Adds one entry.
+    pub fn add(&mut self, entry: E) -> Result<(), OutOfMemory>
+        ensures { OnOk result (self.new ≡ merged E.number E.joined (entry ∷ []) self.old) }
+    {
+        self.lifted.clear();
+        self.lifted.push(entry)?;
+        merge(self.held.as_slice(), self.lifted.as_slice(), &mut self.room)?;
+        mem::swap(&mut self.held, &mut self.room);
+        Ok(())
+    }
+
+    /// Adds what the entries of a child are at the parent of the line.
+    pub fn add_lifted(&mut self, line: BillLine, entries: &[E]) -> Result<(), OutOfMemory>
+        ensures { OnOk result (self.new ≡ merged E.number E.joined (map (E.lifted line) entries.now) self.old) }
+    {
+        lift(line, entries, &mut self.lifted)?;
+        merge(self.held.as_slice(), self.lifted.as_slice(), &mut self.room)?;
+        mem::swap(&mut self.held, &mut self.room);
+        Ok(())
+    }
+
+    /// The entries, in a list that takes no more room than they do.
+    pub fn copied(&self, alloc: Global) -> Result<Vec<E>, OutOfMemory>
+        ensures { IfOk result (λ entries. entries.items ≡ self.now) }
+    {
+        Ok(Vec::from_slice(alloc, self.held.as_slice())?)
+    }
+}
+
+/// Writes what the entries of a child are at the parent of the line.
+fn lift<E: Entry>(line: BillLine, entries: &[E], into: &mut Vec<E>) -> Result<(), OutOfMemory>
+    ensures { OnOk result (into.new.items ≡ map (E.lifted line) entries.now) }
+{
+    into.clear();
+    for entry in entries {
+        into.push(entry.lifted(line))?;
+    }
+    Ok(())
+}

@@ -1,0 +1,45 @@
+ghost use Rattle.std.specs.Prelude.{Some};
+ghost use Rattle.desk_rollup.specs.Numbers.{number_of};
+
+use crate::entry::Entry;
+use crate::mark::Mark;
+use crate::rolled::Rolled;
+use desk_graph::{BillLine, NodeId};
+
+/// A mark of a node, and where the way to it goes on. It takes 16 bytes.
+#[derive(Clone, Copy, Debug, PartialEq, Eq)]
+pub struct Hop {
+    /// The mark.
+    pub mark: Mark,
+    /// The child with the least label that has the mark, or none where the mark is the node's own.
+    pub next: Option<NodeId>,
+}
+
+impl Entry for Hop {
+    ghost number = { λ hop. number_of hop.mark };
+
+    ghost joined = { λ held more. held };
+
+    ghost lifted = { λ line hop. record { mark = hop.mark; next = Some line.node } };
+
+    ghost listed = { λ rolled. rolled.hops };
+
+    fn number(&self) -> u64 {
+        self.mark.number()
+    }
+
+    fn joined(self, _more: Hop) -> Hop {
+        self
+    }
+
+    fn lifted(self, line: BillLine) -> Hop {
+        Hop {
+            mark: self.mark,
+            next: Some(line.node),
+        }
+    }
+
+    fn listed(rolled: &Rolled) -> &[Hop] {
+        rolled.hops.as_slice()
+    }
+}

@@ -1,0 +1,34 @@
+//! What goes up a bill of materials and is kept by node: weights, marks with the way to each, and loads.
+#![tactic(auto)]
+
+mod entry;
+mod examples;
+mod fault;
+mod gathering;
+mod hop;
+mod laws;
+mod load;
+mod mark;
+mod merge;
+mod own;
+mod places;
+mod plan;
+mod rolled;
+mod roller;
+mod rollups;
+mod sweep;
+#[cfg(test)]
+mod tests;
+mod values;
+mod weights;
+
+pub use examples::examples_hold;
+pub use fault::RollFault;
+pub use hop::Hop;
+pub use laws::{may_prepare_one, stays_lighter, stays_right};
+pub use load::Load;
+pub use mark::Mark;
+pub use own::Own;
+pub use plan::RollPlan;
+pub use rolled::Rolled;
+pub use rollups::Rollups;

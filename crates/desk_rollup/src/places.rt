@@ -1,0 +1,73 @@
+ghost use Rattle.std.specs.Prelude.{◌≡◌, ◌<◌, ◌≤◌, ℕ, true, length, IfOk};
+ghost use Rattle.desk_graph.specs.Reaches.{has_node};
+ghost use Rattle.desk_rollup.specs.Places.{IsTold, place_in};
+
+use desk_graph::{NodeId, OutOfMemory};
+use std::alloc::Global;
+use std::marker::Model;
+
+/// Nodes in an order, with the place of each at hand. Contracts see the nodes, and a number that tells the place of each node.
+#[derive(Drop)]
+pub struct Places {
+    nodes: Vec<NodeId>,
+    slots: Vec<u32>,
+}
+
+impl Model for Places {
+    ghost use Rattle.desk_rollup.specs.Places.{ArePlaced, Placed};
+
+    ghost Value = { Placed };
+
+    ghost view = { λ places. record {
+      nodes = places.nodes.items;
+      slots = places.slots.items;
+    } };
+
+    ghost invariant = { λ places. ArePlaced (record { nodes = places.nodes.items; slots = places.slots.items }) };
+}
+
+impl Places {
+    /// The places of the nodes, which are below `count`.
+    pub fn new(alloc: Global, nodes: Vec<NodeId>, count: usize) -> Result<Places, OutOfMemory>
+        requires nodes { (node : ℕ) → has_node nodes.items node ≡ true → node < count }
+        requires few { length nodes.items ≤ 24576 }
+        ensures { IfOk result (λ places. places.nodes ≡ nodes.items) }
+    {
+        let mut slots = Vec::from_elem(alloc, 0, count)?;
+        set_slots(nodes.as_slice(), slots.as_mut_slice());
+        Ok(Places { nodes, slots })
+    }
+
+    /// The nodes in their order.
+    pub fn as_slice(&self) -> &[NodeId]
+        ensures { result.now ≡ self.now.nodes }
+    {
+        self.nodes.as_slice()
+    }
+
+    /// The place of a node, if it has one.
+    pub fn place_of(&self, node: NodeId) -> Option<usize>
+        ensures place { result ≡ place_in self.now.slots node }
+        ensures told { IsTold self.now.nodes node result }
+    {
+        if node as usize >= self.slots.len() {
+            return None;
+        }
+        match self.slots[node as usize] {
+            0 => None,
+            slot => Some(slot as usize - 1),
+        }
+    }
+}
+
+/// Writes down one more than the place of each node.
+fn set_slots(nodes: &[NodeId], slots: &mut [u32])
+    requires nodes { (node : ℕ) → has_node nodes.now node ≡ true → node < length slots.old }
+    requires few { length nodes.now ≤ 24576 }
+    requires none { (node : ℕ) → place_in slots.old node ≡ None }
+    ensures { (node : ℕ) → IsTold nodes.now node (place_in slots.new node) }
+{
+    for (place, node) in nodes.iter().enumerate() {
+        slots[*node as usize] = place as u32 + 1;
+    }
+}

@@ -1,0 +1,43 @@
+ghost use Rattle.std.specs.Prelude.{◌≡◌};
+ghost use Rattle.desk_rollup.specs.Values.{no_values};
+
+use crate::hop::Hop;
+use crate::load::Load;
+use std::alloc::Global;
+use std::marker::Model;
+
+/// What a node has together with all that it is made of. Contracts see it with its lists.
+#[derive(Debug, Drop)]
+pub struct Rolled {
+    /// What the node weighs.
+    pub weight: u128,
+    /// What is found at it, and where the way to each mark goes on, in the order of marks, each once.
+    pub hops: Vec<Hop>,
+    /// What it carries, in the order of `what`, each once.
+    pub loads: Vec<Load>,
+}
+
+impl Model for Rolled {
+    ghost use Rattle.desk_rollup.specs.Values.{RolledValues};
+
+    ghost Value = { RolledValues };
+
+    ghost view = { λ rolled. record {
+      weight = rolled.weight;
+      hops = rolled.hops.items;
+      loads = rolled.loads.items;
+    } };
+}
+
+impl Rolled {
+    /// A node that has nothing. It takes no memory.
+    pub(crate) fn none(alloc: Global) -> Rolled
+        ensures { result ≡ no_values }
+    {
+        Rolled {
+            weight: 0,
+            hops: Vec::new(alloc),
+            loads: Vec::new(alloc),
+        }
+    }
+}

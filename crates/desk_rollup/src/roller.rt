@@ -1,0 +1,79 @@
+ghost use Rattle.std.specs.Prelude.{◌≡◌, ℕ, true, [], map, IfOk, OnOk};
+ghost use Rattle.desk_graph.specs.Graph.{has_line};
+ghost use Rattle.desk_rollup.specs.Gathered.{all_hops, all_loads, own_hop, with_each, with_lines};
+ghost use Rattle.desk_rollup.specs.Places.{IsKnown, known, place_in};
+
+use crate::entry::Entry;
+use crate::gathering::Gathering;
+use crate::hop::Hop;
+use crate::load::Load;
+use crate::mark::Mark;
+use crate::own::Own;
+use crate::rolled::Rolled;
+use crate::values::Values;
+use desk_graph::{BillLine, OutOfMemory};
+use std::alloc::Global;
+
+/// The values of a node, by its own and by those of its children.
+pub fn roll(
+    alloc: Global,
+    weight: u128,
+    own: &Own,
+    lines: &[BillLine],
+    values: &Values,
+) -> Result<Rolled, OutOfMemory>
+    requires { (child : ℕ) → has_line lines.now child ≡ true → IsKnown (place_in values.now.places.now.slots child) values.now.kept.now values.now.new.now child }
+    ensures { IfOk result (λ rolled. let below = λ (child : ℕ). known (place_in values.now.places.now.slots child) values.now.kept.now values.now.new.now child in
+        rolled ≡ record { weight = weight; hops = all_hops below own.now.marks lines.now; loads = all_loads below own.now.loads lines.now }) }
+{
+    let mut hops = Gathering::new(alloc);
+    add_marks(own.marks.as_slice(), &mut hops)?;
+    add_lines(lines, values, &mut hops)?;
+    let mut loads = Gathering::new(alloc);
+    add_each(own.loads.as_slice(), &mut loads)?;
+    add_lines(lines, values, &mut loads)?;
+    Ok(Rolled {
+        weight,
+        hops: hops.copied(alloc)?,
+        loads: loads.copied(alloc)?,
+    })
+}
+
+/// Adds own marks.
+fn add_marks(marks: &[Mark], into: &mut Gathering<Hop>) -> Result<(), OutOfMemory>
+    ensures { OnOk result (into.new ≡ with_each ⟦<Hop as Entry>⟧.number ⟦<Hop as Entry>⟧.joined (map own_hop marks.now) into.old) }
+{
+    for mark in marks {
+        into.add(Hop {
+            mark: *mark,
+            next: None,
+        })?;
+    }
+    Ok(())
+}
+
+/// Adds each of the entries.
+fn add_each<E: Entry>(entries: &[E], into: &mut Gathering<E>) -> Result<(), OutOfMemory>
+    ensures { OnOk result (into.new ≡ with_each E.number E.joined entries.now into.old) }
+{
+    for entry in entries {
+        into.add(*entry)?;
+    }
+    Ok(())
+}
+
+/// Adds what the children of the lines have.
+fn add_lines<E: Entry>(
+    lines: &[BillLine],
+    values: &Values,
+    into: &mut Gathering<E>,
+) -> Result<(), OutOfMemory>
+    requires { (child : ℕ) → has_line lines.now child ≡ true → IsKnown (place_in values.now.places.now.slots child) values.now.kept.now values.now.new.now child }
+    ensures { OnOk result (into.new ≡ with_lines E.number E.joined E.lifted E.listed
+        (λ child. known (place_in values.now.places.now.slots child) values.now.kept.now values.now.new.now child) lines.now into.old) }
+{
+    for line in lines {
+        into.add_lifted(*line, E::listed(values.of(line.node)))?;
+    }
+    Ok(())
+}

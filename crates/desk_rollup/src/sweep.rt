@@ -1,0 +1,176 @@
+ghost use Rattle.std.specs.Prelude.{◌≡◌, ◌==◌, ◌+◌, ◌<◌, ◌≤◌, ℕ, length, map, nat_lt, if◌then◌else◌, IfErr, IfOk, IfSome};
+ghost use Rattle.desk_graph.specs.Graph.{lines_of};
+ghost use Rattle.desk_rollup.specs.Places.{IsKnown, known, place_in};
+ghost use Rattle.desk_rollup.specs.Plan.{AllFit, IsAccepted, IsRefused};
+ghost use Rattle.desk_rollup.specs.Rolled.{mark_count, weight};
+ghost use Rattle.desk_rollup.specs.Sweep.{AreRolledOf, IsSweep, IsTooLargeOr, lesser_of};
+ghost use Rattle.desk_rollup.specs.Values.{own_with};
+ghost use Rattle.desk_rollup.specs.Weights.{fitting};
+
+use crate::fault::RollFault;
+use crate::own::Own;
+use crate::places::Places;
+use crate::rolled::Rolled;
+use crate::roller::roll;
+use crate::rollups::Rollups;
+use crate::values::Values;
+use crate::weights::weigh;
+use desk_graph::{BillLine, BillView, NodeId, OutOfMemory};
+use std::alloc::Global;
+
+/// The greatest number of marks that the nodes with lines may have together.
+pub const MARK_LIMIT: usize = 4_194_304;
+
+/// What a sweep over the affected nodes goes by.
+#[derive(Drop)]
+pub struct Sweep<'a, B> {
+    pub bill: &'a B,
+    pub kept: &'a Rollups,
+    pub owns: &'a [Own],
+    pub of_owns: &'a Places,
+    pub places: &'a Places,
+    pub lists: &'a [&'a [BillLine]],
+}
+
+impl<'a, B: BillView> Sweep<'a, B> {
+    /// The new own values of a node, or those that are kept of it.
+    fn own(&self, node: NodeId) -> &Own
+        requires sweep { IsSweep (B.graph self.now.bill.now) self.now.owns.now self.now.kept.now self.now.of_owns.now self.now.places.now (map (λ list. list.now) self.now.lists.now) }
+        requires there { node < length (B.graph self.now.bill.now).labels }
+        ensures { result.now ≡ own_with self.now.owns.now self.now.kept.now.owns node }
+    {
+        match self.of_owns.place_of(node) {
+            Some(place) => &self.owns[place],
+            None => self.kept.own(node),
+        }
+    }
+
+    /// The values of each affected node, or why they are refused.
+    pub fn judged(&self, alloc: Global) -> Result<Vec<Rolled>, RollFault>
+        requires { IsSweep (B.graph self.now.bill.now) self.now.owns.now self.now.kept.now self.now.of_owns.now self.now.places.now (map (λ list. list.now) self.now.lists.now) }
+        ensures size { IfOk result (λ rolled. length rolled.items ≡ length self.now.places.now.nodes) }
+        ensures right { IfOk result (λ rolled. AreRolledOf (B.graph self.now.bill.now) self.now.owns.now self.now.kept.now self.now.places.now.nodes rolled.items) }
+        ensures accepted { IfOk result (λ rolled. IsAccepted (B.graph self.now.bill.now) (own_with self.now.owns.now self.now.kept.now.owns)) }
+        ensures refused { IfErr result (λ fault. IsRefused (B.graph self.now.bill.now) (own_with self.now.owns.now self.now.kept.now.owns) fault) }
+    {
+        let weights = self.weights(alloc)?;
+        if let Some(node) = self.first_too_large(weights.as_slice()) {
+            return Err(RollFault::WeightTooLarge { node });
+        }
+        let rolled = self.rolled(alloc, weights.as_slice())?;
+        if self.are_marks_too_many(rolled.as_slice()) {
+            return Err(RollFault::MarksFull);
+        }
+        Ok(rolled)
+    }
+
+    /// The weight of each affected node, unless it is 2^128 or more.
+    fn weights(&self, alloc: Global) -> Result<Vec<Option<u128>>, OutOfMemory>
+        requires { IsSweep (B.graph self.now.bill.now) self.now.owns.now self.now.kept.now self.now.of_owns.now self.now.places.now (map (λ list. list.now) self.now.lists.now) }
+        ensures { IfOk result (λ weights. weights.items ≡ map (λ node. fitting (weight (B.graph self.now.bill.now).lines (own_with self.now.owns.now self.now.kept.now.owns) node)) self.now.places.now.nodes) }
+    {
+        let mut weights = Vec::with_capacity(alloc, self.lists.len())?;
+        for (place, node) in self.places.as_slice().iter().enumerate() {
+            let own = self.own(*node);
+            let weight = weigh(
+                own.weight,
+                self.lists[place],
+                self.places,
+                self.kept.values(),
+                weights.as_slice(),
+            );
+            weights.push(weight)?;
+        }
+        Ok(weights)
+    }
+
+    /// The values of each affected node, where no weight is too large.
+    fn rolled(&self, alloc: Global, weights: &[Option<u128>]) -> Result<Vec<Rolled>, OutOfMemory>
+        requires sweep { IsSweep (B.graph self.now.bill.now) self.now.owns.now self.now.kept.now self.now.of_owns.now self.now.places.now (map (λ list. list.now) self.now.lists.now) }
+        requires weights { weights.now ≡ map (λ node. fitting (weight (B.graph self.now.bill.now).lines (own_with self.now.owns.now self.now.kept.now.owns) node)) self.now.places.now.nodes }
+        requires fit { AllFit (B.graph self.now.bill.now) (own_with self.now.owns.now self.now.kept.now.owns) }
+        ensures size { IfOk result (λ rolled. length rolled.items ≡ length self.now.places.now.nodes) }
+        ensures right { IfOk result (λ rolled. AreRolledOf (B.graph self.now.bill.now) self.now.owns.now self.now.kept.now self.now.places.now.nodes rolled.items) }
+    {
+        let mut rolled = Vec::with_capacity(alloc, self.lists.len())?;
+        for (place, node) in self.places.as_slice().iter().enumerate() {
+            let values = Values {
+                places: self.places,
+                kept: self.kept.values(),
+                new: rolled.as_slice(),
+            };
+            let weight = weights[place].unwrap_or(0);
+            let new = roll(alloc, weight, self.own(*node), self.lists[place], &values)?;
+            rolled.push(new)?;
+        }
+        Ok(rolled)
+    }
+
+    /// Of the nodes whose weight is too large the one with the least label.
+    fn first_too_large(&self, weights: &[Option<u128>]) -> Option<NodeId>
+        requires sweep { IsSweep (B.graph self.now.bill.now) self.now.owns.now self.now.kept.now self.now.of_owns.now self.now.places.now (map (λ list. list.now) self.now.lists.now) }
+        requires weights { weights.now ≡ map (λ node. fitting (weight (B.graph self.now.bill.now).lines (own_with self.now.owns.now self.now.kept.now.owns) node)) self.now.places.now.nodes }
+        ensures { IsTooLargeOr (B.graph self.now.bill.now) (own_with self.now.owns.now self.now.kept.now.owns) result }
+    {
+        let mut first = None;
+        for (place, node) in self.places.as_slice().iter().enumerate() {
+            first = self.lesser_of(first, *node, weights[place]);
+        }
+        first
+    }
+
+    /// Of the first of two nodes, if there is one, and of the second, if its weight is too large, the one with the lesser label.
+    fn lesser_of(&self, first: Option<NodeId>, node: NodeId, weight: Option<u128>) -> Option<NodeId>
+        requires there { node < length (B.graph self.now.bill.now).labels }
+        requires first { IfSome first (λ other. other < length (B.graph self.now.bill.now).labels) }
+        ensures { result ≡ lesser_of (B.graph self.now.bill.now).labels first node weight }
+    {
+        if weight.is_some() {
+            return first;
+        }
+        let Some(other) = first else {
+            return Some(node);
+        };
+        if self.bill.label(node).cmp(self.bill.label(other)).is_lt() {
+            return Some(node);
+        }
+        first
+    }
+
+    /// Whether the nodes that have lines have more marks than there may be.
+    fn are_marks_too_many(&self, rolled: &[Rolled]) -> bool
+        requires sweep { IsSweep (B.graph self.now.bill.now) self.now.owns.now self.now.kept.now self.now.of_owns.now self.now.places.now (map (λ list. list.now) self.now.lists.now) }
+        requires fit { AllFit (B.graph self.now.bill.now) (own_with self.now.owns.now self.now.kept.now.owns) }
+        requires size { length rolled.now ≡ length self.now.places.now.nodes }
+        requires right { AreRolledOf (B.graph self.now.bill.now) self.now.owns.now self.now.kept.now self.now.places.now.nodes rolled.now }
+        ensures { result ≡ nat_lt 4194304 (mark_count (B.graph self.now.bill.now).lines (own_with self.now.owns.now self.now.kept.now.owns)) }
+    {
+        let values = Values {
+            places: self.places,
+            kept: self.kept.values(),
+            new: rolled,
+        };
+        let mut sum = 0;
+        for node in 0..self.bill.node_count() {
+            sum = self.with_marks(sum, node as NodeId, &values);
+            if sum > MARK_LIMIT {
+                return true;
+            }
+        }
+        false
+    }
+
+    /// The sum together with the marks of a node, if it has lines.
+    fn with_marks(&self, sum: usize, node: NodeId, values: &Values) -> usize
+        requires there { node < length (B.graph self.now.bill.now).labels }
+        requires known { IsKnown (place_in values.now.places.now.slots node) values.now.kept.now values.now.new.now node }
+        requires small { sum ≤ 4194304 }
+        ensures { result ≡ sum + (if length (lines_of (B.graph self.now.bill.now).lines node) == 0 then 0
+            else length (known (place_in values.now.places.now.slots node) values.now.kept.now values.now.new.now node).hops) }
+    {
+        if self.bill.line_count(node) == 0 {
+            return sum;
+        }
+        sum + values.of(node).hops.len()
+    }
+}
