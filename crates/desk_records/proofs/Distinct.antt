@@ -28,7 +28,7 @@ use Rattle.desk_records.proofs.Moves.{AllNot, none_above, same_left}
 use Rattle.desk_records.proofs.Planned.{all_of, year_small}
 
 -- no record has the key of one before it
-abbrev Apart : List Record → Type 0
+abbrev pub Apart : List Record → Type 0
 Apart [] = Unit {0}
 Apart (kept ∷ records) = AllNot (key_of kept) records × Apart records
 
@@ -102,12 +102,12 @@ simple : {R : Type 0} (key : R → List ℕ) (as_row : R → Row)
     → (rows : List R) → IsByKey key code_cmp rows → Apart (map record_of (map as_row rows))
 simple key as_row agree rows h = table_apart key code_cmp code_cmp_total as_row (λ _. Unit {0}) (λ a b _ _. agree a b) rows h (all_of (λ _. Unit {0}) (λ _. tt) rows)
 
-pub distinct : (t : Lists) → Sound t → HaveDistinctKeys (records_of t)
+-- no two records of sound tables have one key
+pub apart : (t : Lists) → Sound t → Apart (records_of t)
 unfolding rows_of table_number record_code
-distinct t sound =
+apart t sound =
     let ordered = sound.consistent.ordered in
     let forms = forms_of t sound.consistent.in_form in
-    at_most (records_of t)
     (behind 10 Ticket (λ _. refl) _ t.tickets
     (behind 9 Shipment (λ _. refl) _ t.shipments
     (behind 8 Candidate (λ _. refl) _ t.candidates
@@ -131,3 +131,6 @@ distinct t sound =
     (λ a b f g. shipments_agree a.year a.product b.year b.product (year_small a f) (year_small b g) (year_lacks a f) (year_lacks b g))
     t.shipments ordered.shipments (each_from_all is_shipment_row t.shipments forms.shipments)))
     (simple (λ row. row.code) Ticket (λ _ _. refl) t.tickets ordered.tickets)).1
+
+pub distinct : (t : Lists) → Sound t → HaveDistinctKeys (records_of t)
+distinct t sound = at_most (records_of t) (apart t sound)

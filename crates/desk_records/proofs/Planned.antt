@@ -81,56 +81,56 @@ all_appended : (some more : List Change) (k : Key) (body : Option (List ℕ)) �
 all_appended [] more k body = refl
 all_appended (change ∷ some) more k body = all_appended some more k (changed_at change k body)
 
-put_substances : (t : Lists) (row : SubstanceRow) (k : Key) → tables_content (record t { substances = with_row (λ row. row.code) code_cmp row t.substances }) k ≡ changed_at (Put (record_of (Substance row))) k (tables_content t k)
+pub put_substances : (t : Lists) (row : SubstanceRow) (k : Key) → tables_content (record t { substances = with_row (λ row. row.code) code_cmp row t.substances }) k ≡ changed_at (Put (record_of (Substance row))) k (tables_content t k)
 unfolding table_number record_code
 put_substances t row k =
     put_kept t (record t { substances = with_row (λ row. row.code) code_cmp row t.substances }) (record_of (Substance row)) k
     (look_substances t (with_row (λ row. row.code) code_cmp row t.substances) row.code (Some (record_of (Substance row))) k
     (put_in (λ row. row.code) code_cmp code_cmp_total Substance row t.substances (all_of _ (λ row. refl) t.substances) k))
 
-put_materials : (t : Lists) (row : MaterialRow) (k : Key) → tables_content (record t { materials = with_row (λ row. row.code) code_cmp row t.materials }) k ≡ changed_at (Put (record_of (Material row))) k (tables_content t k)
+pub put_materials : (t : Lists) (row : MaterialRow) (k : Key) → tables_content (record t { materials = with_row (λ row. row.code) code_cmp row t.materials }) k ≡ changed_at (Put (record_of (Material row))) k (tables_content t k)
 unfolding table_number record_code
 put_materials t row k =
     put_kept t (record t { materials = with_row (λ row. row.code) code_cmp row t.materials }) (record_of (Material row)) k
     (look_materials t (with_row (λ row. row.code) code_cmp row t.materials) row.code (Some (record_of (Material row))) k
     (put_in (λ row. row.code) code_cmp code_cmp_total Material row t.materials (all_of _ (λ row. refl) t.materials) k))
 
-put_parts : (t : Lists) (row : PartRow) (k : Key) → tables_content (record t { parts = with_row (λ row. row.code) code_cmp row t.parts }) k ≡ changed_at (Put (record_of (Part row))) k (tables_content t k)
+pub put_parts : (t : Lists) (row : PartRow) (k : Key) → tables_content (record t { parts = with_row (λ row. row.code) code_cmp row t.parts }) k ≡ changed_at (Put (record_of (Part row))) k (tables_content t k)
 unfolding table_number record_code
 put_parts t row k =
     put_kept t (record t { parts = with_row (λ row. row.code) code_cmp row t.parts }) (record_of (Part row)) k
     (look_parts t (with_row (λ row. row.code) code_cmp row t.parts) row.code (Some (record_of (Part row))) k
     (put_in (λ row. row.code) code_cmp code_cmp_total Part row t.parts (all_of _ (λ row. refl) t.parts) k))
 
-put_products : (t : Lists) (row : ProductRow) (k : Key) → tables_content (record t { products = with_row (λ row. row.part) code_cmp row t.products }) k ≡ changed_at (Put (record_of (Product row))) k (tables_content t k)
+pub put_products : (t : Lists) (row : ProductRow) (k : Key) → tables_content (record t { products = with_row (λ row. row.part) code_cmp row t.products }) k ≡ changed_at (Put (record_of (Product row))) k (tables_content t k)
 unfolding table_number record_code
 put_products t row k =
     put_kept t (record t { products = with_row (λ row. row.part) code_cmp row t.products }) (record_of (Product row)) k
     (look_products t (with_row (λ row. row.part) code_cmp row t.products) row.part (Some (record_of (Product row))) k
     (put_in (λ row. row.part) code_cmp code_cmp_total Product row t.products (all_of _ (λ row. refl) t.products) k))
 
-put_exemptions : (t : Lists) (row : ExemptionRow) (k : Key) → tables_content (record t { exemptions = with_row (λ row. row.terms.row) code_cmp row t.exemptions }) k ≡ changed_at (Put (record_of (Exemption row))) k (tables_content t k)
+pub put_exemptions : (t : Lists) (row : ExemptionRow) (k : Key) → tables_content (record t { exemptions = with_row (λ row. row.terms.row) code_cmp row t.exemptions }) k ≡ changed_at (Put (record_of (Exemption row))) k (tables_content t k)
 unfolding table_number record_code
 put_exemptions t row k =
     put_kept t (record t { exemptions = with_row (λ row. row.terms.row) code_cmp row t.exemptions }) (record_of (Exemption row)) k
     (look_exemptions t (with_row (λ row. row.terms.row) code_cmp row t.exemptions) row.terms.row (Some (record_of (Exemption row))) k
     (put_in (λ row. row.terms.row) code_cmp code_cmp_total Exemption row t.exemptions (all_of _ (λ row. refl) t.exemptions) k))
 
-put_candidates : (t : Lists) (row : CandidateRow) (k : Key) → tables_content (record t { candidates = with_row (λ row. row.substance) code_cmp row t.candidates }) k ≡ changed_at (Put (record_of (Candidate row))) k (tables_content t k)
+pub put_candidates : (t : Lists) (row : CandidateRow) (k : Key) → tables_content (record t { candidates = with_row (λ row. row.substance) code_cmp row t.candidates }) k ≡ changed_at (Put (record_of (Candidate row))) k (tables_content t k)
 unfolding table_number record_code
 put_candidates t row k =
     put_kept t (record t { candidates = with_row (λ row. row.substance) code_cmp row t.candidates }) (record_of (Candidate row)) k
     (look_candidates t (with_row (λ row. row.substance) code_cmp row t.candidates) row.substance (Some (record_of (Candidate row))) k
     (put_in (λ row. row.substance) code_cmp code_cmp_total Candidate row t.candidates (all_of _ (λ row. refl) t.candidates) k))
 
-put_tickets : (t : Lists) (row : TicketRow) (k : Key) → tables_content (record t { tickets = with_row (λ row. row.code) code_cmp row t.tickets }) k ≡ changed_at (Put (record_of (Ticket row))) k (tables_content t k)
+pub put_tickets : (t : Lists) (row : TicketRow) (k : Key) → tables_content (record t { tickets = with_row (λ row. row.code) code_cmp row t.tickets }) k ≡ changed_at (Put (record_of (Ticket row))) k (tables_content t k)
 unfolding table_number record_code
 put_tickets t row k =
     put_kept t (record t { tickets = with_row (λ row. row.code) code_cmp row t.tickets }) (record_of (Ticket row)) k
     (look_tickets t (with_row (λ row. row.code) code_cmp row t.tickets) row.code (Some (record_of (Ticket row))) k
     (put_in (λ row. row.code) code_cmp code_cmp_total Ticket row t.tickets (all_of _ (λ row. refl) t.tickets) k))
 
-put_members : (t : Lists) (row : MemberRow) (k : Key) → AllByRecursion (λ r. is_member_row r ≡ true) t.members → is_member_row row ≡ true
+pub put_members : (t : Lists) (row : MemberRow) (k : Key) → AllByRecursion (λ r. is_member_row r ≡ true) t.members → is_member_row row ≡ true
     → tables_content (record t { members = with_row member_key member_key_cmp row t.members }) k ≡ changed_at (Put (record_of (Member row))) k (tables_content t k)
 unfolding table_number record_code
 put_members t row k forms new =
@@ -150,7 +150,7 @@ drop_members t substance rule k forms ordered lack =
     (each_map (λ r. is_member_row r ≡ true) (λ r. same_key (key_of (record_of (Member r))) (record { kind = 2; code = pair_code substance (rule_code rule) }) ≡ is_eq (member_key_cmp (member_key r) (substance, rule_number rule)))
     (λ r f. members_agree r.substance r.rule substance rule (member_lacks r f) lack) t.members forms) k))
 
-put_lines : (t : Lists) (row : LineRow) (k : Key) → AllByRecursion (λ r. is_line_row r ≡ true) t.lines → is_line_row row ≡ true
+pub put_lines : (t : Lists) (row : LineRow) (k : Key) → AllByRecursion (λ r. is_line_row r ≡ true) t.lines → is_line_row row ≡ true
     → tables_content (record t { lines = with_row line_key line_key_cmp row t.lines }) k ≡ changed_at (Put (record_of (Line row))) k (tables_content t k)
 unfolding table_number record_code
 put_lines t row k forms new =
@@ -176,7 +176,7 @@ year_small r is =
     let below : r.year ≤ LAST_SHIPMENT_YEAR = leb-true r.year LAST_SHIPMENT_YEAR (and_parts (nat_le FIRST_SHIPMENT_YEAR r.year) (nat_le r.year LAST_SHIPMENT_YEAR) year).1 in
     omega (arith, below)
 
-put_shipments : (t : Lists) (row : ShipmentRow) (k : Key) → AllByRecursion (λ r. is_shipment_row r ≡ true) t.shipments → is_shipment_row row ≡ true
+pub put_shipments : (t : Lists) (row : ShipmentRow) (k : Key) → AllByRecursion (λ r. is_shipment_row r ≡ true) t.shipments → is_shipment_row row ≡ true
     → tables_content (record t { shipments = with_row shipment_key shipment_key_cmp row t.shipments }) k ≡ changed_at (Put (record_of (Shipment row))) k (tables_content t k)
 unfolding table_number record_code
 put_shipments t row k forms new =
