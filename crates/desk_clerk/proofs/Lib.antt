@@ -1,0 +1,7 @@
+pub mod Few
+pub mod FirstRecords
+pub mod OneDesk
+pub mod Opened
+pub mod PutIn
+pub mod Submitted
+pub mod Unsound

@@ -1,0 +1,123 @@
+-- Tables that aren't taken as sound: which key is told, and that no sound tables have their records.
+use Rattle.std.proofs.Common.{◌≡◌, ℕ, List, [], ◌∷◌, ◌++◌, map, sym, subst, ◌∙◌, Err}
+use Rattle.std.specs.List.{AllByRecursion}
+use Rattle.std.specs.Prelude.{Result}
+use Rattle.desk_edge.specs.Content.{IsSame, key_cmp, key_of}
+use Rattle.desk_edge.specs.declared.record.Record.{Record}
+use Rattle.desk_rows.specs.Rows.{IsByKey}
+use Rattle.desk_model.specs.declared.row.Row.{Row}
+use Rattle.desk_model.specs.declared.row.Row.TheVariants.{Substance, Member, Material, Part, Line, Product, Exemption, Candidate, Shipment, Ticket}
+use Rattle.desk_model.specs.Lists.{IsOrdered, Lists}
+use Rattle.desk_model.specs.Rows.{rows_of}
+use Rattle.desk_model.proofs.Elements.{each_in_map, each_of_map, each_split}
+use Rattle.desk_fields.specs.RowTexts.{IsRowInForm}
+use Rattle.desk_history.specs.Breaches.{IsBrokenAt}
+use Rattle.desk_history.specs.Sound.{Sound}
+use Rattle.desk_tables.specs.Gathered.{gathered}
+use Rattle.desk_tables.specs.Soundness.{IsTold}
+use Rattle.desk_tables.specs.declared.sound_fault.SoundFault.{SoundFault}
+use Rattle.desk_tables.specs.declared.sound_fault.SoundFault.TheVariants as sound_fault
+use Rattle.desk_records.specs.Records.{record_of, tables_content}
+use Rattle.desk_records.proofs.InForm.{all_in_form}
+use Rattle.desk_clerk.specs.Faults.{sound_as_open}
+use Rattle.desk_clerk.specs.Opening.{content_in}
+use Rattle.desk_clerk.specs.declared.open_fault.OpenFault.TheVariants as open_fault
+use Rattle.desk_clerk.proofs.OneDesk.{one_desk}
+use Rattle.desk_clerk.proofs.PutIn.{AreInForm, gathered_content, gathered_form}
+
+-- the fault that is handed on is Damaged with this key
+abbrev IsHandedAs : SoundFault → ℕ → List ℕ → Type 0
+IsHandedAs fault kind code = sound_as_open fault ≡ open_fault.Damaged kind code
+
+same_table : (table kind : ℕ) (key code : List ℕ) → open_fault.Damaged table key ≡ open_fault.Damaged kind code → table ≡ kind
+same_table table kind key code e = cc
+
+same_key : (table kind : ℕ) (key code : List ℕ) → open_fault.Damaged table key ≡ open_fault.Damaged kind code → key ≡ code
+same_key table kind key code e = cc
+
+not_memory : (kind : ℕ) (code : List ℕ) {G : Type 0} → open_fault.OutOfMemory ≡ open_fault.Damaged kind code → G
+not_memory kind code e = cc
+
+-- the key breaks a clause of soundness
+pub told_key : (fault : SoundFault) (kind : ℕ) (code : List ℕ) (t : Lists) → sound_as_open fault ≡ open_fault.Damaged kind code → IsTold t fault → IsBrokenAt t kind code
+told_key (sound_fault.Unsound table key) kind code t e told =
+    let kinds = same_table table kind key code e in
+    let codes = same_key table kind key code e in
+    subst (λ k. IsBrokenAt t k code) kinds (subst (λ c. IsBrokenAt t table c) codes told)
+told_key sound_fault.OutOfMemory kind code t e told = not_memory kind code e
+
+-- and the tables aren't sound
+pub told_unsound : (result : Result (Unit {0}) SoundFault) (fault : SoundFault) (kind : ℕ) (code : List ℕ) (t : Lists) → sound_as_open fault ≡ open_fault.Damaged kind code → result ≡ Err fault
+    → ((table : ℕ) (key : List ℕ) → result ≡ Err (sound_fault.Unsound table key) → Sound t → ⊥) → Sound t → ⊥
+told_unsound result (sound_fault.Unsound table key) kind code t e is unsound = unsound table key is
+told_unsound result sound_fault.OutOfMemory kind code t e is unsound = not_memory kind code e
+
+form_of : (t : Lists) → AllByRecursion IsRowInForm (rows_of t) → AreInForm t
+unfolding rows_of
+form_of t all =
+    let a10 = each_split IsRowInForm _ (map Ticket t.tickets) all in
+    let a9 = each_split IsRowInForm _ (map Shipment t.shipments) a10.0 in
+    let a8 = each_split IsRowInForm _ (map Candidate t.candidates) a9.0 in
+    let a7 = each_split IsRowInForm _ (map Exemption t.exemptions) a8.0 in
+    let a6 = each_split IsRowInForm _ (map Product t.products) a7.0 in
+    let a5 = each_split IsRowInForm _ (map Line t.lines) a6.0 in
+    let a4 = each_split IsRowInForm _ (map Part t.parts) a5.0 in
+    let a3 = each_split IsRowInForm _ (map Material t.materials) a4.0 in
+    let a2 = each_split IsRowInForm (map Substance t.substances) (map Member t.members) a3.0 in
+    record {
+      substances = each_in_map IsRowInForm Substance t.substances a2.0;
+      members = each_in_map IsRowInForm Member t.members a2.1;
+      materials = each_in_map IsRowInForm Material t.materials a3.1;
+      parts = each_in_map IsRowInForm Part t.parts a4.1;
+      lines = each_in_map IsRowInForm Line t.lines a5.1;
+      products = each_in_map IsRowInForm Product t.products a6.1;
+      exemptions = each_in_map IsRowInForm Exemption t.exemptions a7.1;
+      candidates = each_in_map IsRowInForm Candidate t.candidates a8.1;
+      shipments = each_in_map IsRowInForm Shipment t.shipments a9.1;
+      tickets = each_in_map IsRowInForm Ticket t.tickets a10.1;
+    }
+
+all_behind : (front more : List Row) → AllByRecursion IsRowInForm front → AllByRecursion IsRowInForm more → AllByRecursion IsRowInForm (front ++ more)
+all_behind [] more a b = b
+all_behind (row ∷ front) more a b = (a.0, all_behind front more a.1 b)
+
+all_rows : (t : Lists) → AreInForm t → AllByRecursion IsRowInForm (rows_of t)
+unfolding rows_of
+all_rows t forms =
+    all_behind _ (map Ticket t.tickets)
+    (all_behind _ (map Shipment t.shipments)
+    (all_behind _ (map Candidate t.candidates)
+    (all_behind _ (map Exemption t.exemptions)
+    (all_behind _ (map Product t.products)
+    (all_behind _ (map Line t.lines)
+    (all_behind _ (map Part t.parts)
+    (all_behind _ (map Material t.materials)
+    (all_behind (map Substance t.substances) (map Member t.members)
+    (each_of_map IsRowInForm Substance t.substances forms.substances)
+    (each_of_map IsRowInForm Member t.members forms.members))
+    (each_of_map IsRowInForm Material t.materials forms.materials))
+    (each_of_map IsRowInForm Part t.parts forms.parts))
+    (each_of_map IsRowInForm Line t.lines forms.lines))
+    (each_of_map IsRowInForm Product t.products forms.products))
+    (each_of_map IsRowInForm Exemption t.exemptions forms.exemptions))
+    (each_of_map IsRowInForm Candidate t.candidates forms.candidates))
+    (each_of_map IsRowInForm Shipment t.shipments forms.shipments))
+    (each_of_map IsRowInForm Ticket t.tickets forms.tickets)
+
+-- the rows of the tables that were gathered are in form
+pub gathered_rows : (rows : List Row) (lists : Lists) → AllByRecursion IsRowInForm rows → lists ≡ gathered rows → AllByRecursion IsRowInForm (rows_of lists)
+gathered_rows rows lists forms e = subst (λ t. AllByRecursion IsRowInForm (rows_of t)) (sym e) (all_rows (gathered rows) (gathered_form rows forms))
+
+-- the tables that were gathered of the rows of these records keep just these
+pub gathered_same : (records : List Record) (rows : List Row) (lists : Lists) → IsByKey key_of key_cmp records → records ≡ map record_of rows → AllByRecursion IsRowInForm rows → lists ≡ gathered rows
+    → IsSame (content_in records) (tables_content lists)
+gathered_same records rows lists by_key is forms e = subst (λ t. IsSame (content_in records) (tables_content t)) (sym e) (gathered_content records rows by_key is forms)
+
+-- and where sound tables keep just these, they are the same
+pub gathered_sound : (records : List Record) (rows : List Row) (lists : Lists) → IsByKey key_of key_cmp records → records ≡ map record_of rows → AllByRecursion IsRowInForm rows → lists ≡ gathered rows → IsOrdered lists
+    → (t : Lists) → Sound t → IsSame (content_in records) (tables_content t) → Sound lists
+gathered_sound records rows lists by_key is forms e ordered t sound same =
+    let alike = gathered_same records rows lists by_key is forms e in
+    subst Sound
+    (one_desk t lists sound.consistent.ordered ordered (form_of t (all_in_form t sound)) (subst AreInForm (sym e) (gathered_form rows forms)) (λ k. alike k ∙ sym (same k)))
+    sound

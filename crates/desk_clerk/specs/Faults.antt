@@ -1,0 +1,32 @@
+-- How faults of what a clerk stands on become its own.
+use Rattle.std.specs.Prelude.{ℕ}
+use Rattle.desk_clerk.specs.declared.open_fault.OpenFault.{OpenFault}
+use Rattle.desk_clerk.specs.declared.open_fault.OpenFault.TheVariants as open_fault
+use Rattle.desk_clerk.specs.declared.submit_fault.SubmitFault.{SubmitFault}
+use Rattle.desk_clerk.specs.declared.submit_fault.SubmitFault.TheVariants as submit_fault
+use Rattle.desk_edge.specs.declared.keep_fault.KeepFault.{KeepFault}
+use Rattle.desk_edge.specs.declared.keep_fault.KeepFault.TheVariants as keep_fault
+use Rattle.desk_tables.specs.declared.edit_fault.EditFault.{EditFault}
+use Rattle.desk_tables.specs.declared.edit_fault.EditFault.TheVariants as edit_fault
+use Rattle.desk_tables.specs.declared.sound_fault.SoundFault.{SoundFault}
+use Rattle.desk_tables.specs.declared.sound_fault.SoundFault.TheVariants as sound_fault
+
+-- the fault of an opening whose keeper wasn't able to do a call
+abbrev pub kept_as_open : KeepFault → OpenFault
+kept_as_open keep_fault.Failed = open_fault.KeeperFault
+kept_as_open keep_fault.OutOfMemory = open_fault.OutOfMemory
+
+-- the fault of an opening whose tables aren't taken as sound
+abbrev pub sound_as_open : SoundFault → OpenFault
+sound_as_open (sound_fault.Unsound table key) = open_fault.Damaged table key
+sound_as_open sound_fault.OutOfMemory = open_fault.OutOfMemory
+
+-- the fault of an edit whose keeper wasn't able to do a call
+abbrev pub kept_as_submit : KeepFault → SubmitFault
+kept_as_submit keep_fault.Failed = submit_fault.KeeperFault
+kept_as_submit keep_fault.OutOfMemory = submit_fault.OutOfMemory
+
+-- the fault of an edit that the tables refuse, with the number of the tables
+abbrev pub edit_as_submit : EditFault → ℕ → SubmitFault
+edit_as_submit (edit_fault.Rule fault) number = submit_fault.Rule fault number
+edit_as_submit edit_fault.OutOfMemory number = submit_fault.OutOfMemory

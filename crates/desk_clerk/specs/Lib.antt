@@ -1,0 +1,4 @@
+pub mod Clerk
+pub mod Faults
+pub mod Opening
+pub mod Reading

@@ -1,0 +1,88 @@
+ghost use Rattle.std.specs.Prelude.{◌≡◌, ◌≢◌, ◌+◌, ◌≤◌, ℕ, List, Err, IfOk, IsErrOf, OnErr, OnOk, length, map};
+ghost use Rattle.desk_clerk.specs.Opening.{IsDamage, IsDamagedAt, IsEmpty, IsOpenedAs, content_in, record_limit};
+ghost use Rattle.desk_edge.specs.Content.{IsSame, key_cmp, key_of};
+ghost use Rattle.desk_edge.specs.Faults.{Rose};
+ghost use Rattle.desk_edge.specs.declared.change.Change.TheVariants.{Put};
+ghost use Rattle.desk_history.specs.Sound.{Sound};
+ghost use Rattle.desk_model.specs.Lists.{Lists};
+ghost use Rattle.desk_model.specs.Start.{start};
+ghost use Rattle.desk_records.specs.Records.{tables_content};
+ghost use Rattle.desk_rows.specs.Rows.{IsByKey};
+
+use crate::open_fault::OpenFault;
+use crate::reading::read_records;
+use crate::stored::tables_of;
+use desk_edge::{Change, Keeper, Record};
+use desk_model::limits::{
+    CANDIDATE_LIMIT, EXEMPTION_LIMIT, LINE_LIMIT, MATERIAL_LIMIT, MEMBER_LIMIT, PART_LIMIT,
+    PRODUCT_LIMIT, SHIPMENT_LIMIT, SUBSTANCE_LIMIT, TICKET_LIMIT,
+};
+use desk_records::records_of;
+use desk_tables::Tables;
+use desk_text::OutOfMemory;
+use std::alloc::Global;
+
+/// The most records that sound tables have.
+const RECORD_LIMIT: usize = SUBSTANCE_LIMIT
+    + MEMBER_LIMIT
+    + MATERIAL_LIMIT
+    + PART_LIMIT
+    + LINE_LIMIT
+    + PRODUCT_LIMIT
+    + EXEMPTION_LIMIT
+    + CANDIDATE_LIMIT
+    + SHIPMENT_LIMIT
+    + TICKET_LIMIT;
+
+/// The tables that the keeper is opened as: those of its records, or the start tables, which an empty one is given.
+pub(crate) fn open_tables<K: Keeper>(alloc: Global, keeper: &mut K) -> Result<Tables, OpenFault>
+    ensures told { K.Tells keeper.new → K.Tells keeper.old }
+    ensures sound { IfOk result (λ tables. Sound tables.lists) }
+    ensures opened { IfOk result (λ tables. K.Tells keeper.new → IsOpenedAs (K.content keeper.old) tables.lists) }
+    ensures kept { IfOk result (λ tables. K.Tells keeper.new → IsSame (tables_content tables.lists) (K.content keeper.new)) }
+    ensures err { OnErr result (K.Tells keeper.new → IsSame (K.content keeper.old) (K.content keeper.new)) }
+    ensures damaged { (kind : ℕ) (code : List ℕ) → result ≡ Err (OpenFault.Damaged kind code)
+        → IsDamagedAt (K.Tells keeper.new) (K.content keeper.old) kind code }
+    ensures not_sound { (kind : ℕ) (code : List ℕ) → result ≡ Err (OpenFault.Damaged kind code)
+        → K.Tells keeper.new → (t : Lists) → Sound t → IsOpenedAs (K.content keeper.old) t → ⊥ }
+    ensures never_falls { K.faults keeper.old ≤ K.faults keeper.new }
+    ensures steady { result ≢ Err OpenFault.KeeperFault → K.faults keeper.new ≡ K.faults keeper.old }
+    ensures failed { IsErrOf result OpenFault.KeeperFault → Rose (K.faults keeper.old) (K.faults keeper.new) }
+{
+    let records = read_records(alloc, keeper, RECORD_LIMIT + 1)?;
+    if records.is_empty() {
+        put_start(alloc, keeper)
+    } else {
+        tables_of(alloc, records)
+    }
+}
+
+/// The start tables, whose records the keeper is given in one commit.
+fn put_start<K: Keeper>(alloc: Global, keeper: &mut K) -> Result<Tables, OpenFault>
+    ensures start { IfOk result (λ tables. tables.lists ≡ start) }
+    ensures sound { IfOk result (λ tables. Sound tables.lists) }
+    ensures told { K.Tells keeper.new → K.Tells keeper.old }
+    ensures kept { IfOk result (λ tables. K.Tells keeper.new → IsEmpty (K.content keeper.old)
+        → IsSame (tables_content tables.lists) (K.content keeper.new)) }
+    ensures err { OnErr result (K.Tells keeper.new → IsSame (K.content keeper.old) (K.content keeper.new)) }
+    ensures undamaged { (kind : ℕ) (code : List ℕ) → result ≢ Err (OpenFault.Damaged kind code) }
+    ensures never_falls { K.faults keeper.old ≤ K.faults keeper.new }
+    ensures steady { result ≢ Err OpenFault.KeeperFault → K.faults keeper.new ≡ K.faults keeper.old }
+    ensures failed { IsErrOf result OpenFault.KeeperFault → Rose (K.faults keeper.old) (K.faults keeper.new) }
+{
+    let tables = Tables::start(alloc)?;
+    let changes = puts(alloc, records_of(alloc, &tables)?)?;
+    keeper.commit(alloc, changes.as_slice())?;
+    Ok(tables)
+}
+
+/// Each of the records is put.
+fn puts(alloc: Global, records: Vec<Record>) -> Result<Vec<Change>, OutOfMemory>
+    ensures { IfOk result (λ changes. changes.items ≡ map (λ kept. Put kept) records.items) }
+{
+    let mut changes = Vec::new(alloc);
+    for kept in records {
+        changes.push(Change::Put(kept))?;
+    }
+    Ok(changes)
+}
