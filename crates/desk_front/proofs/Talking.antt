@@ -1,0 +1,313 @@
+-- A conversation with a clerk, and the one list that its replies are from.
+use Rattle.std.proofs.Common.{◌≡◌, ◌≢◌, ◌⊎◌, ℕ, ◌+◌, ◌≤◌, Bool, true, List, [], ◌∷◌, ◌++◌, Option, None, Some, Result, Ok, Err, length, take, refl, sym, ap, ◌∙◌, subst, inl, inr, append_assoc, append-nil, arith, length-append}
+use Rattle.std.specs.List.{AllByRecursion}
+use Rattle.desk_clerk.specs.Clerk.{number_at}
+use Rattle.desk_declare.specs.declared.declare_fault.DeclareFault.{DeclareFault}
+use Rattle.desk_edge.specs.Faults.{Rose}
+use Rattle.desk_edits.specs.declared.json_fault.JsonFault.{JsonFault}
+use Rattle.desk_declare.specs.Declaration.{declaration_of}
+use Rattle.desk_edits.specs.Edit.{edit_of}
+use Rattle.desk_history.specs.History.{AreAccepted, Begins, History, IsAccepted, IsHistory, after, number_of, tables_after, up_to}
+use Rattle.desk_history.specs.Refused.{refused}
+use Rattle.desk_history.specs.Sound.{Sound}
+use Rattle.desk_history.specs.Step.{kept_number, step}
+use Rattle.desk_history.proofs.Histories.{tickets-tables_after, up_to-only}
+use Rattle.desk_history.proofs.Steps.{kept-entered, step-accepted, step-kept, step-refused}
+use Rattle.desk_http.specs.Rest.{Message}
+use Rattle.desk_http.specs.Routes.{route_of}
+use Rattle.desk_http.specs.declared.ask.Ask.{Ask}
+use Rattle.desk_http.specs.declared.ask.Ask.TheVariants as ask
+use Rattle.desk_http.specs.declared.fixed.Fixed.TheVariants as refusal
+use Rattle.desk_http.specs.declared.http_fault.HttpFault.{HttpFault}
+use Rattle.desk_http.specs.declared.http_fault.HttpFault.TheVariants as fault
+use Rattle.desk_model.specs.Effect.{entered, next_number}
+use Rattle.desk_model.specs.Forms.{is_edit_in_form}
+use Rattle.desk_model.specs.Lists.{Lists}
+use Rattle.desk_model.specs.declared.edit.Edit.{Edit}
+use Rattle.desk_model.specs.declared.rule_fault.RuleFault.{RuleFault}
+use Rattle.desk_scratch.specs.Eval.{eval}
+use Rattle.desk_scratch.specs.declared.ask_fault.AskFault.{AskFault}
+use Rattle.desk_front.specs.Asked.{Asked, asked_of, edit, nothing, of_csv, of_json, of_route, question}
+use Rattle.desk_front.specs.Replies.{Reply, all_bytes, answer_at, bytes_of, evaluated, fixed, judged, no_ask}
+use Rattle.desk_front.specs.Service.{Replies}
+use Rattle.desk_front.specs.Talk.{Follows, IsJudged, IsTold, IsToldOfMemory, Talk}
+use Rattle.desk_front.specs.Turn.{Answers, Conversation, Converses, FailsToKeep, LacksMemory, Standing, Turn, Turns, added_at, if_new, list_with}
+
+-- ---- what a turn adds to the list
+
+pub accepted_on : (t : Lists) (first others : List Edit) → AreAccepted t first → AreAccepted (tables_after t first) others → AreAccepted t (first ++ others)
+accepted_on t [] others x y = y
+accepted_on t (made ∷ first) others x y = (x.0, accepted_on (step t made).1 first others x.1 y)
+
+pub after_on : (t : Lists) (first others : List Edit) → tables_after t (first ++ others) ≡ tables_after (tables_after t first) others
+after_on t [] others = refl
+after_on t (made ∷ first) others = after_on (step t made).1 first others
+
+-- a list of edits that are accepted at tables, and the tables that it leaves
+abbrev Grows : Lists → List Edit → Lists → Type 0
+Grows t added new = AreAccepted t added × (tables_after t added ≡ new)
+
+grows_by : (t : Lists) (made : Edit) (kept : Option ℕ) (broken : Option RuleFault) → is_edit_in_form made ≡ true → kept_number t made ≡ kept → refused t made ≡ broken
+    → Grows t (if_new made kept broken) (step t made).1
+grows_by t made (Some number) broken form a b = (tt, sym (ap (λ s. s.1) (step-kept t made number a)))
+grows_by t made None (Some cause) form a b = (tt, sym (ap (λ s. s.1) (step-refused t made cause a b)))
+grows_by t made None None form a b = ((record { in_form = form; is_new = a; is_unrefused = b }, tt), refl)
+
+grows_at : (t : Lists) (made : Edit) → is_edit_in_form made ≡ true → Grows t (added_at t made) (step t made).1
+grows_at t made form = grows_by t made (kept_number t made) (refused t made) form refl refl
+
+grows_nothing : (t new : Lists) (added : List Edit) → added ≡ [] → new ≡ t → Grows t added new
+grows_nothing t new added none same = subst (λ l. Grows t l new) (sym none) (tt, sym same)
+
+grows_edit : (t new : Lists) (made : Edit) (added : List Edit) → is_edit_in_form made ≡ true → added ≡ added_at t made → new ≡ (step t made).1 → Grows t added new
+grows_edit t new made added form same left = subst (λ l. Grows t l new) (sym same) (subst (Grows t (added_at t made)) (sym left) (grows_at t made form))
+
+turn_grows : (old new : Standing) (asked : Asked) (reply : Reply) (added : List Edit) → Turn old asked reply added new → Grows old.whole added new.whole
+turn_grows old new (nothing told) reply added (inl x) = grows_nothing old.whole new.whole added x.1 (ap (λ s. s.whole) x.2)
+turn_grows old new (question asked) reply added (inl x) = grows_nothing old.whole new.whole added x.1 (ap (λ s. s.whole) x.2)
+turn_grows old new (edit made) reply added (inl x) = grows_edit old.whole new.whole made added x.0 x.2 (ap (λ s. s.whole) x.3)
+turn_grows old new asked reply added (inr (inl (memory, inl x))) = grows_nothing old.whole new.whole added x.0 (ap (λ s. s.whole) x.1)
+turn_grows old new asked reply added (inr (inl (memory, inr x))) = grows_edit old.whole new.whole x.0 added x.2 x.3 (ap (λ s. s.whole) x.4)
+turn_grows old new asked reply added (inr (inr x)) = grows_nothing old.whole new.whole added x.3 (ap (λ s. s.whole) x.6)
+
+pub conversation_grows : (old new : Standing) (ms : List Message) (replies : List Reply) (added : List Edit) → Conversation old ms replies added new → Grows old.whole added new.whole
+conversation_grows old new [] [] added x = grows_nothing old.whole new.whole added x.0 (ap (λ s. s.whole) x.1)
+conversation_grows old new [] (reply ∷ replies) added x = absurd x
+conversation_grows old new (m ∷ ms) [] added x = absurd x
+conversation_grows old new (m ∷ ms) (reply ∷ replies) added x =
+    let first = turn_grows old x.0 (asked_of m) reply x.1 x.3 in
+    let others = conversation_grows x.0 new ms replies x.2 x.4 in
+    subst (λ l. Grows old.whole l new.whole) (sym x.5) (
+      accepted_on old.whole x.1 x.2 first.0 (subst (λ t. AreAccepted t x.2) (sym first.1) others.0),
+      after_on old.whole x.1 x.2 ∙ ap (λ t. tables_after t x.2) first.1 ∙ others.1,
+    )
+
+-- ---- numbers
+
+grown_number : (t new : Lists) (added : List Edit) → Grows t added new → number_at t ≤ number_at new
+grown_number t new added x = omega (arith, tickets-tables_after t added x.0, ap number_at x.1)
+
+-- what a connection has met stays within the list, and never falls
+turn_meets : (old new : Standing) (asked : Asked) (reply : Reply) (added : List Edit) → Turn old asked reply added new → old.met ≤ number_at old.whole
+    → (old.met ≤ new.met) × (new.met ≤ number_at new.whole)
+turn_meets old new (nothing told) reply added (inl x) h = subst (λ s. (old.met ≤ s.met) × (s.met ≤ number_at s.whole)) (sym x.2) (omega arith, h)
+turn_meets old new (question asked) reply added (inl x) h = subst (λ s. (old.met ≤ s.met) × (s.met ≤ number_at s.whole)) (sym x.2) (h, omega arith)
+turn_meets old new (edit made) reply added (inl x) h =
+    let more = grown_number old.whole (step old.whole made).1 (added_at old.whole made) (grows_at old.whole made x.0) in
+    subst (λ s. (old.met ≤ s.met) × (s.met ≤ number_at s.whole)) (sym x.3) (omega (arith, h, more), omega arith)
+turn_meets old new asked reply added (inr (inl (memory, inl x))) h = subst (λ s. (old.met ≤ s.met) × (s.met ≤ number_at s.whole)) (sym x.1) (omega arith, h)
+turn_meets old new asked reply added (inr (inl (memory, inr x))) h =
+    let more = grown_number old.whole (step old.whole x.0).1 (added_at old.whole x.0) (grows_at old.whole x.0 x.2) in
+    subst (λ s. (old.met ≤ s.met) × (s.met ≤ number_at s.whole)) (sym x.4) (omega arith, omega (arith, h, more))
+turn_meets old new asked reply added (inr (inr x)) h = subst (λ s. (old.met ≤ s.met) × (s.met ≤ number_at s.whole)) (sym x.6) (omega arith, h)
+
+-- ---- one list
+
+-- the tables of a moment are those that the list names by their number
+record Moment (list : History) (t : Lists) : Type 0 where
+  named : after (up_to list (number_at t)) ≡ t
+  within : number_at t ≤ number_of list
+
+moment : (t : Lists) (before rest : List Edit) → Sound t → AreAccepted t (before ++ rest) → AreAccepted t before
+    → Moment (record { opening = t; edits = before ++ rest }) (tables_after t before)
+moment t before rest sound all some =
+    let list : History = record { opening = t; edits = before ++ rest } in
+    let part : History = record { opening = t; edits = before } in
+    let begins : Begins part list = record { opening = refl; rest = rest; edits = refl } in
+    record {
+      named = ap (tables_after t) (sym (up_to-only list part (record { sound = sound; accepted = some }) begins));
+      within = omega (arith, tickets-tables_after t (before ++ rest) all, tickets-tables_after t before some, length-append before rest);
+    }
+
+judged_so : (t : Lists) (met : ℕ) (made : Edit) (reply : Reply) (kept : Option ℕ) (broken : Option RuleFault) → kept_number t made ≡ kept → refused t made ≡ broken
+    → reply ≡ judged (number_at (step t made).1) met (step t made).0 → IsJudged (step t made).1 (number_at (step t made).1) met made reply
+judged_so t met made reply (Some number) broken a b e =
+    let s = step-kept t made number a in
+    inl (number, ap (λ r. kept_number r.1 made) s ∙ a, e ∙ ap (λ r. judged (number_at (step t made).1) met r.0) s)
+judged_so t met made reply None (Some cause) a b e =
+    let s = step-refused t made cause a b in
+    inr (cause, ap (λ r. kept_number r.1 made) s ∙ a, ap (λ r. refused r.1 made) s ∙ b, e ∙ ap (λ r. judged (number_at (step t made).1) met r.0) s)
+judged_so t met made reply None None a b e =
+    let s = step-accepted t made a b in
+    inl (next_number t, ap (λ r. kept_number r.1 made) s ∙ kept-entered t made, e ∙ ap (λ r. judged (number_at (step t made).1) met r.0) s)
+
+abbrev Tells : History → Asked → ℕ → Reply → ℕ → Type 0
+Tells list asked met reply now = IsTold list asked met reply now ⊎ IsToldOfMemory list asked met reply now
+
+told_of_memory : (list : History) (asked : Asked) (met now : ℕ) (reply : Reply) → reply ≡ fixed refusal.Memory → now ≡ met → IsToldOfMemory list asked met reply now
+told_of_memory list (nothing told) met now reply e f = (e, f)
+told_of_memory list (question asked) met now reply e f = (e, inl f)
+told_of_memory list (edit made) met now reply e f = (e, inl f)
+
+turn_tells : (list : History) (old new : Standing) (asked : Asked) (reply : Reply) (added : List Edit) → Turn old asked reply added new → old.met ≤ number_at old.whole
+    → Moment list old.whole → Moment list new.whole → Tells list asked old.met reply new.met
+turn_tells list old new (nothing told) reply added (inl x) h before now = inl (x.0, ap (λ s. s.met) x.2)
+turn_tells list old new (question asked) reply added (inl x) h before now =
+    let met : new.met ≡ number_at old.whole = ap (λ s. s.met) x.2 in
+    inl (
+      subst (Follows list old.met) (sym met) (h, before.within),
+      subst (λ n. reply ≡ answer_at (after (up_to list n)) asked) (sym met) (x.0 ∙ ap (λ t. answer_at t asked) (sym before.named)),
+    )
+turn_tells list old new (edit made) reply added (inl x) h before now =
+    let met : new.met ≡ number_at (step old.whole made).1 = ap (λ s. s.met) x.3 in
+    let left : new.whole ≡ (step old.whole made).1 = ap (λ s. s.whole) x.3 in
+    let at : Moment list (step old.whole made).1 = subst (Moment list) left now in
+    let more = grown_number old.whole (step old.whole made).1 (added_at old.whole made) (grows_at old.whole made x.0) in
+    inl (inl (
+      subst (Follows list old.met) (sym met) (omega (arith, h, more), at.within),
+      subst (λ n. IsJudged (after (up_to list n)) n old.met made reply) (sym met)
+          (subst (λ t. IsJudged t (number_at (step old.whole made).1) old.met made reply) (sym at.named)
+          (judged_so old.whole old.met made reply (kept_number old.whole made) (refused old.whole made) refl refl x.1)),
+    ))
+turn_tells list old new asked reply added (inr (inl (memory, inl x))) h before now =
+    inr (told_of_memory list asked old.met new.met reply memory (ap (λ s. s.met) x.1))
+turn_tells list old new asked reply added (inr (inl (memory, inr x))) h before now =
+    inr (told_of_memory list asked old.met new.met reply memory (ap (λ s. s.met) x.4))
+turn_tells list old new asked reply added (inr (inr x)) h before now =
+    inl (subst (λ a. IsTold list a old.met reply new.met) (sym x.1) (inr (x.2, ap (λ s. s.met) x.6)))
+
+-- a conversation from a moment of the list on is a talk over the list
+talks : (t : Lists) (all before : List Edit) (old new : Standing) (ms : List Message) (replies : List Reply) (added : List Edit)
+    → Sound t → AreAccepted t all → all ≡ before ++ added → AreAccepted t before → tables_after t before ≡ old.whole → old.met ≤ number_at old.whole
+    → Conversation old ms replies added new → Talk (record { opening = t; edits = all }) old.met ms replies
+talks t all before old new [] [] added sound fine split some at h x = tt
+talks t all before old new [] (reply ∷ replies) added sound fine split some at h x = absurd x
+talks t all before old new (m ∷ ms) [] added sound fine split some at h x = absurd x
+talks t all before old new (m ∷ ms) (reply ∷ replies) added sound fine split some at h x =
+    let list : History = record { opening = t; edits = all } in
+    let grown = turn_grows old x.0 (asked_of m) reply x.1 x.3 in
+    let further : AreAccepted t (before ++ x.1) = accepted_on t before x.1 some (subst (λ u. AreAccepted u x.1) (sym at) grown.0) in
+    let left : tables_after t (before ++ x.1) ≡ x.0.whole = after_on t before x.1 ∙ ap (λ u. tables_after u x.1) at ∙ grown.1 in
+    let parts : all ≡ (before ++ x.1) ++ x.2 = split ∙ ap (λ l. before ++ l) x.5 ∙ sym (append_assoc before x.1 x.2) in
+    let here : Moment list old.whole = subst (Moment list) at (moment_of t all before added sound fine split some) in
+    let there : Moment list x.0.whole = subst (Moment list) left (moment_of t all (before ++ x.1) x.2 sound fine parts further) in (
+      x.0.met,
+      turn_tells list old x.0 (asked_of m) reply x.1 x.3 h here there,
+      talks t all (before ++ x.1) x.0 new ms replies x.2 sound fine parts further left (turn_meets old x.0 (asked_of m) reply x.1 x.3 h).1 x.4,
+    )
+  where
+    moment_of : (t : Lists) (all before rest : List Edit) → Sound t → AreAccepted t all → all ≡ before ++ rest → AreAccepted t before
+        → Moment (record { opening = t; edits = all }) (tables_after t before)
+    moment_of t all before rest sound fine split some =
+        subst (λ l. Moment (record { opening = t; edits = l }) (tables_after t before)) (sym split) (moment t before rest sound (subst (AreAccepted t) split fine) some)
+
+-- ---- where the store fails
+
+other_status : (reply : Reply) (status : ℕ) → reply.status ≡ status → status ≢ 503 → reply.status ≢ 503
+other_status reply status e other f = other (sym e ∙ f)
+
+-- a request that asks nothing isn't told of the store
+abbrev IsNotOfStore : Asked → Type 0
+IsNotOfStore (nothing told) = told.status ≢ 503
+IsNotOfStore (question asked) = Unit {0}
+IsNotOfStore (edit made) = Unit {0}
+
+json_not_of_store : (x : Result Edit JsonFault) → IsNotOfStore (of_json x)
+json_not_of_store (Ok made) = tt
+json_not_of_store (Err cause) = λ e. absurd (omega (arith, e))
+
+csv_not_of_store : (x : Result Edit DeclareFault) → IsNotOfStore (of_csv x)
+csv_not_of_store (Ok made) = tt
+csv_not_of_store (Err cause) = λ e. absurd (omega (arith, e))
+
+route_not_of_store : (body : List ℕ) (x : Result Ask HttpFault) → IsNotOfStore (of_route body x)
+route_not_of_store body (Ok (ask.Question asked)) = tt
+route_not_of_store body (Ok ask.Edit) = json_not_of_store (edit_of body)
+route_not_of_store body (Ok ask.Declaration) = csv_not_of_store (declaration_of body)
+route_not_of_store body (Err fault.NoRoute) = λ e. absurd (omega (arith, e))
+route_not_of_store body (Err (fault.WrongMethod allow)) = λ e. absurd (omega (arith, e))
+route_not_of_store body (Err (fault.BadQuery key)) = λ e. absurd (omega (arith, e))
+route_not_of_store body (Err fault.OutOfMemory) = λ e. absurd (omega (arith, e))
+
+evaluated_not_of_store : (t : Lists) (x : Result (List ℕ) AskFault) → (evaluated t x).status ≢ 503
+evaluated_not_of_store t (Ok text) = λ e. absurd (omega (arith, e))
+evaluated_not_of_store t (Err cause) = λ e. absurd (omega (arith, e))
+
+judged_not_of_store : (whole met : ℕ) (x : Result ℕ RuleFault) → (judged whole met x).status ≢ 503
+judged_not_of_store whole met (Ok number) = λ e. absurd (omega (arith, e))
+judged_not_of_store whole met (Err cause) = λ e. absurd (omega (arith, e))
+
+same_other : (reply told : Reply) → reply ≡ told → told.status ≢ 503 → reply.status ≢ 503
+same_other reply told e other f = other (sym (ap (λ r. r.status) e) ∙ f)
+
+turn_faults : (old new : Standing) (asked : Asked) (reply : Reply) (added : List Edit) → Turn old asked reply added new → old.faults ≤ new.faults
+turn_faults old new (nothing told) reply added (inl x) = omega (arith, ap (λ s. s.faults) x.2)
+turn_faults old new (question asked) reply added (inl x) = omega (arith, ap (λ s. s.faults) x.2)
+turn_faults old new (edit made) reply added (inl x) = omega (arith, ap (λ s. s.faults) x.3)
+turn_faults old new asked reply added (inr (inl (memory, inl x))) = omega (arith, ap (λ s. s.faults) x.1)
+turn_faults old new asked reply added (inr (inl (memory, inr x))) = omega (arith, ap (λ s. s.faults) x.4)
+turn_faults old new asked reply added (inr (inr x)) = x.4
+
+pub conversation_faults : (old new : Standing) (ms : List Message) (replies : List Reply) (added : List Edit) → Conversation old ms replies added new → old.faults ≤ new.faults
+conversation_faults old new [] [] added x = omega (arith, ap (λ s. s.faults) x.1)
+conversation_faults old new [] (reply ∷ replies) added x = absurd x
+conversation_faults old new (m ∷ ms) [] added x = absurd x
+conversation_faults old new (m ∷ ms) (reply ∷ replies) added x =
+    omega (arith, turn_faults old x.0 (asked_of m) reply x.1 x.3, conversation_faults x.0 new ms replies x.2 x.4)
+
+turn_kept : (old new : Standing) (asked : Asked) (reply : Reply) (added : List Edit) → IsNotOfStore asked → Turn old asked reply added new
+    → (Rose old.faults new.faults → ⊥) → reply.status ≢ 503
+turn_kept old new (nothing told) reply added other (inl x) steady = same_other reply told x.0 other
+turn_kept old new (question asked) reply added other (inl x) steady = same_other reply (answer_at old.whole asked) x.0 (evaluated_not_of_store old.whole (eval old.whole asked))
+turn_kept old new (edit made) reply added other (inl x) steady =
+    same_other reply (judged (number_at (step old.whole made).1) old.met (step old.whole made).0) x.1
+    (judged_not_of_store (number_at (step old.whole made).1) old.met (step old.whole made).0)
+turn_kept old new asked reply added other (inr (inl x)) steady = same_other reply (fixed refusal.Memory) x.0 (λ e. absurd (omega (arith, e)))
+turn_kept old new asked reply added other (inr (inr x)) steady = absurd (steady x.5)
+
+pub conversation_kept : (old new : Standing) (ms : List Message) (replies : List Reply) (added : List Edit) → Conversation old ms replies added new
+    → (Rose old.faults new.faults → ⊥) → AllByRecursion (λ reply. reply.status ≢ 503) replies
+conversation_kept old new [] [] added x steady = tt
+conversation_kept old new [] (reply ∷ replies) added x steady = absurd x
+conversation_kept old new (m ∷ ms) [] added x steady = absurd x
+conversation_kept old new (m ∷ ms) (reply ∷ replies) added x steady =
+    let first = turn_faults old x.0 (asked_of m) reply x.1 x.3 in
+    let others = conversation_faults x.0 new ms replies x.2 x.4 in (
+      turn_kept old x.0 (asked_of m) reply x.1 (route_not_of_store m.body (route_of m.method m.target)) x.3 (λ rose. steady (omega (arith, rose, others))),
+      conversation_kept x.0 new ms replies x.2 x.4 (λ rose. steady (omega (arith, rose, first))),
+    )
+
+-- ---- all of it
+
+pub converses : (start : Standing) (left : Lists) (last_met counted : ℕ) (ms : List Message) (replies : List Reply) (added : List Edit) (said : List ℕ)
+    → Sound start.whole → start.met ≤ number_at start.whole → Conversation start ms replies added (record { whole = left; met = last_met; faults = counted })
+    → said ≡ all_bytes ms replies → Converses start left counted ms said
+converses start left last_met counted ms replies added said sound met x e =
+    let finish : Standing = record { whole = left; met = last_met; faults = counted } in
+    let grown = conversation_grows start finish ms replies added x in
+    record {
+      replies = replies;
+      added = added;
+      last_met = last_met;
+      bytes = e;
+      turns = x;
+      grown = (record { sound = sound; accepted = grown.0 }, grown.1);
+      talk = talks start.whole added [] start finish ms replies added sound grown.0 refl tt refl met x;
+      kept = conversation_kept start finish ms replies added x;
+    }
+
+-- what answers by turns converses
+pub conversation_of : {A : Type 0} (R : A → Message → List ℕ → A → Type 0) (standing : A → Standing) → ((a b : A) (m : Message) (said : List ℕ) → R a m said b → Turns (standing a) m said (standing b))
+    → (old new : A) (ms : List Message) (said : List ℕ) → Replies R old ms said new
+    → (replies : List Reply) × (added : List Edit) × Conversation (standing old) ms replies added (standing new) × (said ≡ all_bytes ms replies)
+conversation_of R standing turns old new [] said x = ([], [], (refl, ap standing x.1), x.0)
+conversation_of R standing turns old new (m ∷ ms) said x =
+    let first = turns old x.0 m x.1 x.3 in
+    let others = conversation_of R standing turns x.0 new ms x.2 x.4 in (
+      first.0 ∷ others.0,
+      first.1 ++ others.1,
+      (standing x.0, first.1, others.1, first.2, others.2, refl),
+      x.5 ∙ ap (λ l. l ++ x.2) first.3 ∙ ap (λ l. bytes_of m first.0 ++ l) others.3,
+    )
+
+-- what each turn keeps is kept
+pub kept_throughout : {A X : Type 0} (R : A → Message → List ℕ → A → Type 0) (name : A → X) → ((a b : A) (m : Message) (said : List ℕ) → R a m said b → name b ≡ name a)
+    → (old new : A) (ms : List Message) (said : List ℕ) → Replies R old ms said new → name new ≡ name old
+kept_throughout R name keeps old new [] said x = ap name x.1
+kept_throughout R name keeps old new (m ∷ ms) said x = kept_throughout R name keeps x.0 new ms x.2 x.4 ∙ keeps old x.0 m x.1 x.3
+
+-- what each turn leads back from the end to the start is led back through all
+pub told_throughout : {A : Type 0} (R : A → Message → List ℕ → A → Type 0) (P : A → Type 0) → ((a b : A) (m : Message) (said : List ℕ) → R a m said b → P b → P a)
+    → (old new : A) (ms : List Message) (said : List ℕ) → Replies R old ms said new → P new → P old
+told_throughout R P back old new [] said x told = subst P x.1 told
+told_throughout R P back old new (m ∷ ms) said x told = back old x.0 m x.1 x.3 (told_throughout R P back x.0 new ms x.2 x.4 told)

@@ -1,0 +1,217 @@
+-- What a turn is, from what the calls that make it say.
+use Rattle.std.proofs.Common.{◌≡◌, ◌≢◌, ◌⊎◌, ℕ, ◌≤◌, Bool, true, false, cond, IfErr, OnOk, List, [], ◌∷◌, ◌++◌, Option, None, Some, Result, Ok, Err, refl, sym, ap, ◌∙◌, subst, inl, inr}
+use Rattle.std.specs.List.{find}
+use Rattle.std.specs.List.{AllByRecursion}
+use Rattle.std.specs.Option.{option_and_then, option_map_or}
+use Rattle.std.specs.Prelude.{codes, option_map}
+use Rattle.std.specs.Str.{bytes_eq}
+use Rattle.desk_text.specs.Day.{Date}
+use Rattle.desk_law.specs.declared.kind.Kind.{Kind}
+use Rattle.desk_clerk.specs.Clerk.{number_at}
+use Rattle.desk_http.specs.Query.{Pair, day_in, kind_in, pairs_of}
+use Rattle.desk_http.specs.Routes.{FromQuery, RouteRow, are_named, asked_by, asked_with, asks, behind_word, day, kind, path_of, path_taken, query_of, route_of, routes, row_of, same_method, taken_from_path, word_of}
+use Rattle.desk_http.specs.declared.ask.Ask.{Ask}
+use Rattle.desk_http.specs.declared.http_fault.HttpFault.{HttpFault}
+use Rattle.desk_http.specs.declared.http_fault.HttpFault.TheVariants as cause
+use Rattle.desk_http.specs.declared.http_fault.QueryKey.{QueryKey}
+use Rattle.desk_http.specs.declared.http_fault.QueryKey.TheVariants as key
+use Rattle.desk_http.specs.declared.method.Method.{Method}
+use Rattle.desk_edge.specs.Faults.{Rose}
+use Rattle.desk_history.specs.Step.{step}
+use Rattle.desk_http.specs.Reply.{allow_of, fixed_reply}
+use Rattle.desk_http.specs.declared.fixed.Fixed.{Fixed}
+use Rattle.desk_http.specs.declared.fixed.Fixed.TheVariants as refusal
+use Rattle.desk_http.specs.declared.method.Method.TheVariants as method
+use Rattle.desk_model.specs.Forms.{is_edit_in_form}
+use Rattle.desk_model.specs.Lists.{Lists}
+use Rattle.desk_model.specs.declared.edit.Edit.{Edit}
+use Rattle.desk_model.specs.declared.rule_fault.RuleFault.{RuleFault}
+use Rattle.desk_scratch.specs.declared.question.Question.{Question}
+use Rattle.desk_front.specs.Asked.{Asked, edit, nothing, question}
+use Rattle.desk_front.specs.Replies.{Reply, accepted_body, answer_at, bytes_with, fixed, judged, refused_body, with_body}
+use Rattle.desk_front.specs.Turn.{Says, Standing, added_at}
+
+pub fixed_bytes : (refused : Fixed) (close : Bool) → fixed_reply refused close ≡ bytes_with close (fixed refused)
+unfolding fixed_reply
+fixed_bytes refused close = refl
+
+pub memory_allows_none : (refused : Fixed) → refused ≡ refusal.Memory → allow_of refused ≢ Some method.Other
+memory_allows_none refused e = subst (λ r. allow_of r ≢ Some method.Other) (sym e) (λ h. cc)
+
+-- nothing has changed, and memory was wanting
+pub says_memory : (old : Standing) (asked : Asked) (close : Bool) (refused : Fixed) → refused ≡ refusal.Memory → Says old asked close (fixed_reply refused close) old
+says_memory old asked close refused e =
+    subst (λ r. Says old asked close (fixed_reply r close) old) (sym e)
+    (fixed refusal.Memory, [], inr (inl (refl, inl (refl, refl))), fixed_bytes refusal.Memory close)
+
+pub says_nothing : (old : Standing) (reply : Reply) (close : Bool) → Says old (nothing reply) close (bytes_with close reply) old
+says_nothing old reply close = (reply, [], inl (refl, refl, refl), refl)
+
+pub says_fixed : (old : Standing) (refused : Fixed) (close : Bool) → Says old (nothing (fixed refused)) close (fixed_reply refused close) old
+says_fixed old refused close = (fixed refused, [], inl (refl, refl, refl), fixed_bytes refused close)
+
+pub says_answer : (old : Standing) (asked : Question) (close : Bool) (met : ℕ) → met ≡ number_at old.whole
+    → Says old (question asked) close (bytes_with close (answer_at old.whole asked)) (record old { met = met })
+says_answer old asked close met e = (answer_at old.whole asked, [], inl (refl, refl, ap (λ n. record old { met = n }) e), refl)
+
+pub says_accepted : (old new : Standing) (made : Edit) (close : Bool) (number whole : ℕ) → is_edit_in_form made ≡ true → (step old.whole made).0 ≡ Ok number
+    → whole ≡ number_at new.whole → new.whole ≡ (step old.whole made).1 → new.faults ≡ old.faults → new.met ≡ whole
+    → Says old (edit made) close (bytes_with close (with_body 200 (accepted_body whole old.met number))) new
+says_accepted old new made close number whole form answer counted left steady met =
+    let at : whole ≡ number_at (step old.whole made).1 = counted ∙ ap number_at left in
+    let met_at : new.met ≡ number_at (step old.whole made).1 = met ∙ at in (
+      with_body 200 (accepted_body whole old.met number),
+      added_at old.whole made,
+      inl (
+        form,
+        ap (λ n. judged n old.met (Ok number)) at ∙ ap (judged (number_at (step old.whole made).1) old.met) (sym answer),
+        refl,
+        (λ i. record { whole = left i; met = met_at i; faults = steady i }),
+      ),
+      refl,
+    )
+
+pub says_refused : (old new : Standing) (made : Edit) (close : Bool) (cause : RuleFault) (whole : ℕ) → is_edit_in_form made ≡ true → (step old.whole made).0 ≡ Err cause
+    → (step old.whole made).1 ≡ old.whole → whole ≡ number_at old.whole → new.whole ≡ old.whole → new.faults ≡ old.faults → new.met ≡ whole
+    → Says old (edit made) close (bytes_with close (with_body 409 (refused_body whole old.met cause))) new
+says_refused old new made close cause whole form answer stays counted left steady met =
+    let left_at : new.whole ≡ (step old.whole made).1 = left ∙ sym stays in
+    let at : whole ≡ number_at (step old.whole made).1 = counted ∙ ap number_at (sym stays) in
+    let met_at : new.met ≡ number_at (step old.whole made).1 = met ∙ at in (
+      with_body 409 (refused_body whole old.met cause),
+      added_at old.whole made,
+      inl (
+        form,
+        ap (λ n. judged n old.met (Err cause)) at ∙ ap (judged (number_at (step old.whole made).1) old.met) (sym answer),
+        refl,
+        (λ i. record { whole = left_at i; met = met_at i; faults = steady i }),
+      ),
+      refl,
+    )
+
+-- an edit was made, and there was no memory to tell it
+pub says_made : (old new : Standing) (made : Edit) (close : Bool) (refused : Fixed) → refused ≡ refusal.Memory → is_edit_in_form made ≡ true
+    → new.whole ≡ (step old.whole made).1 → new.met ≡ old.met → new.faults ≡ old.faults → Says old (edit made) close (fixed_reply refused close) new
+says_made old new made close refused e form left met steady =
+    subst (λ r. Says old (edit made) close (fixed_reply r close) new) (sym e) (
+      fixed refusal.Memory,
+      added_at old.whole made,
+      inr (inl (refl, inr (made, refl, form, refl, (λ i. record { whole = left i; met = met i; faults = steady i })))),
+      fixed_bytes refusal.Memory close,
+    )
+
+-- nothing was made, and there was no memory to tell why
+pub says_unmade : (old new : Standing) (asked : Asked) (close : Bool) (refused : Fixed) → refused ≡ refusal.Memory → new.whole ≡ old.whole → new.met ≡ old.met
+    → new.faults ≡ old.faults → Says old asked close (fixed_reply refused close) new
+says_unmade old new asked close refused e left met steady =
+    subst (λ r. Says old asked close (fixed_reply r close) new) (sym e) (
+      fixed refusal.Memory,
+      [],
+      inr (inl (refl, inl (refl, (λ i. record { whole = left i; met = met i; faults = steady i })))),
+      fixed_bytes refusal.Memory close,
+    )
+
+-- the store failed to keep an edit
+pub says_failed : (old new : Standing) (made : Edit) (close : Bool) → new.whole ≡ old.whole → new.met ≡ old.met → old.faults ≤ new.faults → Rose old.faults new.faults
+    → Says old (edit made) close (fixed_reply refusal.StoreFault close) new
+says_failed old new made close left met falls rose = (
+  fixed refusal.StoreFault,
+  [],
+  inr (inr (made, refl, refl, refl, falls, rose, (λ i. record { whole = left i; met = met i; faults = new.faults }))),
+  fixed_bytes refusal.StoreFault close,
+)
+
+-- ---- what is told of a request that asks nothing, or of which memory was wanting
+
+pub says_memory_of : (old : Standing) (asked : Asked) (close : Bool) (r : Result (Unit {0}) Fixed) → IfErr r (λ told. told ≡ refusal.Memory)
+    → IfErr r (λ told. Says old asked close (fixed_reply told close) old)
+says_memory_of old asked close (Ok done) h = tt
+says_memory_of old asked close (Err told) h = says_memory old asked close told h
+
+-- the reply is appended, where it is what is asked for
+pub says_told : (Q : Type 0) (old : Standing) (asked : Asked) (close : Bool) (told : Reply) (before after : List ℕ) (r : Result (Unit {0}) Fixed) → (Q → asked ≡ nothing told)
+    → OnOk r (Q × (after ≡ before ++ bytes_with close told)) → OnOk r ((said : List ℕ) × (after ≡ before ++ said) × Says old asked close said old)
+says_told Q old asked close told before after (Ok done) same h =
+    (bytes_with close told, h.1, subst (λ a. Says old a close (bytes_with close told) old) (sym (same h.0)) (says_nothing old told close))
+says_told Q old asked close told before after (Err fixed) same h = tt
+
+pub says_refusal : (Q : Type 0) (old : Standing) (asked : Asked) (close : Bool) (reply : Reply) (r : Result (Unit {0}) Fixed) → (Q → asked ≡ nothing reply)
+    → IfErr r (λ told. (told ≡ refusal.Memory) ⊎ (Q × (reply ≡ fixed told))) → IfErr r (λ told. Says old asked close (fixed_reply told close) old)
+says_refusal Q old asked close reply (Ok done) same h = tt
+says_refusal Q old asked close reply (Err told) same (inl h) = says_memory old asked close told h
+says_refusal Q old asked close reply (Err told) same (inr h) =
+    subst (λ a. Says old a close (fixed_reply told close) old) (ap nothing (sym h.1) ∙ sym (same h.0)) (says_fixed old told close)
+
+-- ---- the method that a path takes is one that the desk knows
+
+by_key : {T : Type 0} (next : T → Result Ask HttpFault) (value : Option T) (failing : QueryKey) (allowed : Method) → ((v : T) → next v ≡ Err (cause.WrongMethod allowed) → ⊥)
+    → option_map_or next value (Err (cause.BadQuery failing)) ≡ Err (cause.WrongMethod allowed) → ⊥
+by_key next None failing allowed never e = cc
+by_key next (Some v) failing allowed never e = never v e
+
+-- a query never asks for another method
+never_method : (allowed : Method) (left : FromQuery) (names : List (List ℕ)) (pairs : List Pair) → asked_by names left pairs ≡ Err (cause.WrongMethod allowed) → ⊥
+unfolding asked_by
+never_method allowed (asks it) names pairs e = if_named (are_named names pairs) e
+  where
+    if_named : (b : Bool) → cond b (Ok it) (Err (cause.BadQuery key.Other)) ≡ Err (cause.WrongMethod allowed) → ⊥
+    if_named true h = cc
+    if_named false h = cc
+never_method allowed (kind next) names pairs e = by_key (λ k. asked_by (codes "kind" ∷ names) (next k) pairs) (kind_in pairs) key.Kind allowed
+    (λ k. never_method allowed (next k) (codes "kind" ∷ names) pairs) e
+never_method allowed (day next) names pairs e = by_key (λ d. asked_by (codes "day" ∷ names) (next d) pairs) (day_in pairs) key.Day allowed
+    (λ d. never_method allowed (next d) (codes "day" ∷ names) pairs) e
+
+first_or : (b : Bool) (row found : RouteRow) (others : Option RouteRow) → row.method ≢ method.Other → (others ≡ Some found → found.method ≢ method.Other)
+    → cond b (Some row) others ≡ Some found → found.method ≢ method.Other
+first_or true row found others known later e = subst (λ r. r.method ≢ method.Other) (inside row found e) known
+  where
+    inside : (a b : RouteRow) → Some a ≡ Some b → a ≡ b
+    inside a b f = cc
+first_or false row found others known later e = later e
+
+-- each row takes a method that the desk knows
+rows_known : (word : List ℕ) (rows : List RouteRow) (found : RouteRow) → AllByRecursion (λ row. row.method ≢ method.Other) rows
+    → find (λ row. bytes_eq row.word word) rows ≡ Some found → found.method ≢ method.Other
+rows_known word [] found known e = cc
+rows_known word (row ∷ rows) found known e = first_or (bytes_eq row.word word) row found (find (λ row. bytes_eq row.word word) rows) known.0 (rows_known word rows found known.1) e
+
+table_known : AllByRecursion (λ row. row.method ≢ method.Other) routes
+table_known = ((λ h. cc), ((λ h. cc), ((λ h. cc), ((λ h. cc), ((λ h. cc), ((λ h. cc), ((λ h. cc), ((λ h. cc), ((λ h. cc), ((λ h. cc), tt))))))))))
+
+known_at : (path : List ℕ) (row : Option RouteRow) (taken : Method × FromQuery) → ((found : RouteRow) → row ≡ Some found → found.method ≢ method.Other)
+    → option_and_then (λ row. option_map (λ next. (row.method, next)) (taken_from_path row.path (behind_word path))) row ≡ Some taken → taken.0 ≢ method.Other
+known_at path None taken known e = cc
+known_at path (Some row) taken known e = at (taken_from_path row.path (behind_word path)) e
+  where
+    at : (next : Option FromQuery) → option_map (λ next. (row.method, next)) next ≡ Some taken → taken.0 ≢ method.Other
+    at None h = cc
+    at (Some next) h = subst (λ t. t.0 ≢ method.Other) (inside (row.method, next) taken h) (known row refl)
+      where
+        inside : (a b : Method × FromQuery) → Some a ≡ Some b → a ≡ b
+        inside a b f = cc
+
+known_in_table : (word : List ℕ) (found : RouteRow) → row_of word ≡ Some found → found.method ≢ method.Other
+unfolding row_of
+known_in_table word found e = rows_known word routes found table_known e
+
+pub allows_known : (sent : Method) (target : List ℕ) (allowed : Method) → route_of sent target ≡ Err (cause.WrongMethod allowed) → allowed ≢ method.Other
+unfolding route_of
+allows_known sent target allowed e =
+    at (path_taken (path_of target)) e (λ taken f. known_at (path_of target) (row_of (word_of (path_of target))) taken (known_in_table (word_of (path_of target))) f)
+  where
+    at : (taken : Option (Method × FromQuery)) → option_map_or (asked_with sent (pairs_of (query_of target))) taken (Err cause.NoRoute) ≡ Err (cause.WrongMethod allowed)
+        → ((t : Method × FromQuery) → taken ≡ Some t → t.0 ≢ method.Other) → allowed ≢ method.Other
+    at None h known = cc
+    at (Some t) h known = by_method (same_method t.0 sent) h
+      where
+        by_method : (b : Bool) → cond b (asked_by [] t.1 (pairs_of (query_of target))) (Err (cause.WrongMethod t.0)) ≡ Err (cause.WrongMethod allowed) → allowed ≢ method.Other
+        by_method true g = absurd (never_method allowed t.1 [] (pairs_of (query_of target)) g)
+        by_method false g = subst (λ m. m ≢ method.Other) (inside t.0 allowed g) (known t refl)
+          where
+            inside : (a b : Method) → ◌≡◌ {A = Result Ask HttpFault} (Err (cause.WrongMethod a)) (Err (cause.WrongMethod b)) → a ≡ b
+            inside a b f = cc
+
+pub if_err_weaker : {T E : Type 0} (P Q : E → Type 0) (r : Result T E) → ((e : E) → P e → Q e) → IfErr r P → IfErr r Q
+if_err_weaker P Q (Ok value) weaker h = tt
+if_err_weaker P Q (Err e) weaker h = weaker e h

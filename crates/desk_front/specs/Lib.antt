@@ -1,0 +1,7 @@
+pub mod Asked
+pub mod Held
+pub mod Replies
+pub mod Served
+pub mod Service
+pub mod Talk
+pub mod Turn

@@ -1,0 +1,99 @@
+-- Replies: what is told of a request, and the bodies that tell it.
+use Rattle.std.specs.Prelude.{ℕ, Bool, List, [], ◌∷◌, ◌++◌, Option, None, Some, Result, Ok, Err, codes}
+use Rattle.std.specs.Fmt.{decimal}
+use Rattle.httparse.specs.Ascii.{line_feed}
+use Rattle.desk_declare.specs.Faults.{declare_fault_words}
+use Rattle.desk_declare.specs.declared.declare_fault.DeclareFault.{DeclareFault}
+use Rattle.desk_edits.specs.Faults.{json_fault_words}
+use Rattle.desk_edits.specs.declared.json_fault.JsonFault.{JsonFault}
+use Rattle.desk_http.specs.Faults.{http_fault_words}
+use Rattle.desk_http.specs.Reply.{allow_of, refusal_word, reply, status_of}
+use Rattle.desk_http.specs.Rest.{Message}
+use Rattle.desk_http.specs.declared.fixed.Fixed.{Fixed}
+use Rattle.desk_http.specs.declared.fixed.Fixed.TheVariants as refusal
+use Rattle.desk_http.specs.declared.http_fault.HttpFault.{HttpFault}
+use Rattle.desk_http.specs.declared.http_fault.HttpFault.TheVariants as fault
+use Rattle.desk_http.specs.declared.method.Method.{Method}
+use Rattle.desk_model.specs.Lists.{Lists}
+use Rattle.desk_model.specs.Refusals.{refusal_words}
+use Rattle.desk_model.specs.declared.rule_fault.RuleFault.{RuleFault}
+use Rattle.desk_scratch.specs.Eval.{eval}
+use Rattle.desk_scratch.specs.Faults.{ask_fault_words}
+use Rattle.desk_scratch.specs.SharedLines.{version_line}
+use Rattle.desk_scratch.specs.declared.ask_fault.AskFault.{AskFault}
+use Rattle.desk_scratch.specs.declared.question.Question.{Question}
+
+-- a reply: its status, the method that it allows where it names one, and its body
+pub record Reply : Type 0 where
+  pub status : ℕ
+  pub allow : Option Method
+  pub body : List ℕ
+
+-- the bytes of a reply; where the connection ends with it, it says so
+abbrev pub bytes_with : Bool → Reply → List ℕ
+bytes_with close said = reply said.status said.body said.allow close
+
+-- the bytes of the reply to a request: the connection ends with it where the request closes
+abbrev pub bytes_of : Message → Reply → List ℕ
+bytes_of request said = bytes_with request.close said
+
+-- the bytes of the replies to requests, each behind the one before
+abbrev pub all_bytes : List Message → List Reply → List ℕ
+all_bytes (request ∷ requests) (said ∷ replies) = bytes_of request said ++ all_bytes requests replies
+all_bytes [] replies = []
+all_bytes (request ∷ requests) [] = []
+
+-- a reply that allows no method
+abbrev pub with_body : ℕ → List ℕ → Reply
+with_body status body = record { status = status; allow = None; body = body }
+
+-- the reply of a refusal whose body is one word
+abbrev pub fixed : Fixed → Reply
+fixed refused = record { status = status_of refused; allow = allow_of refused; body = refusal_word refused ++ line_feed ∷ [] }
+
+-- `bad-query KEY`
+unfoldable pub bad_query_body : HttpFault → List ℕ
+bad_query_body cause = http_fault_words cause ++ codes "\n"
+
+-- the reply to a request that asks nothing
+abbrev pub no_ask : HttpFault → Reply
+no_ask fault.NoRoute = fixed refusal.NoRoute
+no_ask (fault.WrongMethod allow) = fixed (refusal.WrongMethod allow)
+no_ask (fault.BadQuery key) = with_body 400 (bad_query_body (fault.BadQuery key))
+no_ask fault.OutOfMemory = fixed refusal.Memory
+
+-- `bad-edit ..`, with the fault's words
+unfoldable pub bad_edit_body : JsonFault → List ℕ
+bad_edit_body cause = codes "bad-edit " ++ json_fault_words cause ++ codes "\n"
+
+-- `bad-declaration ..`, with the fault's words
+unfoldable pub bad_declaration_body : DeclareFault → List ℕ
+bad_declaration_body cause = codes "bad-declaration " ++ declare_fault_words cause ++ codes "\n"
+
+-- `version N`, and why the question has no answer at these tables
+unfoldable pub no_answer_body : Lists → AskFault → List ℕ
+no_answer_body t cause = version_line t ++ ask_fault_words cause ++ codes "\n"
+
+-- the reply to a question that is evaluated so at these tables
+abbrev pub evaluated : Lists → Result (List ℕ) AskFault → Reply
+evaluated t (Ok text) = with_body 200 text
+evaluated t (Err cause) = with_body 404 (no_answer_body t cause)
+
+-- the reply to a question at these tables: its evaluation from scratch
+abbrev pub answer_at : Lists → Question → Reply
+answer_at t question = evaluated t (eval t question)
+
+-- `version N`, the number of the writer's whole list; `seen M`, that of the longest list that was met before; `accepted K`, the edit's own
+unfoldable pub accepted_body : ℕ → ℕ → ℕ → List ℕ
+accepted_body whole met number =
+    codes "version " ++ decimal whole ++ codes "\nseen " ++ decimal met ++ codes "\naccepted " ++ decimal number ++ codes "\n"
+
+-- the same two numbers, and `refused ..` with the rule's words
+unfoldable pub refused_body : ℕ → ℕ → RuleFault → List ℕ
+refused_body whole met cause =
+    codes "version " ++ decimal whole ++ codes "\nseen " ++ decimal met ++ codes "\nrefused " ++ refusal_words cause ++ codes "\n"
+
+-- the reply to an edit that is judged so, where the writer's whole list has the first number, and the second was met before
+abbrev pub judged : ℕ → ℕ → Result ℕ RuleFault → Reply
+judged whole met (Ok number) = with_body 200 (accepted_body whole met number)
+judged whole met (Err cause) = with_body 409 (refused_body whole met cause)

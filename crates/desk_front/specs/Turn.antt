@@ -1,0 +1,99 @@
+-- One connection that has a clerk to itself, turn by turn: each answer is at the whole list of its moment.
+use Rattle.std.specs.Prelude.{◌≡◌, ◌≢◌, ℕ, ◌≤◌, ◌⊎◌, true, List, [], ◌∷◌, ◌++◌, Option, None, Some, Bool}
+use Rattle.std.specs.List.{AllByRecursion}
+use Rattle.desk_clerk.specs.Clerk.{number_at}
+use Rattle.desk_edge.specs.Faults.{Rose}
+use Rattle.desk_history.specs.History.{History, IsHistory, after}
+use Rattle.desk_history.specs.Refused.{refused}
+use Rattle.desk_history.specs.Step.{kept_number, step}
+use Rattle.desk_http.specs.Rest.{Message}
+use Rattle.desk_http.specs.declared.fixed.Fixed.TheVariants as refusal
+use Rattle.desk_model.specs.Forms.{is_edit_in_form}
+use Rattle.desk_model.specs.Lists.{Lists}
+use Rattle.desk_model.specs.declared.edit.Edit.{Edit}
+use Rattle.desk_model.specs.declared.rule_fault.RuleFault.{RuleFault}
+use Rattle.desk_front.specs.Asked.{Asked, asked_of, edit, nothing, question}
+use Rattle.desk_front.specs.Replies.{Reply, all_bytes, answer_at, bytes_with, fixed, judged}
+use Rattle.desk_front.specs.Talk.{Talk}
+
+-- how a connection stands: the tables after the clerk's whole list, the number of the longest list that it has met, and how many
+-- faults the store has counted
+pub record Standing : Type 0 where
+  pub whole : Lists
+  pub met : ℕ
+  pub faults : ℕ
+
+-- the edit, where it isn't kept and no rule refuses it
+abbrev pub if_new : Edit → Option ℕ → Option RuleFault → List Edit
+if_new made (Some number) broken = []
+if_new made None (Some cause) = []
+if_new made None None = made ∷ []
+
+-- what an edit adds to the list that leaves these tables: itself where it is new and accepted, and else nothing
+abbrev pub added_at : Lists → Edit → List Edit
+added_at t made = if_new made (kept_number t made) (refused t made)
+
+-- a request is answered: what it asks and the whole list say how. These edits were added to the list
+abbrev pub Answers : Standing → Asked → Reply → List Edit → Standing → Type 0
+Answers old (nothing refused) reply added new = (reply ≡ refused) × (added ≡ []) × (new ≡ old)
+Answers old (question asked) reply added new = (reply ≡ answer_at old.whole asked) × (added ≡ []) × (new ≡ record old { met = number_at old.whole })
+Answers old (edit made) reply added new =
+    (is_edit_in_form made ≡ true)
+    × (reply ≡ judged (number_at (step old.whole made).1) old.met (step old.whole made).0)
+    × (added ≡ added_at old.whole made)
+    × (new ≡ record old { whole = (step old.whole made).1; met = number_at (step old.whole made).1 })
+
+-- memory was wanting: nothing has changed, or an edit was made and isn't told
+abbrev pub LacksMemory : Standing → Asked → Reply → List Edit → Standing → Type 0
+LacksMemory old asked reply added new =
+    (reply ≡ fixed refusal.Memory)
+    × (((added ≡ []) × (new ≡ old))
+    ⊎ ((made : Edit) × (asked ≡ edit made) × (is_edit_in_form made ≡ true) × (added ≡ added_at old.whole made)
+    × (new ≡ record old { whole = (step old.whole made).1 })))
+
+-- the store failed to keep an edit: its count rose in this turn, and nothing else has changed
+abbrev pub FailsToKeep : Standing → Asked → Reply → List Edit → Standing → Type 0
+FailsToKeep old asked reply added new =
+    (made : Edit) × (asked ≡ edit made) × (reply ≡ fixed refusal.StoreFault) × (added ≡ [])
+    × (old.faults ≤ new.faults) × Rose old.faults new.faults × (new ≡ record old { faults = new.faults })
+
+-- a turn: what is asked gets this reply, and these edits are added to the list
+abbrev pub Turn : Standing → Asked → Reply → List Edit → Standing → Type 0
+Turn old asked reply added new = Answers old asked reply added new ⊎ LacksMemory old asked reply added new ⊎ FailsToKeep old asked reply added new
+
+-- what is asked is answered by these bytes, in a turn
+abbrev pub Says : Standing → Asked → Bool → List ℕ → Standing → Type 0
+Says old asked close said new = (reply : Reply) × (added : List Edit) × Turn old asked reply added new × (said ≡ bytes_with close reply)
+
+-- a request is answered by these bytes, in a turn
+abbrev pub Turns : Standing → Message → List ℕ → Standing → Type 0
+Turns old request said new = Says old (asked_of request) request.close said new
+
+-- a conversation: a turn for each request, in order. These edits were added to the list, in order, and no other
+abbrev pub Conversation : Standing → List Message → List Reply → List Edit → Standing → Type 0
+Conversation old [] [] added new = (added ≡ []) × (new ≡ old)
+Conversation old [] (reply ∷ replies) added new = ⊥
+Conversation old (request ∷ requests) [] added new = ⊥
+Conversation old (request ∷ requests) (reply ∷ replies) added new =
+    (next : Standing) × (first : List Edit) × (others : List Edit) × Turn old (asked_of request) reply first next
+    × Conversation next requests replies others new × (added ≡ first ++ others)
+
+-- the list at entry, followed by the edits that were added
+abbrev pub list_with : Standing → List Edit → History
+list_with start added = record { opening = start.whole; edits = added }
+
+-- Requests are answered by these bytes, from the first standing on, and leave the tables of the whole list and the store's count so.
+pub record Converses (start : Standing) (left : Lists) (counted : ℕ) (requests : List Message) (said : List ℕ) : Type 0 where
+  pub replies : List Reply
+  pub added : List Edit
+  pub last_met : ℕ
+  -- the bytes are those of the replies
+  pub bytes : said ≡ all_bytes requests replies
+  -- each reply is at the whole list of its moment
+  pub turns : Conversation start requests replies added (record { whole = left; met = last_met; faults = counted })
+  -- the whole list at the end is the one at entry followed by the new accepted edits of the requests, in order, and by no other
+  pub grown : IsHistory (list_with start added) × (after (list_with start added) ≡ left)
+  -- each reply is from that one list, at a number that is no smaller than those met before
+  pub talk : Talk (list_with start added) start.met requests replies
+  -- where the store counted no fault, no reply tells of one
+  pub kept : (Rose start.faults counted → ⊥) → AllByRecursion (λ reply. reply.status ≢ 503) replies

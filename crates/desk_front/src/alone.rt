@@ -1,0 +1,102 @@
+ghost use Rattle.std.specs.Prelude.{◌≡◌, ◌≢◌, ◌≤◌, ℕ, List};
+ghost use Rattle.std.specs.Io.KnownBytes.{Consumes};
+ghost use Rattle.desk_clerk.specs.Clerk.{keeper_of, number_at, whole};
+ghost use Rattle.desk_edge.specs.Faults.{Rose};
+ghost use Rattle.desk_front.specs.Served.{Serves};
+ghost use Rattle.desk_front.specs.Turn.{Converses};
+ghost use Rattle.desk_history.specs.Sound.{Sound};
+
+use crate::connection::Connection;
+use crate::served::Served;
+use crate::stream::serve;
+use desk_clerk::Clerk;
+use desk_edge::{Keeper, Link};
+use desk_http::Routes;
+use std::alloc::Global;
+use std::sync::Wait;
+
+/// Serves one stream of requests, with no other beside it: each question and each edit is answered at the clerk's whole list of its
+/// moment, in order, as soon as it is whole.
+///
+/// At first the longest list met is the clerk's at entry. The clerk's list at the end is that one, followed by the new accepted edits
+/// of the stream.
+///
+/// `Ended`: the input ended between two requests, or a reply has closed the connection. `Cut`: the input ended inside a request.
+/// `TooLong`: 1,099,511,627,776 bytes were read, and no reply has closed the connection; the requests in them are answered.
+/// `LinkFault`: the link counted a fault; what was written is a beginning of the replies. `OutOfMemory`: there was no memory for the
+/// routes and the buffer of 73,728 bytes, and nothing was read.
+pub fn serve_alone<R: Wait + Sync, L: Link, K: Keeper>(
+    rt: &R,
+    alloc: Global,
+    clerk: &mut Clerk<K>,
+    link: &mut L,
+) -> Served
+    ensures served { result ≢ Served.OutOfMemory → (bytes : List ℕ) × Consumes (L.unread link.old) (L.unread link.new) bytes
+        × Serves (Converses
+        (record { whole = whole clerk.old; met = number_at (whole clerk.old); faults = K.faults (keeper_of clerk.old) })
+        (whole clerk.new) (K.faults (keeper_of clerk.new)))
+        result bytes (L.unread link.new) (L.written link.old) (L.written link.new) }
+    ensures nothing { result ≡ Served.OutOfMemory → (clerk.new ≡ clerk.old) × (link.new ≡ link.old) }
+    ensures told { K.Tells (keeper_of clerk.new) → K.Tells (keeper_of clerk.old) }
+    ensures never_falls { L.faults link.old ≤ L.faults link.new }
+    ensures steady { result ≢ Served.LinkFault → L.faults link.new ≡ L.faults link.old }
+    ensures failed { result ≡ Served.LinkFault → Rose (L.faults link.old) (L.faults link.new) }
+    ensures keeper_never_falls { K.faults (keeper_of clerk.old) ≤ K.faults (keeper_of clerk.new) }
+{
+    let routes = match Routes::build(alloc) {
+        Ok(routes) => routes,
+        Err(_) => return Served::OutOfMemory,
+    };
+    serve_by(rt, alloc, &routes, clerk, link)
+}
+
+/// The same with the routes made.
+fn serve_by<R: Wait + Sync, L: Link, K: Keeper>(
+    rt: &R,
+    alloc: Global,
+    routes: &Routes,
+    clerk: &mut Clerk<K>,
+    link: &mut L,
+) -> Served
+    ensures served { result ≢ Served.OutOfMemory → (bytes : List ℕ) × Consumes (L.unread link.old) (L.unread link.new) bytes
+        × Serves (Converses
+        (record { whole = whole clerk.old; met = number_at (whole clerk.old); faults = K.faults (keeper_of clerk.old) })
+        (whole clerk.new) (K.faults (keeper_of clerk.new)))
+        result bytes (L.unread link.new) (L.written link.old) (L.written link.new) }
+    ensures nothing { result ≡ Served.OutOfMemory → (clerk.new ≡ clerk.old) × (link.new ≡ link.old) }
+    ensures told { K.Tells (keeper_of clerk.new) → K.Tells (keeper_of clerk.old) }
+    ensures never_falls { L.faults link.old ≤ L.faults link.new }
+    ensures steady { result ≢ Served.LinkFault → L.faults link.new ≡ L.faults link.old }
+    ensures failed { result ≡ Served.LinkFault → Rose (L.faults link.old) (L.faults link.new) }
+    ensures keeper_never_falls { K.faults (keeper_of clerk.old) ≤ K.faults (keeper_of clerk.new) }
+{
+    clerk.tables();
+    let met = clerk.number();
+    let mut connection = Connection { routes, clerk, met };
+    serve_connection(rt, alloc, link, &mut connection)
+}
+
+/// Serves one stream by a connection that has met its clerk's whole list.
+fn serve_connection<R: Wait + Sync, L: Link, K: Keeper>(
+    rt: &R,
+    alloc: Global,
+    link: &mut L,
+    connection: &mut Connection<'_, K>,
+) -> Served
+    requires sound { Sound (whole connection.old.clerk.now) }
+    requires met { connection.old.met ≡ number_at (whole connection.old.clerk.now) }
+    ensures same_clerk { connection.new.clerk.ghost_name ≡ connection.old.clerk.ghost_name }
+    ensures served { result ≢ Served.OutOfMemory → (bytes : List ℕ) × Consumes (L.unread link.old) (L.unread link.new) bytes
+        × Serves (Converses
+        (record { whole = whole connection.old.clerk.now; met = connection.old.met; faults = K.faults (keeper_of connection.old.clerk.now) })
+        (whole connection.new.clerk.now) (K.faults (keeper_of connection.new.clerk.now)))
+        result bytes (L.unread link.new) (L.written link.old) (L.written link.new) }
+    ensures nothing { result ≡ Served.OutOfMemory → (connection.new.clerk.now ≡ connection.old.clerk.now) × (link.new ≡ link.old) }
+    ensures told { K.Tells (keeper_of connection.new.clerk.now) → K.Tells (keeper_of connection.old.clerk.now) }
+    ensures never_falls { L.faults link.old ≤ L.faults link.new }
+    ensures steady { result ≢ Served.LinkFault → L.faults link.new ≡ L.faults link.old }
+    ensures failed { result ≡ Served.LinkFault → Rose (L.faults link.old) (L.faults link.new) }
+    ensures keeper_never_falls { K.faults (keeper_of connection.old.clerk.now) ≤ K.faults (keeper_of connection.new.clerk.now) }
+{
+    serve(rt, alloc, link, connection)
+}

@@ -1,0 +1,193 @@
+ghost use Rattle.std.specs.Prelude.{◌≡◌, ◌≢◌, ◌++◌, ℕ, List, true, Some, IfErr, OnErr, OnOk};
+ghost use Rattle.desk_clerk.specs.Clerk.{keeper_of, whole};
+ghost use Rattle.desk_declare.specs.Declaration.{declaration_of};
+ghost use Rattle.desk_edits.specs.Edit.{edit_of};
+ghost use Rattle.desk_front.specs.Asked.{a_question, an_edit, of_csv, of_json};
+ghost use Rattle.desk_front.specs.Turn.{Says, Standing, Turns};
+ghost use Rattle.desk_http.specs.Reply.{allow_of, fixed_reply};
+ghost use Rattle.desk_http.specs.Taken.{IsTakenFrom, message_of};
+ghost use Rattle.desk_http.specs.declared.method.Method.TheVariants as method;
+ghost use Rattle.desk_scratch.specs.Questions.{is_question_in_range};
+
+use crate::answerer::Answerer;
+use crate::wording::{
+    tell_accepted, tell_answer, tell_bad_declaration, tell_bad_edit, tell_no_ask, tell_refused,
+};
+use desk_clerk::{Clerk, SubmitFault};
+use desk_declare::read_declaration;
+use desk_edge::Keeper;
+use desk_edits::read_edit;
+use desk_http::{Ask, Fixed, Request, Routes, route};
+use desk_model::Edit;
+use desk_scratch::Question;
+use desk_text::Bytes;
+use std::alloc::Global;
+use std::sync::Wait;
+
+/// A connection that has a clerk to itself: each request is answered at the clerk's whole list of that moment.
+#[derive(Drop)]
+pub(crate) struct Connection<'a, K: Keeper> {
+    /// The routes of requests.
+    pub(crate) routes: &'a Routes,
+    /// The clerk.
+    pub(crate) clerk: &'a mut Clerk<K>,
+    /// The number of the longest list that the connection has met.
+    pub(crate) met: u64,
+}
+
+impl<K: Keeper> Answerer for Connection<'_, K> {
+    ghost use Rattle.std.specs.Prelude.{◌≡◌, ℕ, List};
+    ghost use Rattle.desk_clerk.specs.Clerk.{keeper_of, whole};
+    ghost use Rattle.desk_front.specs.Turn.{Turns};
+    ghost use Rattle.desk_http.specs.Rest.{Message};
+
+    ghost replies = { λ old request said new. (new.clerk.ghost_name ≡ old.clerk.ghost_name)
+        × (K.Tells (keeper_of new.clerk.now) → K.Tells (keeper_of old.clerk.now))
+        × Turns (record { whole = whole old.clerk.now; met = old.met; faults = K.faults (keeper_of old.clerk.now) }) request said
+        (record { whole = whole new.clerk.now; met = new.met; faults = K.faults (keeper_of new.clerk.now) }) };
+
+    fn reply<R: Wait + Sync>(
+        &mut self,
+        rt: &R,
+        alloc: Global,
+        buffer: &[u8],
+        request: &Request,
+        out: &mut Bytes,
+    ) -> Result<(), Fixed> {
+        let body = request.body.of(buffer);
+        let close = request.close;
+        match route(alloc, self.routes, buffer, request) {
+            Ok(Ask::Question(question)) => {
+                answer(alloc, self.clerk, &mut self.met, &question, close, out)
+            }
+            Ok(Ask::Edit) => { enter_json(rt, alloc, self.clerk, &mut self.met, body, close, out) }
+            Ok(Ask::Declaration) => {
+                enter_csv(rt, alloc, self.clerk, &mut self.met, body, close, out)
+            }
+            Err(fault) => tell_no_ask(alloc, fault, close, out),
+        }
+    }
+}
+
+/// Answers a question at the clerk's whole list, which is met with that.
+fn answer<K: Keeper>(
+    alloc: Global,
+    clerk: &Clerk<K>,
+    met: &mut u64,
+    question: &Question,
+    close: bool,
+    out: &mut Bytes,
+) -> Result<(), Fixed>
+    requires { is_question_in_range question.now ≡ true }
+    ensures ok { OnOk result ((said : List ℕ) × (out.new ≡ out.old ++ said)
+        × Says (record { whole = whole clerk.now; met = met.old; faults = K.faults (keeper_of clerk.now) }) (a_question question.now) close said
+        (record { whole = whole clerk.now; met = met.new; faults = K.faults (keeper_of clerk.now) })) }
+    ensures fixed { IfErr result (λ fixed.
+        Says (record { whole = whole clerk.now; met = met.old; faults = K.faults (keeper_of clerk.now) }) (a_question question.now) close (fixed_reply fixed close)
+        (record { whole = whole clerk.now; met = met.new; faults = K.faults (keeper_of clerk.now) })) }
+    ensures allow { IfErr result (λ fixed. allow_of fixed ≢ Some method.Other) }
+    ensures err { OnErr result (out.new ≡ out.old) }
+{
+    match tell_answer(alloc, clerk.tables(), question, close, out) {
+        Ok(()) => {
+            *met = clerk.number();
+            Ok(())
+        }
+        Err(fixed) => Err(fixed),
+    }
+}
+
+/// Enters the edit that a body in JSON is.
+fn enter_json<R: Wait + Sync, K: Keeper>(
+    rt: &R,
+    alloc: Global,
+    clerk: &mut Clerk<K>,
+    met: &mut u64,
+    body: &[u8],
+    close: bool,
+    out: &mut Bytes,
+) -> Result<(), Fixed>
+    ensures ok { OnOk result ((said : List ℕ) × (out.new ≡ out.old ++ said)
+        × Says (record { whole = whole clerk.old; met = met.old; faults = K.faults (keeper_of clerk.old) }) (of_json (edit_of body.now)) close said
+        (record { whole = whole clerk.new; met = met.new; faults = K.faults (keeper_of clerk.new) })) }
+    ensures fixed { IfErr result (λ fixed.
+        Says (record { whole = whole clerk.old; met = met.old; faults = K.faults (keeper_of clerk.old) }) (of_json (edit_of body.now)) close (fixed_reply fixed close)
+        (record { whole = whole clerk.new; met = met.new; faults = K.faults (keeper_of clerk.new) })) }
+    ensures allow { IfErr result (λ fixed. allow_of fixed ≢ Some method.Other) }
+    ensures err { OnErr result (out.new ≡ out.old) }
+    ensures told { K.Tells (keeper_of clerk.new) → K.Tells (keeper_of clerk.old) }
+{
+    match read_edit(alloc, body) {
+        Ok(edit) => enter(rt, alloc, clerk, met, edit, close, out),
+        Err(fault) => tell_bad_edit(alloc, &fault, close, out),
+    }
+}
+
+/// Enters the declaration that a body in CSV is.
+fn enter_csv<R: Wait + Sync, K: Keeper>(
+    rt: &R,
+    alloc: Global,
+    clerk: &mut Clerk<K>,
+    met: &mut u64,
+    body: &[u8],
+    close: bool,
+    out: &mut Bytes,
+) -> Result<(), Fixed>
+    ensures ok { OnOk result ((said : List ℕ) × (out.new ≡ out.old ++ said)
+        × Says (record { whole = whole clerk.old; met = met.old; faults = K.faults (keeper_of clerk.old) }) (of_csv (declaration_of body.now)) close said
+        (record { whole = whole clerk.new; met = met.new; faults = K.faults (keeper_of clerk.new) })) }
+    ensures fixed { IfErr result (λ fixed.
+        Says (record { whole = whole clerk.old; met = met.old; faults = K.faults (keeper_of clerk.old) }) (of_csv (declaration_of body.now)) close (fixed_reply fixed close)
+        (record { whole = whole clerk.new; met = met.new; faults = K.faults (keeper_of clerk.new) })) }
+    ensures allow { IfErr result (λ fixed. allow_of fixed ≢ Some method.Other) }
+    ensures err { OnErr result (out.new ≡ out.old) }
+    ensures told { K.Tells (keeper_of clerk.new) → K.Tells (keeper_of clerk.old) }
+{
+    match read_declaration(alloc, body) {
+        Ok(edit) => enter(rt, alloc, clerk, met, edit, close, out),
+        Err(fault) => tell_bad_declaration(alloc, &fault, close, out),
+    }
+}
+
+/// Enters an edit, and tells how it was judged at the clerk's whole list, which is met with that.
+fn enter<R: Wait + Sync, K: Keeper>(
+    rt: &R,
+    alloc: Global,
+    clerk: &mut Clerk<K>,
+    met: &mut u64,
+    edit: Edit,
+    close: bool,
+    out: &mut Bytes,
+) -> Result<(), Fixed>
+    ensures ok { OnOk result ((said : List ℕ) × (out.new ≡ out.old ++ said)
+        × Says (record { whole = whole clerk.old; met = met.old; faults = K.faults (keeper_of clerk.old) }) (an_edit edit) close said
+        (record { whole = whole clerk.new; met = met.new; faults = K.faults (keeper_of clerk.new) })) }
+    ensures fixed { IfErr result (λ fixed.
+        Says (record { whole = whole clerk.old; met = met.old; faults = K.faults (keeper_of clerk.old) }) (an_edit edit) close (fixed_reply fixed close)
+        (record { whole = whole clerk.new; met = met.new; faults = K.faults (keeper_of clerk.new) })) }
+    ensures allow { IfErr result (λ fixed. allow_of fixed ≢ Some method.Other) }
+    ensures err { OnErr result (out.new ≡ out.old) }
+    ensures told { K.Tells (keeper_of clerk.new) → K.Tells (keeper_of clerk.old) }
+{
+    edit.in_form();
+    match clerk.submit(rt, alloc, edit) {
+        Ok(accepted) => match tell_accepted(alloc, &accepted, *met, close, out) {
+            Ok(()) => {
+                *met = accepted.whole;
+                Ok(())
+            }
+            Err(fixed) => Err(fixed),
+        },
+        Err(SubmitFault::Rule { fault, whole }) => {
+            match tell_refused(alloc, &fault, whole, *met, close, out) {
+                Ok(()) => {
+                    *met = whole;
+                    Ok(())
+                }
+                Err(fixed) => Err(fixed),
+            }
+        }
+        Err(SubmitFault::KeeperFault) => Err(Fixed::StoreFault),
+        Err(SubmitFault::OutOfMemory) => Err(Fixed::Memory),
+    }
+}

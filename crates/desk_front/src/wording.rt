@@ -1,0 +1,201 @@
+ghost use Rattle.std.specs.Prelude.{◌≡◌, ◌≢◌, ◌++◌, ◌⊎◌, true, Some, IsTrue, Err, IfErr, OnErr, OnOk};
+ghost use Rattle.desk_front.specs.Replies.{accepted_body, answer_at, bad_declaration_body, bad_edit_body, bad_query_body, bytes_with, fixed, no_answer_body, no_ask, refused_body, with_body};
+ghost use Rattle.desk_history.specs.Sound.{Sound};
+ghost use Rattle.desk_http.specs.Reply.{allow_of, is_reply_status};
+ghost use Rattle.desk_http.specs.declared.fixed.Fixed.TheVariants as refusal;
+ghost use Rattle.desk_http.specs.declared.http_fault.HttpFault.TheVariants as cause;
+ghost use Rattle.desk_http.specs.declared.method.Method.{Method};
+ghost use Rattle.desk_http.specs.declared.method.Method.TheVariants as method;
+ghost use Rattle.desk_declare.specs.declared.declare_fault.DeclareFault.TheVariants as undeclared;
+ghost use Rattle.desk_edits.specs.declared.json_fault.JsonFault.TheVariants as unread;
+ghost use Rattle.desk_scratch.specs.Questions.{is_question_in_range};
+
+use desk_clerk::Accepted;
+use desk_declare::DeclareFault;
+use desk_edits::JsonFault;
+use desk_http::{Fixed, HttpFault, QueryKey, write_reply};
+use desk_model::RuleFault;
+use desk_scratch::{AskFault, Question, answer_plain};
+use desk_tables::Tables;
+use desk_text::Bytes;
+use http::StatusCode;
+use std::alloc::Global;
+
+/// Appends a reply with a body. Where there is no memory for it, that is the reply.
+fn tell(
+    alloc: Global,
+    status: StatusCode,
+    body: &[u8],
+    close: bool,
+    out: &mut Bytes,
+) -> Result<(), Fixed>
+    requires status { IsTrue (is_reply_status status) }
+    requires allows_none { status ≢ 405 }
+    ensures ok { OnOk result (out.new ≡ out.old ++ bytes_with close (with_body status body.now)) }
+    ensures memory { IfErr result (λ told. told ≡ refusal.Memory) }
+    ensures err { OnErr result (out.new ≡ out.old) }
+{
+    match write_reply(alloc, status, body, None, close, out) {
+        Ok(()) => Ok(()),
+        Err(_) => Err(Fixed::Memory),
+    }
+}
+
+/// Appends the answer to a question, or that there is none.
+pub(crate) fn tell_answer(
+    alloc: Global,
+    tables: &Tables,
+    question: &Question,
+    close: bool,
+    out: &mut Bytes,
+) -> Result<(), Fixed>
+    requires sound { Sound tables.now.lists }
+    requires in_range { is_question_in_range question.now ≡ true }
+    ensures ok { OnOk result (out.new ≡ out.old ++ bytes_with close (answer_at tables.now.lists question.now)) }
+    ensures memory { IfErr result (λ told. told ≡ refusal.Memory) }
+    ensures err { OnErr result (out.new ≡ out.old) }
+{
+    let mut body = Bytes::start(alloc);
+    match answer_plain(alloc, tables, question, &mut body) {
+        Ok(()) => tell(alloc, StatusCode::OK, body.as_slice(), close, out),
+        Err(AskFault::OutOfMemory) => Err(Fixed::Memory),
+        Err(fault) => tell_no_answer(alloc, tables, &fault, close, out),
+    }
+}
+
+/// Appends why a question has no answer.
+#[tactic(auto, unfolding(crate::specs::Replies::no_answer_body, desk_scratch::specs::SharedLines::version_line))]
+fn tell_no_answer(
+    alloc: Global,
+    tables: &Tables,
+    fault: &AskFault,
+    close: bool,
+    out: &mut Bytes,
+) -> Result<(), Fixed>
+    ensures ok { OnOk result (out.new ≡ out.old ++ bytes_with close (with_body 404 (no_answer_body tables.now.lists fault.now))) }
+    ensures memory { IfErr result (λ told. told ≡ refusal.Memory) }
+    ensures err { OnErr result (out.new ≡ out.old) }
+{
+    let number = tables.number();
+    let Ok(body) = format!(in alloc; "version {number}\n{fault}\n") else {
+        return Err(Fixed::Memory);
+    };
+    tell(alloc, StatusCode::NOT_FOUND, body.as_bytes(), close, out)
+}
+
+/// Appends that an edit is accepted, to one who had met the number before.
+#[tactic(auto, unfolding(crate::specs::Replies::accepted_body))]
+pub(crate) fn tell_accepted(
+    alloc: Global,
+    accepted: &Accepted,
+    met: u64,
+    close: bool,
+    out: &mut Bytes,
+) -> Result<(), Fixed>
+    ensures ok { OnOk result (out.new ≡ out.old ++ bytes_with close (with_body 200 (accepted_body accepted.now.whole met accepted.now.number))) }
+    ensures memory { IfErr result (λ told. told ≡ refusal.Memory) }
+    ensures err { OnErr result (out.new ≡ out.old) }
+{
+    let Accepted { number, whole } = *accepted;
+    let Ok(body) = format!(in alloc; "version {whole}\nseen {met}\naccepted {number}\n") else {
+        return Err(Fixed::Memory);
+    };
+    tell(alloc, StatusCode::OK, body.as_bytes(), close, out)
+}
+
+/// Appends that a rule refuses an edit, at a list of this number, to one who had met the other before.
+#[tactic(auto, unfolding(crate::specs::Replies::refused_body))]
+pub(crate) fn tell_refused(
+    alloc: Global,
+    fault: &RuleFault,
+    whole: u64,
+    met: u64,
+    close: bool,
+    out: &mut Bytes,
+) -> Result<(), Fixed>
+    ensures ok { OnOk result (out.new ≡ out.old ++ bytes_with close (with_body 409 (refused_body whole met fault.now))) }
+    ensures memory { IfErr result (λ told. told ≡ refusal.Memory) }
+    ensures err { OnErr result (out.new ≡ out.old) }
+{
+    let Ok(body) = format!(in alloc; "version {whole}\nseen {met}\nrefused {fault}\n") else {
+        return Err(Fixed::Memory);
+    };
+    tell(alloc, StatusCode::CONFLICT, body.as_bytes(), close, out)
+}
+
+/// Appends why a body in JSON is no edit.
+#[tactic(auto, unfolding(crate::specs::Replies::bad_edit_body))]
+pub(crate) fn tell_bad_edit(
+    alloc: Global,
+    fault: &JsonFault,
+    close: bool,
+    out: &mut Bytes,
+) -> Result<(), Fixed>
+    ensures ok { OnOk result ((fault.now ≢ unread.OutOfMemory) × (out.new ≡ out.old ++ bytes_with close (with_body 400 (bad_edit_body fault.now)))) }
+    ensures memory { IfErr result (λ told. told ≡ refusal.Memory) }
+    ensures err { OnErr result (out.new ≡ out.old) }
+{
+    if let JsonFault::OutOfMemory = fault {
+        return Err(Fixed::Memory);
+    }
+    let Ok(body) = format!(in alloc; "bad-edit {fault}\n") else {
+        return Err(Fixed::Memory);
+    };
+    tell(alloc, StatusCode::BAD_REQUEST, body.as_bytes(), close, out)
+}
+
+/// Appends why a body in CSV is no declaration.
+#[tactic(auto, unfolding(crate::specs::Replies::bad_declaration_body))]
+pub(crate) fn tell_bad_declaration(
+    alloc: Global,
+    fault: &DeclareFault,
+    close: bool,
+    out: &mut Bytes,
+) -> Result<(), Fixed>
+    ensures ok { OnOk result ((fault.now ≢ undeclared.OutOfMemory) × (out.new ≡ out.old ++ bytes_with close (with_body 400 (bad_declaration_body fault.now)))) }
+    ensures memory { IfErr result (λ told. told ≡ refusal.Memory) }
+    ensures err { OnErr result (out.new ≡ out.old) }
+{
+    if let DeclareFault::OutOfMemory = fault {
+        return Err(Fixed::Memory);
+    }
+    let Ok(body) = format!(in alloc; "bad-declaration {fault}\n") else {
+        return Err(Fixed::Memory);
+    };
+    tell(alloc, StatusCode::BAD_REQUEST, body.as_bytes(), close, out)
+}
+
+/// Appends why a request asks nothing, where that takes a body of its own.
+pub(crate) fn tell_no_ask(
+    alloc: Global,
+    fault: HttpFault,
+    close: bool,
+    out: &mut Bytes,
+) -> Result<(), Fixed>
+    requires { (allow : Method) → fault ≡ cause.WrongMethod allow → allow ≢ method.Other }
+    ensures ok { OnOk result ((fault ≢ cause.OutOfMemory) × (out.new ≡ out.old ++ bytes_with close (no_ask fault))) }
+    ensures fixed { IfErr result (λ told. (told ≡ refusal.Memory) ⊎ ((fault ≢ cause.OutOfMemory) × (no_ask fault ≡ fixed told))) }
+    ensures allow { IfErr result (λ told. allow_of told ≢ Some method.Other) }
+    ensures err { OnErr result (out.new ≡ out.old) }
+{
+    match fault {
+        HttpFault::NoRoute => Err(Fixed::NoRoute),
+        HttpFault::WrongMethod { allow } => Err(Fixed::WrongMethod { allow }),
+        HttpFault::BadQuery { key } => tell_bad_query(alloc, key, close, out),
+        HttpFault::OutOfMemory => Err(Fixed::Memory),
+    }
+}
+
+/// Appends which key of a query fails.
+#[tactic(auto, unfolding(crate::specs::Replies::bad_query_body))]
+fn tell_bad_query(alloc: Global, key: QueryKey, close: bool, out: &mut Bytes) -> Result<(), Fixed>
+    ensures ok { OnOk result (out.new ≡ out.old ++ bytes_with close (with_body 400 (bad_query_body (cause.BadQuery key)))) }
+    ensures memory { IfErr result (λ told. told ≡ refusal.Memory) }
+    ensures err { OnErr result (out.new ≡ out.old) }
+{
+    let fault = HttpFault::BadQuery { key };
+    let Ok(body) = format!(in alloc; "{fault}\n") else {
+        return Err(Fixed::Memory);
+    };
+    tell(alloc, StatusCode::BAD_REQUEST, body.as_bytes(), close, out)
+}
