@@ -1,2 +1,4 @@
+mod Blank
 mod Input
+mod Stores
 mod Tables

@@ -1,15 +1,17 @@
 -- What the program answers: how it ends, and all that it writes.
-use Rattle.std.specs.Prelude.{◌≡◌, ℕ, ◌⊎◌, if◌then◌else◌, ◌==◌, List, ◌++◌, codes, Option, None, Some, Result, Ok, Err}
+use Rattle.std.specs.Prelude.{◌≡◌, ℕ, ◌⊎◌, if◌then◌else◌, ◌==◌, List, ◌++◌, codes, decimal, Option, None, Some, Result, Ok, Err}
 use Rattle.std.specs.Io.KnownBytes.{Appends, Keeps}
 use Rattle.desk_edge.specs.Transfer.{AppendsBeginning, AppendsPart}
 use Rattle.desk_declare.specs.Faults.{declare_fault_words}
 use Rattle.desk_model.specs.Refusals.{refusal_words}
+use Rattle.desk_clerk.specs.declared.open_fault.OpenFault.{OpenFault}
+use Rattle.desk_clerk.specs.declared.open_fault.OpenFault.TheVariants as opening
 use Rattle.desk_top.specs.Check.{checked}
 use Rattle.desk_top.specs.declared.command.Check.{Check}
 use Rattle.desk_top.specs.declared.refusal.Refusal.{Refusal}
 use Rattle.desk_top.specs.declared.refusal.Refusal.TheVariants.{InputTooLong, BadDeclaration, Rule}
 use Rattle.desk_top.specs.declared.status.Status.{Status}
-use Rattle.desk_top.specs.declared.status.Status.TheVariants.{Done, BadWords, ConsoleFault, Refused, OutOfMemory}
+use Rattle.desk_top.specs.declared.status.Status.TheVariants.{Done, BadWords, ConsoleFault, StoreFault, Damaged, Refused, OutOfMemory}
 use Rattle.desk_top.specs.declared.words.WordsFault.{WordsFault}
 use Rattle.desk_top.specs.declared.words.WordsFault.TheVariants as unread
 
@@ -18,6 +20,8 @@ abbrev pub status_code : Status → ℕ
 status_code Done = 0
 status_code BadWords = 2
 status_code ConsoleFault = 3
+status_code StoreFault = 4
+status_code Damaged = 5
 status_code Refused = 6
 status_code OutOfMemory = 8
 
@@ -48,6 +52,20 @@ answer_to_other_words = record { status = BadWords; text = codes "desk: words\n"
 -- the answer where there was no memory
 abbrev pub answer_without_memory : Answer
 answer_without_memory = record { status = OutOfMemory; text = codes "desk: memory\n" }
+
+-- the answer where the store refused a call before the first request was read
+abbrev pub answer_to_store_fault : Answer
+answer_to_store_fault = record { status = StoreFault; text = codes "desk: store\n" }
+
+-- the answer where the store's records aren't those of sound tables: `desk: damaged KIND CODE`
+abbrev pub answer_to_damage : ℕ → List ℕ → Answer
+answer_to_damage kind code = record { status = Damaged; text = codes "desk: damaged " ++ decimal kind ++ codes " " ++ code ++ codes "\n" }
+
+-- the answer where no desk was opened
+abbrev pub answer_of_opening : OpenFault → Answer
+answer_of_opening opening.KeeperFault = answer_to_store_fault
+answer_of_opening (opening.Damaged kind code) = answer_to_damage kind code
+answer_of_opening opening.OutOfMemory = answer_without_memory
 
 -- the answer to words that weren't read: words that are no text are no command
 abbrev pub answer_to_unread_words : WordsFault → Answer

@@ -109,7 +109,7 @@ fn answer_refused<L: Link>(alloc: Global, refusal: &Refusal, console: &mut L) ->
     ensures never_falls { L.faults console.old ≤ L.faults console.new }
 {
     match refusal.line(alloc) {
-        Ok(line) => tell(console, Status::Refused, line.as_str()),
+        Ok(line) => tell(console, Status::Refused, line.as_bytes()),
         Err(_) => answer_no_memory(console),
     }
 }

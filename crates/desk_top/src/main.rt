@@ -5,7 +5,17 @@ mod check;
 mod command;
 mod refusal;
 mod run;
+mod session;
+#[cfg(test)]
+mod session_steps;
+#[cfg(test)]
+mod session_tests;
 mod status;
+#[cfg(test)]
+mod store_tests;
+#[cfg(test)]
+mod stream_tests;
+mod sure_keeper;
 mod tell;
 #[cfg(test)]
 mod tests;
@@ -13,10 +23,12 @@ mod words;
 
 use crate::run::launch;
 use crate::words::words;
-use desk_edge::StdLink;
+use desk_edge::{MapShelf, StdLink};
 use std::process::ExitCode;
 
 fn main(rt: HostRuntime) -> ExitCode {
+    let alloc = rt.alloc();
     let mut console = StdLink::new(rt.stdin(), rt.stdout());
-    ExitCode::from(launch(&rt, rt.alloc(), words(&rt), &mut console))
+    let mut shelf = MapShelf::new(alloc, Vec::new(alloc), Vec::new(alloc));
+    ExitCode::from(launch(&rt, alloc, words(&rt), &mut console, &mut shelf))
 }

@@ -16,7 +16,7 @@ pub fn answer_other_words<L: Link>(console: &mut L) -> Status
     ensures input_stays { L.unread console.new ≡ L.unread console.old }
     ensures never_falls { L.faults console.old ≤ L.faults console.new }
 {
-    tell(console, Status::BadWords, "desk: words\n")
+    tell(console, Status::BadWords, b"desk: words\n")
 }
 
 /// Writes the answer to words that weren't read, and reads nothing.
@@ -41,12 +41,12 @@ pub fn answer_no_memory<L: Link>(console: &mut L) -> Status
     ensures input_stays { L.unread console.new ≡ L.unread console.old }
     ensures never_falls { L.faults console.old ≤ L.faults console.new }
 {
-    tell(console, Status::OutOfMemory, "desk: memory\n")
+    tell(console, Status::OutOfMemory, b"desk: memory\n")
 }
 
 /// Writes the line that goes with a status, as far as the console takes it, and hands on the
 /// status.
-pub fn tell<L: Link>(console: &mut L, status: Status, line: &str) -> Status
+pub fn tell<L: Link>(console: &mut L, status: Status, line: &[u8]) -> Status
     ensures status { result ≡ status }
     ensures steady { (Rose (L.faults console.old) (L.faults console.new) → ⊥) → Appends (L.written console.old) (L.written console.new) line.now }
     ensures beginning { AppendsBeginning (L.written console.old) (L.written console.new) line.now }
@@ -54,6 +54,6 @@ pub fn tell<L: Link>(console: &mut L, status: Status, line: &str) -> Status
     ensures never_falls { L.faults console.old ≤ L.faults console.new }
 {
     // Whoever reads the line may be gone: the status tells as much.
-    let _ = write_all(console, line.as_bytes());
+    let _ = write_all(console, line);
     status
 }

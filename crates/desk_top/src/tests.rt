@@ -2,7 +2,7 @@ ghost use Rattle.std.specs.Prelude.{◌≤◌};
 
 use crate::run::{launch, run};
 use crate::words::{WordsFault, words};
-use desk_edge::MemoryLink;
+use desk_edge::{MapShelf, MemoryLink};
 use desk_text::Bytes;
 use std::alloc::Global;
 use std::env::{Env, FillError};
@@ -40,7 +40,8 @@ fn outcome_over<R: Wait + Sync + Threads>(
     for word in words {
         list.push(word.to_string(alloc)?)?;
     }
-    let status = run(rt, alloc, &list, &mut console);
+    let mut shelf = MapShelf::new(alloc, Vec::new(alloc), Vec::new(alloc));
+    let status = run(rt, alloc, &list, &mut console, &mut shelf);
     Ok((status, console.written().to_vec(alloc)?))
 }
 
@@ -333,7 +334,8 @@ fn words_that_are_no_text_are_no_command_line(rt: HostRuntime) -> Result<(), Fai
         (Ok(Vec::new(alloc)), 2, "desk: words\n"),
     ] {
         let mut console = MemoryLink::new(alloc, Bytes::start(alloc), 1, 64, Vec::new(alloc))?;
-        let ended = launch(&rt, alloc, words, &mut console);
+        let mut shelf = MapShelf::new(alloc, Vec::new(alloc), Vec::new(alloc));
+        let ended = launch(&rt, alloc, words, &mut console, &mut shelf);
         assert_eq!(rt; ended, status);
         assert_eq!(rt; console.written(), line.as_bytes());
     }

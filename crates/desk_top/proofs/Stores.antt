@@ -1,0 +1,143 @@
+-- What is said of a keeper that was opened from a shelf is said of the shelf's store.
+use Rattle.std.proofs.Common.{◌≡◌, ◌∙◌, ap, sym, ◌⊎◌, ℕ, ◌<◌, List, Option, None, Some, inl, inr, refl, arith}
+use Rattle.std.specs.Io.KnownBytes.{Keeps}
+use Rattle.desk_clerk.specs.Opening.{AreRead, IsDamagedAt, IsEmpty, IsOpenedAs}
+use Rattle.desk_clerk.specs.declared.open_fault.OpenFault.{OpenFault}
+use Rattle.desk_clerk.specs.declared.open_fault.OpenFault.TheVariants as opening
+use Rattle.desk_edge.specs.Content.{Content, IsSame}
+use Rattle.desk_edge.specs.Faults.{Rose}
+use Rattle.desk_edge.specs.declared.record.Record.{Record}
+use Rattle.desk_front.specs.declared.served.Served.{Served}
+use Rattle.desk_history.specs.Sound.{Sound}
+use Rattle.desk_model.specs.Lists.{Lists}
+use Rattle.desk_model.specs.Start.{start}
+use Rattle.desk_records.specs.Records.{tables_content}
+use Rattle.desk_top.specs.Answer.{Answer, Answers, answer_of_opening, answer_without_memory, status_code}
+use Rattle.desk_top.specs.Session.{Console, EndsSession, IsCause, WasServed, status_of}
+use Rattle.desk_top.specs.declared.status.Status.{Status}
+use Rattle.desk_top.specs.declared.status.Status.TheVariants as status
+
+pub same_trans : (a b c : Content) → IsSame a b → IsSame b c → IsSame a c
+same_trans a b c first then key = then key ∙ first key
+
+-- what one content is opened as, so is another in which the same is kept
+pub opened_as : (a b : Content) (t : Lists) → IsSame a b → IsOpenedAs b t → IsOpenedAs a t
+opened_as a b t same (inl (none, is)) = inl ((λ key. sym (same key) ∙ none key), is)
+opened_as a b t same (inr (some, keeps)) = inr ((λ none. some (λ key. same key ∙ none key)), λ key. sym (same key) ∙ keeps key)
+
+pub opened_so : (a b : Content) (t : Lists) → IsSame a b → IsOpenedAs a t → IsOpenedAs b t
+opened_so a b t same (inl (none, is)) = inl ((λ key. same key ∙ none key), is)
+opened_so a b t same (inr (some, keeps)) = inr ((λ none. some (λ key. sym (same key) ∙ none key)), λ key. same key ∙ keeps key)
+
+-- records that were read of one content were read of another in which the same is kept
+pub read_as : (a b : Content) (records : List Record) → IsSame a b → AreRead b records → AreRead a records
+read_as a b records same read = record {
+  kept = λ key some. sym (same key) ∙ read.kept key some;
+  all = λ few key. sym (same key) ∙ read.all few key;
+}
+
+pub damaged_as : (Told Tells : Type 0) (a b : Content) (kind : ℕ) (code : List ℕ) → (Told → Tells) → (Told → IsSame a b)
+    → IsDamagedAt Tells b kind code → IsDamagedAt Told a kind code
+damaged_as Told Tells a b kind code tells same damaged = record {
+  records = damaged.records;
+  by_key = damaged.by_key;
+  within = damaged.within;
+  read = λ told. read_as a b damaged.records (same told) (damaged.read (tells told));
+  damage = damaged.damage;
+}
+
+pub cause_as : (Told Tells : Type 0) (a b : Content) (faults : ℕ) (answer : Answer) → (Told → Tells) → (Told → IsSame a b)
+    → IsCause Tells b faults answer → IsCause Told a faults answer
+cause_as Told Tells a b faults answer tells same (inl failed) = inl failed
+cause_as Told Tells a b faults answer tells same (inr (inl (kind, code, is, damaged, none))) =
+    inr (inl (kind, code, is, damaged_as Told Tells a b kind code tells same damaged, λ told t sound opened. none (tells told) t sound (opened_so a b t (same told) opened)))
+cause_as Told Tells a b faults answer tells same (inr (inr memory)) = inr (inr memory)
+
+-- a session over a keeper is one over the store that the keeper was opened from and given back to
+pub ends_as : (Told Tells : Type 0) (a b c d : Content) (faults ended : ℕ) (console : Console) (rose : Type 0)
+    → (Told → Tells) → (Told → IsSame a b) → (Told → IsSame c d)
+    → EndsSession Tells b c faults ended console rose → EndsSession Told a d faults ended console rose
+ends_as Told Tells a b c d faults ended console rose tells same given (inl (first, opened, served, is, was)) =
+    inl (
+      first,
+      (λ told. opened_as a b first (same told) (opened (tells told))),
+      served,
+      is,
+      record {
+        sound = was.sound;
+        last = was.last;
+        bytes = was.bytes;
+        read = was.read;
+        serves = was.serves;
+        closed = λ told. same_trans (tables_content was.last) c d (was.closed (tells told)) (given told);
+      },
+    )
+ends_as Told Tells a b c d faults ended console rose tells same given (inr was) = inr record {
+  answer = was.answer;
+  cause = cause_as Told Tells a b faults was.answer tells same was.cause;
+  status = was.status;
+  told = was.told;
+  unread = was.unread;
+  closed = λ told. kept_as told (was.closed (tells told));
+}
+  where
+    kept_as : (told : Told) → IsSame b c ⊎ (IsEmpty b × IsSame (tables_content start) c)
+        → IsSame a d ⊎ (IsEmpty a × IsSame (tables_content start) d)
+    kept_as told (inl stays) = inl (same_trans a c d (same_trans a b c (same told) stays) (given told))
+    kept_as told (inr (none, begun)) = inr ((λ key. sym (same told key) ∙ none key), same_trans (tables_content start) c d begun (given told))
+
+-- an input that is what it was is kept
+pub keeps_of : (old new : Option (List ℕ)) → new ≡ old → Keeps old new
+keeps_of None new is = tt
+keeps_of (Some bytes) new is = rw is refl
+
+-- a count that rose from nothing counts something
+pub rose_from_none : (before after : ℕ) → before ≡ 0 → Rose before after → 0 < after
+rose_from_none before after none rose = search (arith, none, rose)
+
+-- the start tables that an empty store was opened as are kept, or else the store is as it was
+pub begun_as : (kept keeps : Content) (first : Lists) → IsOpenedAs kept first → IsSame (tables_content first) keeps
+    → IsSame kept keeps ⊎ (IsEmpty kept × IsSame (tables_content start) keeps)
+begun_as kept keeps first (inl (none, is)) same = inr (none, rw is at same)
+begun_as kept keeps first (inr (some, was)) same = inl (λ key. same key ∙ sym (was key))
+
+-- a clerk over the opened store served the stream, or there was no memory to serve it
+pub ends_opened : (Tells : Type 0) (kept keeps : Content) (faults : ℕ) (first : Lists) (ended : Status) (console : Console) (rose : Type 0)
+    → (Tells → IsOpenedAs kept first)
+    → ((served : Served) × (ended ≡ status_of served) × WasServed Tells keeps faults first served console)
+    ⊎ ((ended ≡ status.OutOfMemory) × (Tells → IsSame (tables_content first) keeps) × Keeps console.unread console.left
+    × Answers answer_without_memory (status_code ended) console.before console.after rose)
+    → EndsSession Tells kept keeps faults (status_code ended) console rose
+ends_opened Tells kept keeps faults first ended console rose opened (inl (served, is, was)) = inl (first, opened, served, ap status_code is, was)
+ends_opened Tells kept keeps faults first ended console rose opened (inr (is, same, unread, told)) = inr record {
+  answer = answer_without_memory;
+  cause = inr (inr refl);
+  status = inr (ap status_code is);
+  told = told;
+  unread = unread;
+  closed = λ tells. begun_as kept keeps first (opened tells) (same tells);
+}
+
+-- why a store wasn't opened is why its session didn't begin
+pub cause_of : (Tells : Type 0) (kept : Content) (faults : ℕ) (fault : OpenFault) → (fault ≡ opening.KeeperFault → 0 < faults)
+    → ((kind : ℕ) (code : List ℕ) → fault ≡ opening.Damaged kind code → IsDamagedAt Tells kept kind code)
+    → ((kind : ℕ) (code : List ℕ) → fault ≡ opening.Damaged kind code → Tells → (t : Lists) → Sound t → IsOpenedAs kept t → ⊥)
+    → IsCause Tells kept faults (answer_of_opening fault)
+cause_of Tells kept faults opening.KeeperFault failed damaged unsound = inl (refl, failed refl)
+cause_of Tells kept faults (opening.Damaged kind code) failed damaged unsound =
+    inr (inl (kind, code, refl, damaged kind code refl, unsound kind code refl))
+cause_of Tells kept faults opening.OutOfMemory failed damaged unsound = inr (inr refl)
+
+-- a session that didn't begin ends with the line that tells why
+pub ends_unbegun : (Tells : Type 0) (kept keeps : Content) (faults ended : ℕ) (answer : Answer) (console : Console) (rose : Type 0)
+    → IsCause Tells kept faults answer → (ended ≡ status_code answer.status) ⊎ (ended ≡ status_code status.OutOfMemory)
+    → Answers answer ended console.before console.after rose → Keeps console.unread console.left → (Tells → IsSame kept keeps)
+    → EndsSession Tells kept keeps faults ended console rose
+ends_unbegun Tells kept keeps faults ended answer console rose cause is told unread same = inr record {
+  answer = answer;
+  cause = cause;
+  status = is;
+  told = told;
+  unread = unread;
+  closed = λ tells. inl (same tells);
+}
