@@ -10,8 +10,6 @@ mod opening;
 mod reading;
 mod stored;
 mod submit_fault;
-#[cfg(test)]
-mod tests;
 
 pub use accepted::Accepted;
 pub use clerk::Clerk;

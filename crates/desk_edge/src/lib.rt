@@ -16,10 +16,6 @@ mod record;
 mod records;
 mod shelf;
 mod std_link;
-#[cfg(test)]
-mod store_tests;
-#[cfg(test)]
-mod tests;
 mod transfer;
 
 pub use change::Change;

@@ -14,12 +14,8 @@ mod items;
 pub mod laws;
 mod material;
 mod row_fault;
-#[cfg(test)]
-mod row_tests;
 mod row_text;
 mod rows;
-#[cfg(test)]
-mod tests;
 mod text_fault;
 mod write_row;
 

@@ -14,6 +14,3 @@ mod wording;
 
 pub use alone::serve_alone;
 pub use served::Served;
-
-#[cfg(test)]
-mod tests;

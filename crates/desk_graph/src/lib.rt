@@ -18,8 +18,6 @@ mod planned_bill;
 mod planning;
 mod steps;
 mod sweep;
-#[cfg(test)]
-mod tests;
 mod users;
 
 pub use bill::Bill;

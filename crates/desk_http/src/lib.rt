@@ -37,8 +37,3 @@ pub use routing::route;
 pub use span::Span;
 pub use take::take_request;
 pub use taken::Taken;
-
-#[cfg(test)]
-mod route_tests;
-#[cfg(test)]
-mod tests;

@@ -1,8 +1,6 @@
 //! The desk's model: the rows of its tables, edits and refusals, and in `specs/` what each question and edit means.
 #![tactic(auto)]
 
-#[cfg(test)]
-mod copy_tests;
 mod decl_error;
 mod declaration;
 mod edit;
@@ -16,18 +14,12 @@ pub mod limits;
 mod list_of;
 mod material_decl;
 mod part_sort;
-#[cfg(test)]
-mod refusal_tests;
 mod row;
 mod rows;
 mod rule_fault;
 mod spaced;
 mod substance_mass;
-#[cfg(test)]
-mod tests;
 pub mod text_laws;
-#[cfg(test)]
-mod text_tests;
 mod within;
 
 pub use decl_error::DeclError;

@@ -17,8 +17,6 @@ mod rolled;
 mod roller;
 mod rollups;
 mod sweep;
-#[cfg(test)]
-mod tests;
 mod values;
 mod weights;
 

@@ -8,14 +8,10 @@ mod ask_fault;
 mod asked;
 mod assessment;
 mod bill;
-#[cfg(test)]
-mod bill_tests;
 mod check;
 mod duties;
 pub mod examples;
 mod facts;
-#[cfg(test)]
-mod gateway_tests;
 pub mod laws;
 mod material;
 mod material_block;
@@ -26,10 +22,6 @@ mod reach7;
 mod rohs;
 mod shared_lines;
 mod summary;
-#[cfg(test)]
-mod test_steps;
-#[cfg(test)]
-mod tests;
 mod uses;
 mod verdict_words;
 

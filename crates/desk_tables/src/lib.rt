@@ -2,8 +2,6 @@
 #![tactic(auto)]
 
 mod accept;
-#[cfg(test)]
-mod accept_tests;
 mod at_start;
 mod bill_sound;
 mod bill_sums;
@@ -18,8 +16,6 @@ mod finding_counts;
 mod findings;
 mod found_part;
 mod gather;
-#[cfg(test)]
-mod gather_tests;
 mod heavy_years;
 mod judge;
 mod limits;
@@ -35,8 +31,6 @@ mod rules;
 mod share;
 mod sound;
 mod sound_fault;
-#[cfg(test)]
-mod sound_tests;
 mod start;
 mod sums;
 mod sums_sound;
@@ -45,8 +39,6 @@ mod tables;
 mod terms;
 mod tested_row;
 mod tested_rows;
-#[cfg(test)]
-mod tests;
 mod ticket;
 mod tickets_sound;
 

@@ -17,7 +17,5 @@ mod link;
 mod links;
 mod place;
 mod reach;
-#[cfg(test)]
-mod tests;
 
 pub use links::Links;

@@ -1,0 +1,198 @@
+use desk_fields::{TextFault, is_edit_text, read_edit_text};
+use desk_model::Edit;
+use desk_text::Bytes;
+use std::alloc::{AllocError, Global};
+use std::test::Fail;
+
+/// Texts of edits, with the fields set apart by `|` here, and the codes of their tickets.
+const EDITS: [(&str, &str); 17] = [
+    ("E:t", "substance|lead|Lead|7439-92-1"),
+    ("E:t", "substance|pbb|Polybrominated biphenyls (PBB)|"),
+    ("E:t", "member|lead-oxide|lead|928320"),
+    ("E:t", "member|lead-oxide|chromium-vi|0"),
+    (
+        "D:ACME:7",
+        "declare|ACME|7|2024-01-23|1|SOLDER|Solder paste|1000000|1|lead|1000|0",
+    ),
+    (
+        "D:ACME:18446744073709551615",
+        "declare|ACME|18446744073709551615|2000-01-01|0",
+    ),
+    (
+        "D:A:1",
+        "declare|A|1|2099-12-31|2|M|m|5|2|a|2|b|0|2|lead|6(a)|lead|6(c)|N|n|1|0|0",
+    ),
+    ("E:t", "part|A|article|Frame"),
+    ("E:t", "part|B|assembly|Stra\u{df}e"),
+    ("E:t", "line|A|B|1000000"),
+    ("E:t", "unline|A|B"),
+    ("E:t", "product|A|9i"),
+    (
+        "E:t",
+        "exemption|R6C|3|6(c)|lead|1,7t,11|2014-07-22|2026-06-30|0|1000000|Copper alloys",
+    ),
+    (
+        "E:t",
+        "exemption|R|4|1(a)|cadmium|8i|2014-07-22|2014-07-22|||Shielding",
+    ),
+    ("E:t", "unexempt|R6C"),
+    ("E:t", "candidate|dehp|2008-10-28"),
+    (
+        "E:1234567890123456789012345678901234567890",
+        "ship|A|2099|1000000000000",
+    ),
+];
+
+/// Texts that are no edit's, with the fields set apart by `|` here.
+const OTHERS: [&str; 44] = [
+    "",
+    "|",
+    "Unline|A|B",
+    " unline|A|B",
+    "unline|A",
+    "unline|A|B|",
+    "unline|A|B|C",
+    "unline|A|B\r",
+    "unline|A|B\n",
+    "unline||B",
+    "unline|A/C|B",
+    "line|A|B|0",
+    "line|A|B|01",
+    "line|A|B|+1",
+    "line|A|B|1000001",
+    "line|A|B|",
+    "substance|lead|Lead",
+    "substance|lead|Lead||",
+    "substance|lead||",
+    "substance|lead|Lead|7439-92-2",
+    "member|lead|tin|1",
+    "member|lead|lead|1000001",
+    "part|A|Article|Frame",
+    "product|A|07",
+    "candidate|dehp|2008-10-8",
+    "candidate|dehp|1999-12-31",
+    "ship|A|2007|1",
+    "ship|A|2008|0",
+    "unship|A|2008|1000000000001",
+    "exemption|R|5|1|lead|1|2014-07-22|2026-06-30|||x",
+    "exemption|R|03|1|lead|1|2014-07-22|2026-06-30|||x",
+    "exemption|R|3|1|lead||2014-07-22|2026-06-30|||x",
+    "exemption|R|3|1|lead|2,1|2014-07-22|2026-06-30|||x",
+    "exemption|R|3|1|lead|1,1|2014-07-22|2026-06-30|||x",
+    "exemption|R|3|1|lead|1,|2014-07-22|2026-06-30|||x",
+    "exemption|R|3|1|lead|1|2014-07-22|2026-06-30|1000001||x",
+    "declare|A|0|2024-01-23|0",
+    "declare|A|1|2024-01-23|1",
+    "declare|A|1|2024-01-23|0|M|m|5|0|0",
+    "declare|A|1|2024-01-23|2|N|n|1|0|0|M|m|1|0|0",
+    "declare|A|1|2024-01-23|1|M|m|5|2|b|1|a|1|0",
+    "declare|A|1|2024-01-23|1|M|m|5|0|2|lead|6(c)|lead|6(a)",
+    "declare|A|1|2024-01-23|1|M|m|5|65|0",
+    "declare|A|1|2024-01-23|1|M|m|1000000000000001|0|0",
+];
+
+/// The text with a TAB in the place of each `|`.
+pub(crate) fn tabbed(alloc: Global, fields: &str) -> Result<Vec<u8>, AllocError> {
+    let mut text = Vec::new(alloc);
+    for &byte in fields.as_bytes() {
+        text.push(if byte == b'|' { b'\t' } else { byte })?;
+    }
+    Ok(text)
+}
+
+/// Whether the edit has this text and this code of a ticket.
+fn is_told(alloc: Global, edit: &Edit, code: &str, text: &[u8]) -> Result<bool, Fail> {
+    let mut told = Bytes::start(alloc);
+    edit.text(&mut told)?;
+    let mut ticket = Bytes::start(alloc);
+    edit.ticket_code(&mut ticket)?;
+    Ok(told.as_slice() == text && ticket.as_slice() == code.as_bytes())
+}
+
+#[test]
+fn each_word_is_read_back(rt: HostRuntime) -> Result<(), Fail> {
+    let alloc = rt.alloc();
+    for (code, fields) in EDITS {
+        let text = tabbed(alloc, fields)?;
+        let edit = read_edit_text(alloc, code.as_bytes(), &text)?;
+        assert!(rt; is_told(alloc, &edit, code, &text)?, "of {fields}");
+        assert!(rt; is_edit_text(alloc, &text)?, "of {fields}");
+    }
+    Ok(())
+}
+
+#[test]
+fn what_no_edit_spells_is_refused(rt: HostRuntime) -> Result<(), Fail> {
+    let alloc = rt.alloc();
+    for fields in OTHERS {
+        let text = tabbed(alloc, fields)?;
+        for code in ["E:t", "D:A:1"] {
+            let fault = read_edit_text(alloc, code.as_bytes(), &text).err();
+            assert_eq!(rt; fault, Some(TextFault::NotAnEdit), "of {fields}");
+        }
+        assert!(rt; !is_edit_text(alloc, &text)?, "of {fields}");
+    }
+    Ok(())
+}
+
+#[test]
+fn a_text_under_another_code_is_still_one(rt: HostRuntime) -> Result<(), Fail> {
+    let alloc = rt.alloc();
+    for (code, fields) in [
+        ("", "unline|A|B"),
+        ("t", "unline|A|B"),
+        ("E:", "unline|A|B"),
+        ("e:t", "unline|A|B"),
+        ("E:t u", "unline|A|B"),
+        ("D:A:1", "unline|A|B"),
+        ("E:A", "declare|A|1|2024-01-23|0"),
+        ("D:B:1", "declare|A|1|2024-01-23|0"),
+        ("D:A:01", "declare|A|1|2024-01-23|0"),
+        ("D:A:1\t", "declare|A|1|2024-01-23|0"),
+    ] {
+        let text = tabbed(alloc, fields)?;
+        let fault = read_edit_text(alloc, code.as_bytes(), &text).err();
+        assert_eq!(rt; fault, Some(TextFault::NotAnEdit), "of {code}");
+        assert!(rt; is_edit_text(alloc, &text)?, "of {fields}");
+    }
+    Ok(())
+}
+
+const FIFTY: &str = "aaaaaaaaaaaaaaaaaaaaaaaaaaaaaaaaaaaaaaaaaaaaaaaaaa";
+
+/// A declaration of 256 materials with names of 200 bytes, a substance and a claim each.
+fn longest_text(alloc: Global) -> Result<Vec<u8>, AllocError> {
+    let mut text = b"declare\tACME\t7\t2024-01-23\t256".to_vec(alloc)?;
+    for number in 100..356 {
+        let fields = format!(in alloc;
+            "\tM{number}\t{FIFTY}{FIFTY}{FIFTY}{FIFTY}\t1000000\t1\tlead\t1\t1\tlead\t6(c)"
+        )?;
+        text.extend_from_slice(fields.as_bytes())?;
+    }
+    Ok(text)
+}
+
+#[test]
+fn the_longest_declaration_is_read(rt: HostRuntime) -> Result<(), Fail> {
+    let alloc = rt.alloc();
+    let text = longest_text(alloc)?;
+    let edit = read_edit_text(alloc, b"D:ACME:7", &text)?;
+    assert!(rt; is_told(alloc, &edit, "D:ACME:7", &text)?);
+    Ok(())
+}
+
+#[test]
+fn a_text_of_tabs_is_refused(rt: HostRuntime) -> Result<(), Fail> {
+    let alloc = rt.alloc();
+    let mut text = b"declare\tA\t1\t2024-01-23\t256".to_vec(alloc)?;
+    text.resize(65_536, b'\t')?;
+    assert!(rt; !is_edit_text(alloc, &text)?);
+    Ok(())
+}
+
+#[test]
+fn faults_are_told(rt: HostRuntime) -> Result<(), Fail> {
+    let told = format!(in rt.alloc(); "{}, {}", TextFault::NotAnEdit, TextFault::OutOfMemory)?;
+    assert_eq!(rt; told.as_str(), "not the text of an edit, out of memory");
+    Ok(())
+}

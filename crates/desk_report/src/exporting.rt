@@ -1,0 +1,111 @@
+ghost use Rattle.std.specs.Prelude.{◌≡◌, ◌≢◌, ℕ, ◌≤◌, List, length, Err, IfOk, IsErrOf, OnErr, OnOk};
+ghost use Rattle.std.specs.Io.KnownBytes.{Appends};
+ghost use Rattle.desk_edge.specs.Content.{HaveDistinctKeys};
+ghost use Rattle.desk_edge.specs.Faults.{Rose};
+ghost use Rattle.desk_edge.specs.Transfer.{AppendsBeginning};
+ghost use Rattle.desk_history.specs.Sound.{Sound};
+ghost use Rattle.desk_report.specs.File.{IsFileOf, table_at};
+ghost use Rattle.desk_report.specs.Lines.{line_of, lines_of, sorted};
+
+use crate::line::line;
+use crate::report_fault::ReportFault;
+use crate::table_records::table_records;
+use desk_edge::{Link, Record, write_all};
+use desk_rows::Keyed;
+use desk_tables::Tables;
+use std::alloc::Global;
+
+/// How many tables a desk has.
+const TABLES: usize = 10;
+
+/// Writes the export file of the tables: a line for each record, in the order of kind and code bytes, and answers how many there are.
+/// The records of one table at a time are held, and one line.
+///
+/// `LinkFault`: the link refused a call. `OutOfMemory`: none was left for the records of a table or for a line. After a fault a
+/// beginning of the file is written.
+pub fn export<L: Link>(alloc: Global, tables: &Tables, link: &mut L) -> Result<u64, ReportFault>
+    requires sound { Sound tables.now.lists }
+    ensures file { IfOk result (λ number. (bytes : List ℕ) × IsFileOf tables.now.lists number bytes
+        × Appends (L.written link.old) (L.written link.new) bytes) }
+    ensures beginning { OnErr result ((number : ℕ) × (bytes : List ℕ) × IsFileOf tables.now.lists number bytes
+        × AppendsBeginning (L.written link.old) (L.written link.new) bytes) }
+    ensures causes { (result ≢ Err ReportFault.KeeperFault) × (result ≢ Err ReportFault.NotEmpty) × (result ≢ Err ReportFault.TooLong) }
+    ensures undamaged { (n : ℕ) → result ≢ Err (ReportFault.Damaged n) }
+    ensures input_stays { L.unread link.new ≡ L.unread link.old }
+    ensures never_falls { L.faults link.old ≤ L.faults link.new }
+    ensures steady { result ≢ Err ReportFault.LinkFault → L.faults link.new ≡ L.faults link.old }
+    ensures failed { IsErrOf result ReportFault.LinkFault → Rose (L.faults link.old) (L.faults link.new) }
+{
+    let mut number = 0;
+    for place in 0..TABLES {
+        number += write_table(alloc, tables, place, link)?;
+    }
+    Ok(number)
+}
+
+/// Writes the lines of the table at this place in the order of their keys, and answers how many there are. After a fault a beginning
+/// of them is written.
+fn write_table<L: Link>(
+    alloc: Global,
+    tables: &Tables,
+    place: usize,
+    link: &mut L,
+) -> Result<u64, ReportFault>
+    requires { HaveDistinctKeys (table_at tables.now.lists place) }
+    ensures ok { OnOk result (Appends (L.written link.old) (L.written link.new) (lines_of (sorted (table_at tables.now.lists place)))) }
+    ensures number { IfOk result (λ number. number ≡ length (sorted (table_at tables.now.lists place))) }
+    ensures beginning { OnErr result (AppendsBeginning (L.written link.old) (L.written link.new) (lines_of (sorted (table_at tables.now.lists place)))) }
+    ensures causes { (result ≢ Err ReportFault.KeeperFault) × (result ≢ Err ReportFault.NotEmpty) × (result ≢ Err ReportFault.TooLong) }
+    ensures undamaged { (n : ℕ) → result ≢ Err (ReportFault.Damaged n) }
+    ensures input_stays { L.unread link.new ≡ L.unread link.old }
+    ensures never_falls { L.faults link.old ≤ L.faults link.new }
+    ensures steady { result ≢ Err ReportFault.LinkFault → L.faults link.new ≡ L.faults link.old }
+    ensures failed { IsErrOf result ReportFault.LinkFault → Rose (L.faults link.old) (L.faults link.new) }
+{
+    let records = in_order(table_records(alloc, tables, place)?);
+    write_lines(alloc, records.as_slice(), link)?;
+    Ok(records.len() as u64)
+}
+
+/// The records in the order of their keys.
+fn in_order(records: Vec<Record>) -> Vec<Record>
+    requires { HaveDistinctKeys records.items }
+    ensures { result.items ≡ sorted records.items }
+{
+    let mut records = records;
+    records.sort_unstable_by(|a, b| a.compare_row(b));
+    records
+}
+
+/// Writes the lines of the records. After a fault a beginning of them is written.
+fn write_lines<L: Link>(alloc: Global, records: &[Record], link: &mut L) -> Result<(), ReportFault>
+    ensures ok { OnOk result (Appends (L.written link.old) (L.written link.new) (lines_of records.now)) }
+    ensures beginning { OnErr result (AppendsBeginning (L.written link.old) (L.written link.new) (lines_of records.now)) }
+    ensures causes { (result ≢ Err ReportFault.KeeperFault) × (result ≢ Err ReportFault.NotEmpty) × (result ≢ Err ReportFault.TooLong) }
+    ensures undamaged { (n : ℕ) → result ≢ Err (ReportFault.Damaged n) }
+    ensures input_stays { L.unread link.new ≡ L.unread link.old }
+    ensures never_falls { L.faults link.old ≤ L.faults link.new }
+    ensures steady { result ≢ Err ReportFault.LinkFault → L.faults link.new ≡ L.faults link.old }
+    ensures failed { IsErrOf result ReportFault.LinkFault → Rose (L.faults link.old) (L.faults link.new) }
+{
+    for kept in records {
+        write_line(alloc, kept, link)?;
+    }
+    Ok(())
+}
+
+/// Writes the line of the record. After a fault a beginning of it is written.
+fn write_line<L: Link>(alloc: Global, kept: &Record, link: &mut L) -> Result<(), ReportFault>
+    ensures ok { OnOk result (Appends (L.written link.old) (L.written link.new) (line_of kept.now)) }
+    ensures beginning { AppendsBeginning (L.written link.old) (L.written link.new) (line_of kept.now) }
+    ensures causes { (result ≢ Err ReportFault.KeeperFault) × (result ≢ Err ReportFault.NotEmpty) × (result ≢ Err ReportFault.TooLong) }
+    ensures undamaged { (n : ℕ) → result ≢ Err (ReportFault.Damaged n) }
+    ensures input_stays { L.unread link.new ≡ L.unread link.old }
+    ensures never_falls { L.faults link.old ≤ L.faults link.new }
+    ensures steady { result ≢ Err ReportFault.LinkFault → L.faults link.new ≡ L.faults link.old }
+    ensures failed { IsErrOf result ReportFault.LinkFault → Rose (L.faults link.old) (L.faults link.new) }
+{
+    let line = line(alloc, kept)?;
+    write_all(link, line.as_slice())?;
+    Ok(())
+}

@@ -1,0 +1,131 @@
+ghost use Rattle.std.specs.Prelude.{◌≡◌, ◌≢◌, ℕ, ◌+◌, [], ◌∷◌, ◌++◌, Err, IfNone, IfOk, IfSome, List, length};
+ghost use Rattle.desk_clerk.specs.Opening.{content_in};
+ghost use Rattle.desk_edge.specs.Content.{IsSame, key_cmp, key_of};
+ghost use Rattle.desk_history.specs.Sound.{Sound};
+ghost use Rattle.desk_model.specs.Lists.{Lists};
+ghost use Rattle.desk_records.specs.Records.{tables_content};
+ghost use Rattle.desk_report.specs.Imported.{IsDamagedAt};
+ghost use Rattle.desk_report.specs.Reading.{HasBadLine, IsReadTo};
+ghost use Rattle.desk_rows.specs.Rows.{IsByKey};
+
+use crate::next_row::next_row;
+use crate::report_fault::ReportFault;
+use desk_edge::Record;
+use desk_tables::{Row, SoundFault, Tables};
+use desk_text::{Bytes, OutOfMemory};
+use std::alloc::Global;
+use std::marker::Model;
+
+/// Lines of rows' records, whose keys rise, and the beginning of one more.
+#[derive(Drop)]
+pub(crate) struct GoodLines {
+    records: Vec<Record>,
+    rows: Vec<Row>,
+    held: Bytes,
+}
+
+impl Model for GoodLines {
+    ghost use Rattle.std.specs.Prelude.{◌≡◌, ◌==◌, false, map};
+    ghost use Rattle.std.specs.List.{All, AllByRecursion};
+    ghost use Rattle.desk_edge.specs.Content.{key_cmp, key_of};
+    ghost use Rattle.desk_fields.specs.RowTexts.{IsRowInForm};
+    ghost use Rattle.desk_records.specs.Records.{record_of};
+    ghost use Rattle.desk_report.specs.Reading.{GoodRead};
+    ghost use Rattle.desk_rows.specs.Rows.{IsByKey};
+
+    ghost Value = { GoodRead };
+
+    ghost view = { λ good. record { records = good.records.items; rows = good.rows.items; held = good.held } };
+
+    ghost invariant = { λ good. IsByKey key_of key_cmp good.records.items
+        × (good.records.items ≡ map record_of good.rows.items)
+        × AllByRecursion IsRowInForm good.rows.items
+        × All (λ b. (b == 10) ≡ false) good.held };
+}
+
+impl GoodLines {
+    /// No lines.
+    pub(crate) fn start(alloc: Global) -> GoodLines
+        ensures { IsReadTo [] result }
+    {
+        GoodLines {
+            records: Vec::new(alloc),
+            rows: Vec::new(alloc),
+            held: Bytes::start(alloc),
+        }
+    }
+
+    /// With one more byte of the line that isn't whole.
+    pub(crate) fn with_held(self, byte: u8) -> Result<GoodLines, OutOfMemory>
+        requires { byte ≢ 10 }
+        ensures { IfOk result (λ good. (read : List ℕ) → IsReadTo read self → IsReadTo (read ++ byte ∷ []) good) }
+    {
+        let mut held = self.held;
+        held.push_all(&[byte])?;
+        Ok(GoodLines { held, ..self })
+    }
+
+    /// The number of the line that isn't whole, counted from 1.
+    pub(crate) fn next_number(&self) -> u64
+        ensures { result ≡ length self.now.records + 1 }
+    {
+        self.records.len() as u64 + 1
+    }
+
+    /// With LF behind the line that is held, if that is a good line then.
+    pub(crate) fn with_line(self, alloc: Global) -> Result<Option<GoodLines>, OutOfMemory>
+        ensures some { IfOk result (λ found. IfSome found (λ good. (read : List ℕ) → IsReadTo read self → IsReadTo (read ++ 10 ∷ []) good)) }
+        ensures none { IfOk result (λ found. IfNone found ((read : List ℕ) → IsReadTo read self
+            → HasBadLine (read ++ 10 ∷ []) (length self.records + 1))) }
+    {
+        let GoodLines {
+            records,
+            rows,
+            held,
+        } = self;
+        let (mut records, mut rows) = (records, rows);
+        let Some((kept, row)) = next_row(alloc, records.as_slice(), held.as_slice())? else {
+            return Ok(None);
+        };
+        records.push(kept)?;
+        rows.push(row)?;
+        Ok(Some(GoodLines {
+            records,
+            rows,
+            held: Bytes::start(alloc),
+        }))
+    }
+
+    /// The records of the lines, at the end of the input: no line is begun, and the records are those of sound tables.
+    ///
+    /// `Damaged`: by the number of the line that is begun, or by 0 where none is and no sound tables have the records.
+    /// `OutOfMemory`: none was left to find out.
+    pub(crate) fn into_records(self, alloc: Global) -> Result<Vec<Record>, ReportFault>
+        ensures records { IfOk result (λ records. (records.items ≡ self.records) × (self.held ≡ [])
+            × IsByKey key_of key_cmp records.items) }
+        ensures sound { IfOk result (λ records. (t : Lists) × Sound t × IsSame (tables_content t) (content_in records.items)) }
+        ensures damaged { (line : ℕ) → result ≡ Err (ReportFault.Damaged line)
+            → (bytes : List ℕ) → IsReadTo bytes self → IsDamagedAt bytes line }
+        ensures causes { (result ≢ Err ReportFault.KeeperFault) × (result ≢ Err ReportFault.LinkFault)
+            × (result ≢ Err ReportFault.NotEmpty) × (result ≢ Err ReportFault.TooLong) }
+    {
+        let GoodLines {
+            records,
+            rows,
+            held,
+        } = self;
+        if !held.is_empty() {
+            return Err(ReportFault::Damaged {
+                line: records.len() as u64 + 1,
+            });
+        }
+        let tables = Tables::gather(alloc, rows)?;
+        // The call does nothing but say that the lists stand in order.
+        tables.in_order();
+        match tables.is_sound(alloc) {
+            Ok(()) => Ok(records),
+            Err(SoundFault::Unsound { .. }) => Err(ReportFault::Damaged { line: 0 }),
+            Err(SoundFault::OutOfMemory) => Err(ReportFault::OutOfMemory),
+        }
+    }
+}

@@ -1,0 +1,84 @@
+use crate::outside::{DESK, bytes, link, store};
+use desk_clerk::Clerk;
+use desk_edge::MemoryLink;
+use desk_report::{ReportFault, export, import};
+use desk_tables::Tables;
+use desk_text::Bytes;
+use std::alloc::Global;
+use std::sync::Wait;
+use std::test::Fail;
+
+/// Room for the lines of any desk here.
+const AMPLE: usize = 10_000;
+
+/// What was written.
+fn written(alloc: Global, link: &MemoryLink) -> Result<Bytes, Fail> {
+    Ok(Bytes::from(link.written().to_vec(alloc)?))
+}
+
+/// What an export of the start tables answers and writes, over a link with so much room that fails on these calls.
+fn exported_start(
+    alloc: Global,
+    room: usize,
+    failing: &[u64],
+) -> Result<(Result<u64, ReportFault>, Bytes), Fail> {
+    let tables = Tables::start(alloc)?;
+    let mut link = link(alloc, "", room, failing)?;
+    let answer = export(alloc, &tables, &mut link);
+    Ok((answer, written(alloc, &link)?))
+}
+
+/// What an export of the imported desk answers and writes.
+fn exported_again<R: Wait + Sync>(
+    rt: &R,
+    alloc: Global,
+) -> Result<(Result<u64, ReportFault>, Bytes), Fail> {
+    let mut keeper = store(alloc, &[], &[])?;
+    let mut input = link(alloc, DESK, 0, &[])?;
+    import(alloc, &mut keeper, &mut input)?;
+    let Ok(clerk) = Clerk::open(rt, alloc, keeper) else {
+        return Err(Fail::new("not opened"));
+    };
+    let mut output = link(alloc, "", AMPLE, &[])?;
+    let answer = export(alloc, clerk.tables(), &mut output);
+    Ok((answer, written(alloc, &output)?))
+}
+
+#[test]
+fn the_start_tables_are_twenty_lines(rt: HostRuntime) -> Result<(), Fail> {
+    let alloc = rt.alloc();
+    let (answer, written) = exported_start(alloc, AMPLE, &[])?;
+    assert_eq!(rt; answer, Ok(20));
+    let lines = written.as_slice();
+    let first = bytes(alloc, "1|bbp|1|Butyl benzyl phthalate (BBP)|85-68-7\n")?;
+    assert!(rt; lines.starts_with(first.as_slice()));
+    assert_eq!(rt;
+        lines.split(|b| *b == b'\n').nth(10),
+        Some(bytes(alloc, "2|bbp/bbp|1|1000000")?.as_slice())
+    );
+    assert_eq!(rt; lines.iter().filter(|b| **b == b'\n').count(), 20);
+    Ok(())
+}
+
+#[test]
+fn a_desk_that_was_imported_is_exported_as_it_was(rt: HostRuntime) -> Result<(), Fail> {
+    let alloc = rt.alloc();
+    let (answer, written) = exported_again(&rt, alloc)?;
+    assert_eq!(rt; answer, Ok(16));
+    assert_eq!(rt; written, bytes(alloc, DESK)?);
+    Ok(())
+}
+
+#[test]
+fn a_write_that_fails_leaves_a_beginning(rt: HostRuntime) -> Result<(), Fail> {
+    let alloc = rt.alloc();
+    let first = bytes(alloc, "1|bbp|1|Butyl benzyl phthalate (BBP)|85-68-7\n")?;
+    let (answer, written) = exported_start(alloc, 24, &[])?;
+    assert_eq!(rt; answer, Err(ReportFault::LinkFault));
+    assert_eq!(rt; written.len(), 24);
+    assert!(rt; first.as_slice().starts_with(written.as_slice()));
+    let (answer, written) = exported_start(alloc, AMPLE, &[2])?;
+    assert_eq!(rt; answer, Err(ReportFault::LinkFault));
+    assert_eq!(rt; written, first);
+    Ok(())
+}

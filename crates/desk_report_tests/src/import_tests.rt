@@ -1,0 +1,180 @@
+ghost use Rattle.std.specs.Prelude.{◌≡◌, ◌≤◌, ℕ, List, None, IfOk, OnErr, OnOk, Option, length};
+ghost use Rattle.std.specs.Io.KnownBytes.{ReadConsumes, WriteAppends};
+ghost use Rattle.desk_edge.specs.Faults.{Rose};
+
+use crate::outside::{DESK, Told, link, store};
+use desk_edge::{Failed, Link, MapKeeper};
+use desk_report::{ReportFault, import};
+use std::alloc::Global;
+use std::test::Fail;
+
+/// Inputs that are no export file, and the line that is told.
+const DAMAGED: [(&str, u64); 22] = [
+    ("lead\n", 1),
+    ("1|lead\n", 1),
+    ("\n", 1),
+    ("1|lead|1|Lead|7439-92-1|\n", 1),
+    ("1|lead|1|Lead|7439-92-1\r\n", 1),
+    ("1|lead|1|Lead|7439-92-1 \n", 1),
+    ("1|lead|1|Lead|7439-92-1\n1|lead|1|Lead|7439-92-1\n", 2),
+    ("1|lead|1|Lead|7439-92-1\n1|lead|1|Plumbum|7439-92-1\n", 2),
+    ("1|zinc|1|Zinc|\n1|lead|1|Lead|7439-92-1\n", 2),
+    ("5|A/B|1|1\n5|A.1/B|1|2\n", 2),
+    ("1|lead|1|Lead|7439-92-1\n1|zinc|1|Zinc|", 2),
+    ("1|lead|1|Lead|7439-92-1", 1),
+    ("0|lead|1|Lead|7439-92-1\n", 1),
+    ("11|lead|1|Lead|7439-92-1\n", 1),
+    ("256|lead|1|Lead|7439-92-1\n", 1),
+    ("01|lead|1|Lead|7439-92-1\n", 1),
+    ("|lead|1|Lead|7439-92-1\n", 1),
+    ("4|A|2|assembly|Frame\n", 1),
+    ("10|E:t1|1|1|fly|A\n", 1),
+    ("10|E:t1|1|01|unexempt|X\n", 1),
+    ("1|lead|1|Lead|7439-92-1\n\n1|zinc|1|Zinc|\n", 2),
+    ("1|lead|1|Lead|7439-92-1\nzinc\n1|lead|1|Lead|7439-92-1", 2),
+];
+
+/// Lines of records that no sound tables have, each for another clause.
+const UNSOUND: [&str; 14] = [
+    "2|zinc/lead|1|5\n",
+    "3|X|1|ACME|7|2024-01-23|Paste|1000|1|lead|5|0\n",
+    "3|X|1|ACME|7|2024-01-23|Paste|1000|0|0\n4|X|1|assembly|Frame\n",
+    "4|A|1|article|Pin\n4|B|1|article|Pin\n5|A/B|1|1\n",
+    "4|A|1|assembly|Frame\n5|A/A|1|1\n",
+    "4|A|1|assembly|Frame\n5|A/B|1|1\n",
+    "5|A/B|1|1\n",
+    "6|A|1|3\n",
+    "8|lead|1|2018-06-27\n",
+    "9|2024/A|1|5\n",
+    "4|A|1|assembly|Frame\n9|2024/A|1|5\n",
+    "10|E:t1|1|2|unexempt|X\n",
+    "10|E:t1|1|1|unexempt|X\n10|E:t2|1|1|unexempt|Y\n",
+    "10|D:ACME:7|1|1|line|A|B|1\n",
+];
+
+/// What an import of this input into an empty store answers, and the records that the store has then.
+fn imported(
+    alloc: Global,
+    input: &str,
+    failing: (&[u64], &[u64]),
+) -> Result<(Result<u64, ReportFault>, MapKeeper), Fail> {
+    let mut keeper = store(alloc, &[], failing.0)?;
+    let mut link = link(alloc, input, 0, failing.1)?;
+    let answer = import(alloc, &mut keeper, &mut link);
+    Ok((answer, keeper))
+}
+
+/// The line that is told of this input, where it is damaged and the store stays empty.
+fn damaged_line(alloc: Global, input: &str) -> Result<Option<u64>, Fail> {
+    let (answer, keeper) = imported(alloc, input, (&[], &[]))?;
+    match answer {
+        Err(ReportFault::Damaged { line }) if keeper.records().is_empty() => Ok(Some(line)),
+        _ => Ok(None),
+    }
+}
+
+#[test]
+fn the_first_damaged_line_is_told(rt: HostRuntime) -> Result<(), Fail> {
+    for (input, line) in DAMAGED {
+        assert_eq!(rt; damaged_line(rt.alloc(), input)?, Some(line), "of {input}");
+    }
+    Ok(())
+}
+
+#[test]
+fn lines_of_no_sound_tables_are_told_as_line_0(rt: HostRuntime) -> Result<(), Fail> {
+    for input in UNSOUND {
+        assert_eq!(rt; damaged_line(rt.alloc(), input)?, Some(0), "of {input}");
+    }
+    Ok(())
+}
+
+#[test]
+fn an_empty_input_puts_nothing_in(rt: HostRuntime) -> Result<(), Fail> {
+    let (answer, keeper) = imported(rt.alloc(), "", (&[], &[]))?;
+    assert_eq!(rt; answer, Ok(0));
+    assert!(rt; keeper.records().is_empty());
+    Ok(())
+}
+
+#[test]
+fn a_desk_is_imported_whole(rt: HostRuntime) -> Result<(), Fail> {
+    let (answer, keeper) = imported(rt.alloc(), DESK, (&[], &[]))?;
+    assert_eq!(rt; answer, Ok(16));
+    assert_eq!(rt; keeper.records().len(), 16);
+    Ok(())
+}
+
+#[test]
+fn a_store_that_has_a_record_takes_no_others(rt: HostRuntime) -> Result<(), Fail> {
+    let alloc = rt.alloc();
+    let some: [Told; 1] = [(1, "lead", "1|Lead|7439-92-1")];
+    let mut keeper = store(alloc, &some, &[])?;
+    // The link would fail at its first call.
+    let mut link = link(alloc, "x", 0, &[1])?;
+    let answer = import(alloc, &mut keeper, &mut link);
+    assert_eq!(rt; answer, Err(ReportFault::NotEmpty));
+    assert_eq!(rt; keeper.records().len(), 1);
+    Ok(())
+}
+
+#[test]
+fn a_refused_call_leaves_the_store_empty(rt: HostRuntime) -> Result<(), Fail> {
+    let alloc = rt.alloc();
+    for call in [2, 3] {
+        let (answer, keeper) = imported(alloc, DESK, (&[call], &[]))?;
+        assert_eq!(rt; answer, Err(ReportFault::KeeperFault));
+        assert!(rt; keeper.records().is_empty());
+    }
+    let (answer, keeper) = imported(alloc, DESK, (&[], &[3]))?;
+    assert_eq!(rt; answer, Err(ReportFault::LinkFault));
+    assert!(rt; keeper.records().is_empty());
+    Ok(())
+}
+
+/// Makes so many bytes as it is read: LF at the front of each piece.
+#[derive(Drop)]
+struct Maker {
+    left: usize,
+}
+
+impl Link for Maker {
+    ghost faults = { λ _. 0 };
+
+    ghost unread = { λ _. None };
+
+    ghost written = { λ _. None };
+
+    fn read(&mut self, into: &mut [u8]) -> Result<usize, Failed> {
+        let given = into.len().min(self.left);
+        if let Some(first) = into.first_mut() {
+            *first = b'\n';
+        }
+        self.left -= given;
+        Ok(given)
+    }
+
+    fn write(&mut self, piece: &[u8]) -> Result<usize, Failed> {
+        Ok(piece.len())
+    }
+}
+
+/// What an import of so many bytes answers, and how many of the bytes are left.
+fn import_made(alloc: Global, len: usize) -> Result<(Result<u64, ReportFault>, usize), Fail> {
+    let mut keeper = store(alloc, &[], &[])?;
+    let mut maker = Maker { left: len };
+    let answer = import(alloc, &mut keeper, &mut maker);
+    Ok((answer, maker.left))
+}
+
+#[test]
+fn too_long_an_input_is_told_before_its_first_line(rt: HostRuntime) -> Result<(), Fail> {
+    let alloc = rt.alloc();
+    let (answer, left) = import_made(alloc, 268_435_460)?;
+    assert_eq!(rt; answer, Err(ReportFault::TooLong));
+    assert_eq!(rt; left, 3);
+    let (answer, left) = import_made(alloc, 268_435_456)?;
+    assert_eq!(rt; answer, Err(ReportFault::Damaged { line: 1 }));
+    assert_eq!(rt; left, 0);
+    Ok(())
+}

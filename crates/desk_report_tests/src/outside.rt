@@ -1,0 +1,50 @@
+use desk_edge::{Change, Keeper, MapKeeper, MemoryLink, Record};
+use desk_text::{Bytes, OutOfMemory};
+use std::alloc::Global;
+use std::test::Fail;
+
+/// A kind, a code, and a body with its fields set apart by `|` here.
+pub(crate) type Told = (u8, &'static str, &'static str);
+
+/// Lines of a small desk, in the order of their keys, with `|` for TAB. In its tables the members stand in the order of rules and
+/// the lines of `A` before those of `A.1`.
+pub(crate) const DESK: &str =
+    "1|lead|1|Lead|7439-92-1\n1|zinc|1|Zinc|\n2|lead/cadmium|1|3\n2|lead/lead|1|1000000\n\
+    3|SOLDER|1|ACME|7|2024-01-23|Solder|1000000|1|lead|1000|0\n4|A|1|assembly|Frame\n4|A.1|1|assembly|Cover\n\
+    4|B|1|article|Pin\n5|A.1/B|1|2\n5|A/B|1|1\n5|B/SOLDER|1|4\n6|A|1|3\n8|lead|1|2018-06-27\n9|2024/A|1|5\n\
+    10|D:ACME:7|1|2|declare|ACME|7|2024-01-23|1|SOLDER|Solder|1000000|1|lead|1000|0\n\
+    10|E:t1|1|1|line|A|B|1\n";
+
+/// The text with TAB for each `|`.
+pub(crate) fn bytes(alloc: Global, text: &str) -> Result<Bytes, OutOfMemory> {
+    let mut bytes = Bytes::start(alloc);
+    for &byte in text.as_bytes() {
+        let own = if byte == b'|' { b'\t' } else { byte };
+        bytes.push_all(&[own])?;
+    }
+    Ok(bytes)
+}
+
+/// A store of these records, which were put in by its first call.
+pub(crate) fn store(alloc: Global, records: &[Told], failing: &[u64]) -> Result<MapKeeper, Fail> {
+    let mut keeper = MapKeeper::new(Vec::new(alloc), failing.to_vec(alloc)?);
+    let mut batch = Vec::new(alloc);
+    for &(kind, code, body) in records {
+        let code = bytes(alloc, code)?;
+        let body = bytes(alloc, body)?;
+        batch.push(Change::Put(Record { kind, code, body }))?;
+    }
+    keeper.commit(alloc, batch.as_slice())?;
+    Ok(keeper)
+}
+
+/// A link with this input, with TAB for each `|`, which has room for so much output.
+pub(crate) fn link(
+    alloc: Global,
+    input: &str,
+    room: usize,
+    failing: &[u64],
+) -> Result<MemoryLink, Fail> {
+    let input = bytes(alloc, input)?;
+    Ok(MemoryLink::new(alloc, input, 7, room, failing.to_vec(alloc)?)?)
+}

@@ -1,0 +1,4 @@
+pub mod CodeForms
+pub mod Declaring
+pub mod Gained
+pub mod NameForms

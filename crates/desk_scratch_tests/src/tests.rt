@@ -1,0 +1,76 @@
+ghost use Rattle.std.specs.Prelude.{◌≤◌};
+ghost use Rattle.desk_history.specs.Sound.{Sound};
+
+use desk_law::Kind;
+use desk_model::Declaration;
+use desk_scratch::{AskFault, Asked, check_text};
+use desk_tables::Tables;
+use desk_text::{Code, Day, Name};
+use std::alloc::Global;
+use std::process::Abort;
+use std::test::Fail;
+
+/// A gram of paste with these micrograms of lead and of cadmium.
+fn paste(alloc: Global, lead: u64, cadmium: u64) -> Result<Declaration, Fail>
+    requires lead { lead ≤ 1000000 }
+    requires cadmium { cadmium ≤ 1000000 }
+{
+    let paste = Code::read(b"SOLDER")?;
+    let mut declaration = Declaration::start(
+        alloc,
+        Code::read(b"ACME")?,
+        7,
+        Day::read(b"2024-01-23")?,
+    )?;
+    declaration.add_material(paste, Name::read(alloc, b"Solder paste")?, 1_000_000)?;
+    declaration.add_substance(&paste, Code::read(b"lead")?, lead)?;
+    declaration.add_substance(&paste, Code::read(b"cadmium")?, cadmium)?;
+    Ok(declaration)
+}
+
+const OVER: &str = "check 2024-01-23 kind 3 supplier ACME declaration 7
+material SOLDER supplier ACME declaration 7 mass 1000000
+rule lead share 1001000000 limit 1000000000 breach
+rule mercury share 0 limit 1000000000 within
+rule cadmium share 100000000 limit 100000000 within
+rule chromium-vi share 0 limit 1000000000 within
+rule pbb share 0 limit 1000000000 within
+rule pbde share 0 limit 1000000000 within
+rule dehp share 0 limit 1000000000 within
+rule bbp share 0 limit 1000000000 within
+rule dbp share 0 limit 1000000000 within
+rule dibp share 0 limit 1000000000 within
+not-compliant
+";
+
+#[test]
+fn a_material_is_judged_for_each_rule(rt: HostRuntime) -> Result<(), Fail> {
+    let tables = Tables::start(rt.alloc())?;
+    judges(&rt, rt.alloc(), &tables)
+}
+
+fn judges(rt: &impl Abort, alloc: Global, tables: &Tables) -> Result<(), Fail>
+    requires { Sound tables.now.lists }
+{
+    let day = Day::read(b"2024-01-23")?;
+    assert!(rt; day.is_askable());
+    let asked = Asked {
+        kind: Kind::Telecommunications,
+        day,
+    };
+    let text = check_text(alloc, tables, &asked, &paste(alloc, 1001, 100)?)?;
+    assert_eq!(rt; text.as_slice(), OVER.as_bytes());
+    Ok(())
+}
+
+#[test]
+fn a_fault_names_the_code_that_was_asked_for(rt: HostRuntime) -> Result<(), Fail> {
+    let code = Code::read(b"P")?;
+    let unknown = AskFault::NoSuchCode { code };
+    let text = format!(in rt.alloc(); "{unknown}")?;
+    assert_eq!(rt; text.as_str(), "no-such-code P");
+    let part = AskFault::NotAProduct { code };
+    let text = format!(in rt.alloc(); "{part}")?;
+    assert_eq!(rt; text.as_str(), "not-a-product P");
+    Ok(())
+}

@@ -1,0 +1,151 @@
+use desk_fields::read_row;
+use desk_tables::{SoundFault, Tables};
+use std::alloc::Global;
+use std::test::Fail;
+
+/// A table's number, a row's code and its text.
+type Record = (u8, &'static str, &'static str);
+
+/// A lamp with a soldered board, of which five were shipped.
+const LAMP: [Record; 9] = [
+    (1, "lead", "1\tLead\t7439-92-1"),
+    (
+        3,
+        "SOLDER",
+        "1\tACME\t7\t2024-01-23\tSolder paste\t1000000\t1\tlead\t1000\t0",
+    ),
+    (4, "BOARD", "1\tarticle\tBoard"),
+    (4, "LAMP", "1\tassembly\tLamp"),
+    (5, "BOARD/SOLDER", "1\t1000000"),
+    (5, "LAMP/BOARD", "1\t1"),
+    (6, "LAMP", "1\t7t"),
+    (9, "2024/LAMP", "1\t5"),
+    (10, "E:t", "1\t1\tline\tLAMP\tBOARD\t1"),
+];
+
+/// A million of the heaviest material, and two floors of which each holds the one below a million times, under a third
+/// that holds the second once.
+const TOWER: [Record; 10] = [
+    (
+        3,
+        "M",
+        "1\tACME\t7\t2024-01-23\tMetal\t1000000000000000\t0\t0",
+    ),
+    (4, "A", "1\tarticle\tGround"),
+    (4, "F1", "1\tassembly\tFirst floor"),
+    (4, "F2", "1\tassembly\tSecond floor"),
+    (4, "F3", "1\tassembly\tThird floor"),
+    (5, "A/M", "1\t1000000"),
+    (5, "F1/A", "1\t1000000"),
+    (5, "F2/F1", "1\t1000000"),
+    (5, "F3/F2", "1\t1"),
+    (6, "F2", "1\t7t"),
+];
+
+/// Rows that break a clause beside those of the lamp, and the table and the code that are told then.
+const BROKEN: [(Record, (u8, &str)); 12] = [
+    ((2, "gold/lead", "1\t928320"), (2, "gold/lead")),
+    (
+        (
+            3,
+            "PASTE",
+            "1\tACME\t8\t2024-01-23\tPaste\t1000\t1\tlead\t1001\t0",
+        ),
+        (3, "PASTE"),
+    ),
+    ((4, "SOLDER", "1\tarticle\tSolder"), (4, "SOLDER")),
+    ((5, "LAMP/SOLDER", "1\t1"), (5, "LAMP/SOLDER")),
+    ((5, "LAMP/LAMP", "1\t1"), (5, "LAMP/LAMP")),
+    ((6, "SOLDER", "1\t7t"), (6, "SOLDER")),
+    (
+        (
+            7,
+            "R",
+            "1\t3\t6(c)\tlead\t3\t2014-07-22\t2014-07-21\t\t40000\tAlloys",
+        ),
+        (7, "R"),
+    ),
+    ((8, "gold", "1\t2008-10-28"), (8, "gold")),
+    ((9, "2024/BOARD", "1\t5"), (9, "2024/BOARD")),
+    ((10, "E:u", "1\t1\tline\tLAMP\tBOARD\t1"), (10, "E:t")),
+    ((10, "E:u", "1\t3\tline\tLAMP\tBOARD\t1"), (10, "E:u")),
+    // Another edit's ticket has this code.
+    ((10, "D:ACME:7", "1\t2\tunexempt\tR6C"), (10, "D:ACME:7")),
+];
+
+/// The tables of these rows.
+fn tables_of(alloc: Global, records: &[Record], more: &[Record]) -> Result<Tables, Fail> {
+    let mut rows = Vec::new(alloc);
+    for (table, code, text) in records {
+        rows.push(read_row(alloc, *table, code.as_bytes(), text.as_bytes())?)?;
+    }
+    for (table, code, text) in more {
+        rows.push(read_row(alloc, *table, code.as_bytes(), text.as_bytes())?)?;
+    }
+    Ok(Tables::gather(alloc, rows)?)
+}
+
+/// Whether the tables of these rows are sound.
+fn are_sound(alloc: Global, records: &[Record], more: &[Record]) -> Result<bool, Fail> {
+    let tables = tables_of(alloc, records, more)?;
+    Ok(tables.is_sound(alloc).is_ok())
+}
+
+/// Whether the tables of these rows are told as unsound by this table and code.
+fn are_told(
+    alloc: Global,
+    records: &[Record],
+    more: &[Record],
+    told: (u8, &str),
+) -> Result<bool, Fail> {
+    let tables = tables_of(alloc, records, more)?;
+    match tables.is_sound(alloc) {
+        Ok(()) => Ok(false),
+        Err(SoundFault::Unsound { table, key }) => {
+            Ok(table == told.0 && key.as_slice() == told.1.as_bytes())
+        }
+        Err(SoundFault::OutOfMemory) => Err(Fail::new("no memory")),
+    }
+}
+
+#[test]
+fn the_start_tables_are_sound(rt: HostRuntime) -> Result<(), Fail> {
+    let tables = Tables::start(rt.alloc())?;
+    assert!(rt; tables.is_sound(rt.alloc()).is_ok());
+    Ok(())
+}
+
+#[test]
+fn a_whole_desk_is_sound(rt: HostRuntime) -> Result<(), Fail> {
+    assert!(rt; are_sound(rt.alloc(), &LAMP, &[])?);
+    Ok(())
+}
+
+#[test]
+fn a_row_that_breaks_a_clause_is_told(rt: HostRuntime) -> Result<(), Fail> {
+    for (record, told) in BROKEN {
+        assert!(rt;
+            are_told(rt.alloc(), &LAMP, &[record], told)?,
+            "of {} {}",
+            record.0,
+            record.1
+        );
+    }
+    Ok(())
+}
+
+#[test]
+fn a_part_is_told_where_it_weighs_too_much(rt: HostRuntime) -> Result<(), Fail> {
+    assert!(rt; are_sound(rt.alloc(), &TOWER, &[])?);
+    let heavier = [(5, "F3/F2", "1\t1000000")];
+    assert!(rt; are_told(rt.alloc(), &TOWER, &heavier, (4, "F3"))?);
+    Ok(())
+}
+
+#[test]
+fn a_shipment_is_told_where_its_year_weighs_too_much(rt: HostRuntime) -> Result<(), Fail> {
+    assert!(rt; are_sound(rt.alloc(), &TOWER, &[(9, "2024/F2", "1\t100")])?);
+    let heavier = [(9, "2024/F2", "1\t1000000")];
+    assert!(rt; are_told(rt.alloc(), &TOWER, &heavier, (9, "2024/F2"))?);
+    Ok(())
+}

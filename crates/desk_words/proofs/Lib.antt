@@ -1,0 +1,6 @@
+mod Builders
+mod Dashes
+mod Slots
+mod Reading
+mod Lines
+mod Answered
