@@ -9,26 +9,27 @@ use std::test::Fail;
 /// A kind, a code, and a body with its fields set apart by `|` here.
 type Told = (u8, &'static str, &'static str);
 
-/// Records of no sound tables, one or two, and the key that is told.
-const DAMAGED: [(Told, Option<Told>, (u8, &str)); 9] = [
-    ((2, "zinc/lead", "1|5"), None, (2, "zinc/lead")),
+/// Records of no sound tables, and the key that is told.
+const DAMAGED: [(&[Told], (u8, &str)); 9] = [
+    (&[(2, "zinc/lead", "1|5")], (2, "zinc/lead")),
     (
-        (5, "A/A", "1|1"),
-        Some((4, "A", "1|assembly|Frame")),
+        &[(5, "A/A", "1|1"), (4, "A", "1|assembly|Frame")],
         (5, "A/A"),
     ),
-    ((4, "A", "2|assembly|Frame"), None, (4, "A")),
-    ((4, "A", "1|assembly"), None, (4, "A")),
-    ((10, "E:t1", "1|2|unexempt|X"), None, (10, "E:t1")),
+    (&[(4, "A", "2|assembly|Frame")], (4, "A")),
+    (&[(4, "A", "1|assembly")], (4, "A")),
+    (&[(10, "E:t1", "1|2|unexempt|X")], (10, "E:t1")),
     (
-        (3, "X", "1|ACME|7|2024-01-23|Paste|1000|0|0"),
-        Some((4, "X", "1|assembly|Frame")),
+        &[
+            (3, "X", "1|ACME|7|2024-01-23|Paste|1000|0|0"),
+            (4, "X", "1|assembly|Frame"),
+        ],
         (4, "X"),
     ),
-    ((8, "lead", "1|2018-06-27"), None, (8, "lead")),
-    ((21, "X", "1"), None, (21, "X")),
+    (&[(8, "lead", "1|2018-06-27")], (8, "lead")),
+    (&[(21, "X", "1")], (21, "X")),
     // A second spelling of a number.
-    ((10, "E:t1", "1|01|unexempt|X"), None, (10, "E:t1")),
+    (&[(10, "E:t1", "1|01|unexempt|X")], (10, "E:t1")),
 ];
 
 /// Records that a store has in another order than the tables: by the code of a rule, and by `.` before `/`.
@@ -126,13 +127,9 @@ fn is_damaged_at<R: Wait + Sync>(
 
 #[test]
 fn a_damaged_store_is_told_by_a_key(rt: HostRuntime) -> Result<(), Fail> {
-    let alloc = rt.alloc();
-    for (first, second, key) in DAMAGED {
-        let is_told = match second {
-            Some(second) => is_damaged_at(&rt, alloc, &[first, second], key)?,
-            None => is_damaged_at(&rt, alloc, &[first], key)?,
-        };
-        assert!(rt; is_told, "of {} {}", first.0, first.1);
+    for (records, key) in DAMAGED {
+        let is_told = is_damaged_at(&rt, rt.alloc(), records, key)?;
+        assert!(rt; is_told, "of {} {}", key.0, key.1);
     }
     Ok(())
 }
@@ -149,11 +146,6 @@ fn opened<R: Wait + Sync>(
     }
 }
 
-/// A store without records, whose calls of these numbers fail.
-fn empty(alloc: Global, failing: Vec<u64>) -> MapKeeper {
-    MapKeeper::new(Vec::new(alloc), failing)
-}
-
 /// The count of the first line of a store whose order isn't that of the tables.
 fn first_count<R: Wait + Sync>(rt: &R, alloc: Global) -> Result<Option<u32>, Fail> {
     let clerk = opened(rt, alloc, store(alloc, &REORDERED, Vec::new(alloc))?)?;
@@ -166,20 +158,6 @@ fn first_count<R: Wait + Sync>(rt: &R, alloc: Global) -> Result<Option<u32>, Fai
 #[test]
 fn a_store_in_another_order_is_opened(rt: HostRuntime) -> Result<(), Fail> {
     assert_eq!(rt; first_count(&rt, rt.alloc())?, Some(1));
-    Ok(())
-}
-
-/// How many records an empty store has once it was opened, and how many edits it has then.
-fn counts_at_start<R: Wait + Sync>(rt: &R, alloc: Global) -> Result<(usize, u64), Fail> {
-    let clerk = opened(rt, alloc, empty(alloc, Vec::new(alloc)))?;
-    let number = clerk.number();
-    let keeper = clerk.close(rt);
-    Ok((keeper.records().len(), number))
-}
-
-#[test]
-fn an_empty_store_gets_the_start_records(rt: HostRuntime) -> Result<(), Fail> {
-    assert_eq!(rt; counts_at_start(&rt, rt.alloc())?, (20, 0));
     Ok(())
 }
 
@@ -214,23 +192,6 @@ fn are_numbered<R: Wait + Sync>(
     Ok(true)
 }
 
-/// Whether each edit gets its number, and after the store was closed and opened again the kept one.
-fn are_kept<R: Wait + Sync>(rt: &R, alloc: Global) -> Result<bool, Fail> {
-    let mut clerk = opened(rt, alloc, empty(alloc, Vec::new(alloc)))?;
-    if !are_numbered(rt, alloc, &mut clerk)? {
-        return Ok(false);
-    }
-    let keeper = clerk.close(rt);
-    let mut again = opened(rt, alloc, keeper)?;
-    Ok(are_numbered(rt, alloc, &mut again)? && again.number() == 19)
-}
-
-#[test]
-fn a_desk_that_is_opened_again_keeps_its_numbers(rt: HostRuntime) -> Result<(), Fail> {
-    assert!(rt; are_kept(&rt, rt.alloc())?);
-    Ok(())
-}
-
 /// Whether each edit fails at first, without being entered, and gets its number when it is sent again.
 fn are_entered_once<R: Wait + Sync>(
     rt: &R,
@@ -249,22 +210,30 @@ fn are_entered_once<R: Wait + Sync>(
     Ok(true)
 }
 
-/// The records of a store at each edit of which the keeper failed once. The first two calls open it.
+/// How many records a store has at each edit of which the keeper failed once, where each edit gets its number once it is
+/// kept, and the same number after the store was closed and opened again. The first two calls open it.
 fn records_after_faults<R: Wait + Sync>(rt: &R, alloc: Global) -> Result<Option<usize>, Fail> {
     let mut failing = Vec::new(alloc);
     for call in (3..41).step_by(2) {
         failing.push(call)?;
     }
-    let mut clerk = opened(rt, alloc, empty(alloc, failing))?;
+    let mut clerk = opened(rt, alloc, MapKeeper::new(Vec::new(alloc), failing))?;
     if !are_entered_once(rt, alloc, &mut clerk)? {
         return Ok(None);
     }
-    let keeper = clerk.close(rt);
+    let kept = clerk.close(rt);
+    let mut again = opened(rt, alloc, kept)?;
+    if !are_numbered(rt, alloc, &mut again)? || again.number() != 19 {
+        return Ok(None);
+    }
+    let keeper = again.close(rt);
     Ok(Some(keeper.records().len()))
 }
 
 #[test]
-fn an_edit_whose_commit_fails_leaves_no_trace(rt: HostRuntime) -> Result<(), Fail> {
+fn an_edit_whose_commit_fails_leaves_no_trace_and_is_kept_then(
+    rt: HostRuntime,
+) -> Result<(), Fail> {
     // Twenty of the start tables, nineteen tickets, and the eighteen rows that the edits leave.
     assert_eq!(rt; records_after_faults(&rt, rt.alloc())?, Some(57));
     Ok(())
@@ -277,20 +246,15 @@ fn fails_at<R: Wait + Sync>(rt: &R, alloc: Global, call: u64) -> Result<bool, Fa
     let Err(refused) = Clerk::open(rt, alloc, store(alloc, &records, failing)?) else {
         return Ok(false);
     };
-    let is_failed = match &refused.fault {
-        OpenFault::KeeperFault => true,
-        _ => false,
-    };
+    let is_failed = matches!(&refused.fault, OpenFault::KeeperFault);
     Ok(is_failed && refused.keeper.faults() == 1 && refused.keeper.records().len() == 2)
 }
 
 #[test]
 fn an_opening_fails_at_each_of_its_calls(rt: HostRuntime) -> Result<(), Fail> {
-    let alloc = rt.alloc();
     // The first call puts the records in. The opening takes three: a call for each record, and one that finds no more.
-    for call in 2..5 {
-        assert!(rt; fails_at(&rt, alloc, call)?);
+    for call in 2..6 {
+        assert_eq!(rt; fails_at(&rt, rt.alloc(), call)?, call < 5, "call {call}");
     }
-    assert!(rt; !fails_at(&rt, alloc, 5)?);
     Ok(())
 }

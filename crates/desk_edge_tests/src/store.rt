@@ -32,13 +32,6 @@ fn three_records(alloc: Global, failing: Vec<u64>) -> Result<MapKeeper, KeepFaul
     Ok(keeper)
 }
 
-/// A shelf of one empty store `desk`, whose calls of these numbers fail.
-fn one_store(alloc: Global, failing: Vec<u64>) -> Result<MapShelf, Fail> {
-    let keeper = MapKeeper::new(Vec::new(alloc), failing);
-    let stores = [(bytes(alloc, "desk")?, keeper)];
-    Ok(MapShelf::new(alloc, Vec::from_array(alloc, stores)?, Vec::new(alloc)))
-}
-
 /// The body of the first record past the key.
 fn body_past(
     alloc: Global,
@@ -55,41 +48,21 @@ fn body_past(
 fn records_are_given_in_the_order_of_kind_and_code(rt: HostRuntime) -> Result<(), Fail> {
     let alloc = rt.alloc();
     let mut keeper = three_records(alloc, Vec::new(alloc))?;
-    assert_eq!(rt;
-        body_past(alloc, &mut keeper, None)?,
-        Some(bytes(alloc, "first")?)
-    );
-    let first = key(alloc, 1, "a")?;
-    assert_eq!(rt;
-        body_past(alloc, &mut keeper, Some(&first))?,
-        Some(bytes(alloc, "second")?)
-    );
-    let between = key(alloc, 1, "bb")?;
-    assert_eq!(rt;
-        body_past(alloc, &mut keeper, Some(&between))?,
-        Some(bytes(alloc, "two")?)
-    );
-    let last = key(alloc, 2, "a")?;
-    assert_eq!(rt; body_past(alloc, &mut keeper, Some(&last))?, None);
-    Ok(())
-}
-
-#[test]
-fn the_changes_of_a_batch_are_made_one_after_the_other(rt: HostRuntime) -> Result<(), Fail> {
-    let alloc = rt.alloc();
-    let mut keeper = three_records(alloc, Vec::new(alloc))?;
-    let batch = [
-        Change::Drop(key(alloc, 1, "a")?),
-        put(alloc, 1, "a", "again")?,
-        Change::Drop(key(alloc, 1, "b")?),
-        Change::Drop(key(alloc, 9, "none")?),
-    ];
-    keeper.commit(alloc, &batch)?;
-    assert_eq!(rt; keeper.records().len(), 2);
-    assert_eq!(rt;
-        body_past(alloc, &mut keeper, None)?,
-        Some(bytes(alloc, "again")?)
-    );
+    let first = body_past(alloc, &mut keeper, None)?;
+    assert_eq!(rt; first, Some(bytes(alloc, "first")?));
+    for (kind, code, body) in [
+        (1, "a", Some("second")),
+        (1, "bb", Some("two")),
+        (2, "a", None),
+    ] {
+        let found = body_past(alloc, &mut keeper, Some(&key(alloc, kind, code)?))?;
+        let found = found.as_ref().map(|found| found.as_slice());
+        assert_eq!(rt;
+            found,
+            body.map(|body| body.as_bytes()),
+            "past {kind} {code}"
+        );
+    }
     Ok(())
 }
 
@@ -106,22 +79,6 @@ fn a_failing_call_is_counted_and_changes_nothing(rt: HostRuntime) -> Result<(), 
 }
 
 #[test]
-fn a_closed_store_is_opened_again_as_it_was(rt: HostRuntime) -> Result<(), Fail> {
-    let alloc = rt.alloc();
-    let mut shelf = MapShelf::new(alloc, Vec::new(alloc), Vec::new(alloc));
-    let mut store = shelf.open_store(alloc, b"desk")?;
-    let batch = [put(alloc, 1, "a", "first")?];
-    store.commit(alloc, &batch)?;
-    shelf.close_store(b"desk", store);
-    let store = shelf.open_store(alloc, b"desk")?;
-    assert_eq!(rt; store.records().len(), 1);
-    let other = shelf.open_store(alloc, b"other")?;
-    assert_eq!(rt; other.records().len(), 0);
-    assert_eq!(rt; shelf.faults(), 0);
-    Ok(())
-}
-
-#[test]
 fn a_store_that_is_open_is_not_opened_again(rt: HostRuntime) -> Result<(), Fail> {
     let alloc = rt.alloc();
     let mut shelf = MapShelf::new(alloc, Vec::new(alloc), [3].to_vec(alloc)?);
@@ -131,20 +88,5 @@ fn a_store_that_is_open_is_not_opened_again(rt: HostRuntime) -> Result<(), Fail>
     assert_eq!(rt; shelf.faults(), 2);
     shelf.close_store(b"desk", store);
     assert!(rt; shelf.open_store(alloc, b"desk").is_ok());
-    Ok(())
-}
-
-#[test]
-fn a_shelf_counts_that_a_closed_store_had_faults(rt: HostRuntime) -> Result<(), Fail> {
-    let alloc = rt.alloc();
-    let mut shelf = one_store(alloc, [1, 2].to_vec(alloc)?)?;
-    let mut store = shelf.open_store(alloc, b"desk")?;
-    assert!(rt; store.next_record(alloc, None).is_err());
-    shelf.close_store(b"desk", store);
-    assert_eq!(rt; shelf.faults(), 1);
-    let mut store = shelf.open_store(alloc, b"desk")?;
-    assert_eq!(rt; store.faults(), 0);
-    assert!(rt; store.next_record(alloc, None).is_err());
-    assert!(rt; store.next_record(alloc, None).is_ok());
     Ok(())
 }

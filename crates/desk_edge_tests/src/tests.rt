@@ -21,21 +21,6 @@ fn link(
 }
 
 #[test]
-fn a_link_in_memory_gives_pieces_and_then_its_end(rt: HostRuntime) -> Result<(), Fail> {
-    let mut link = link(rt.alloc(), b"abcde", 2, 0, &[])?;
-    let mut buffer = [0; 4];
-    let mut pieces = Vec::new(rt.alloc());
-    for _ in 0..5 {
-        let given = link.read(&mut buffer)?;
-        assert!(rt; given <= 4);
-        pieces.push(buffer[..given].to_vec(rt.alloc())?)?;
-    }
-    let found = format!(in rt.alloc(); "{pieces:?}")?;
-    assert_eq!(rt; found.as_str(), "[[97, 98], [99, 100], [101], [], []]");
-    Ok(())
-}
-
-#[test]
 fn a_link_in_memory_fails_on_its_numbered_calls_and_on_no_other(
     rt: HostRuntime,
 ) -> Result<(), Fail> {
@@ -46,10 +31,8 @@ fn a_link_in_memory_fails_on_its_numbered_calls_and_on_no_other(
     assert_eq!(rt; link.write(b"x"), Ok(1));
     assert_eq!(rt; link.write(b"y"), Err(Failed));
     assert_eq!(rt; link.write(b"yz"), Ok(1));
-    assert_eq!(rt; link.write(b""), Ok(0));
     assert_eq!(rt; link.write(b"z"), Err(Failed));
     assert_eq!(rt; link.read(&mut buffer), Ok(1));
-    assert_eq!(rt; buffer.as_slice(), b"b".as_slice());
     assert_eq!(rt; link.written(), b"xy".as_slice());
     Ok(())
 }
@@ -80,33 +63,15 @@ fn reading_stops_with_the_byte_after_the_limit(rt: HostRuntime) -> Result<(), Fa
 }
 
 #[test]
-fn the_largest_input_and_output_find_memory(rt: HostRuntime) -> Result<(), Fail> {
-    for length in [65_536, 65_537] {
-        let input = vec![in rt.alloc(); b'x'; length]?;
-        let mut reading = link(rt.alloc(), input.as_slice(), 100_000, 0, &[])?;
-        let bytes = read_up_to(rt.alloc(), &mut reading, 65_536)
-            .ok()
-            .ok_or("a fault")?;
-        assert_eq!(rt; bytes.len(), length);
-    }
-    let output = vec![in rt.alloc(); b'x'; 70_000]?;
-    let mut writing = link(rt.alloc(), b"", 1, 70_000, &[])?;
-    assert_eq!(rt; write_all(&mut writing, output.as_slice()), Ok(()));
-    assert_eq!(rt; writing.written().len(), 70_000);
-    Ok(())
-}
-
-#[test]
 fn a_fault_ends_reading_and_writing(rt: HostRuntime) -> Result<(), Fail> {
     let mut reading = link(rt.alloc(), b"abc", 1, 0, &[3])?;
     let fault = read_up_to(rt.alloc(), &mut reading, 8).err();
     assert_eq!(rt; fault, Some(ReadFault::Failed));
-    let mut writing = link(rt.alloc(), b"", 1, 2, &[])?;
-    assert_eq!(rt; write_all(&mut writing, b"abc"), Err(Failed));
-    assert_eq!(rt; writing.written(), b"ab".as_slice());
-    let mut enough = link(rt.alloc(), b"", 1, 3, &[])?;
-    assert_eq!(rt; write_all(&mut enough, b"abc"), Ok(()));
-    assert_eq!(rt; enough.written(), b"abc".as_slice());
+    for (room, written) in [(2, Err(Failed)), (3, Ok(()))] {
+        let mut writing = link(rt.alloc(), b"", 1, room, &[])?;
+        assert_eq!(rt; write_all(&mut writing, b"abc"), written);
+        assert_eq!(rt; writing.written().len(), room);
+    }
     Ok(())
 }
 
@@ -197,9 +162,5 @@ fn a_link_over_std_tells_what_its_reader_and_writer_tell(rt: HostRuntime) -> Res
     assert_eq!(rt; text.as_slice(), b"text".as_slice());
     let output = b"an ".as_slice().to_vec(rt.alloc())?;
     assert!(rt; write_vector(output, b"answer").is_ok());
-    let mut held = Vec::new(rt.alloc());
-    let mut link = StdLink::new(io::empty(), &mut held);
-    assert_eq!(rt; write_all(&mut link, b"answer"), Ok(()));
-    assert_eq!(rt; held.as_slice(), b"answer".as_slice());
     Ok(())
 }

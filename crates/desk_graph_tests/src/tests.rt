@@ -17,13 +17,6 @@ fn add(bill: &mut Bill, alloc: Global, label: &[u8]) -> Result<NodeId, Fail> {
     Ok(bill.add_node(alloc, label)?)
 }
 
-/// Whether all of the nodes are there.
-fn are_there(bill: &Bill, nodes: &[NodeId]) -> bool {
-    nodes
-        .iter()
-        .all(|node| (*node as usize) < bill.node_count())
-}
-
 /// Sets a line between nodes that are there.
 fn set(
     bill: &mut Bill,
@@ -45,6 +38,18 @@ fn chain_of(answer: Result<(), LineFault>) -> Option<Path> {
         Err(LineFault::Closes { chain }) => Some(chain),
         _ => None,
     }
+}
+
+/// A bill with a node for each letter, and these lines from a parent to a child, so many times.
+fn bill_of(alloc: Global, labels: &str, lines: &[(NodeId, NodeId, u32)]) -> Result<Bill, Fail> {
+    let mut bill = Bill::start(alloc)?;
+    for label in labels.as_bytes() {
+        add(&mut bill, alloc, &[*label])?;
+    }
+    for (parent, child, count) in lines {
+        set(&mut bill, alloc, *parent, *child, *count)?;
+    }
+    Ok(bill)
 }
 
 /// The lines of a node, and those of its users.
@@ -80,94 +85,63 @@ fn affected(bill: &Bill, alloc: Global, seed: NodeId) -> Result<Vec<NodeId>, Fai
     Ok(bill.affected(alloc, &[seed])?)
 }
 
-#[test]
-fn a_label_is_taken_once(rt: HostRuntime) -> Result<(), Fail> {
-    let alloc = rt.alloc();
-    let mut bill = Bill::start(alloc)?;
-    assert_eq!(rt; bill.add_node(alloc, b"A"), Ok(0));
-    assert_eq!(rt; bill.add_node(alloc, b"B"), Ok(1));
-    assert_eq!(rt; bill.add_node(alloc, b"A"), Err(NodeFault::Taken));
-    assert_eq!(rt; bill.add_node(alloc, b"AA"), Ok(2));
-    Ok(())
-}
+/// The labels of a bill, its lines, the parent and the child of one that closes a cycle, and its chain.
+type Cycle = (
+    &'static str,
+    &'static [(NodeId, NodeId, u32)],
+    (NodeId, NodeId),
+    &'static [NodeId],
+);
+
+const CYCLES: [Cycle; 3] = [
+    ("XYZ", &[(0, 1, 1), (1, 2, 1)], (2, 0), &[0, 1, 2]),
+    ("X", &[], (0, 0), &[0]),
+    // The chain takes B, which was added after C.
+    (
+        "MCBA",
+        &[(3, 1, 2), (3, 2, 2), (1, 0, 2), (2, 0, 2)],
+        (0, 3),
+        &[3, 2, 0],
+    ),
+];
 
 #[test]
-fn a_line_that_closes_a_cycle_tells_its_chain(rt: HostRuntime) -> Result<(), Fail> {
-    let alloc = rt.alloc();
-    let mut bill = Bill::start(alloc)?;
-    let x = add(&mut bill, alloc, b"X")?;
-    let y = add(&mut bill, alloc, b"Y")?;
-    let z = add(&mut bill, alloc, b"Z")?;
-    set(&mut bill, alloc, x, y, 1)?;
-    set(&mut bill, alloc, y, z, 1)?;
-    let chain = chain_of(set(&mut bill, alloc, z, x, 1));
-    assert!(rt; chain.is_some_and(|path| path.as_slice() == [x, y, z].as_slice()));
-    let chain = chain_of(set(&mut bill, alloc, x, x, 1));
-    assert!(rt; chain.is_some_and(|path| path.as_slice() == [x].as_slice()));
-    let above = affected(&bill, alloc, z)?;
-    assert_eq!(rt; above.as_slice(), [z, y, x].as_slice());
-    Ok(())
-}
-
-#[test]
-fn a_chain_takes_the_child_with_the_least_label(rt: HostRuntime) -> Result<(), Fail> {
-    let alloc = rt.alloc();
-    let mut bill = Bill::start(alloc)?;
-    let last = add(&mut bill, alloc, b"M")?;
-    let later = add(&mut bill, alloc, b"C")?;
-    let least = add(&mut bill, alloc, b"B")?;
-    let first = add(&mut bill, alloc, b"A")?;
-    for (parent, child) in [(first, later), (first, least), (later, last), (least, last)] {
-        set(&mut bill, alloc, parent, child, 2)?;
+fn a_line_that_closes_a_cycle_tells_its_chain_by_least_labels(rt: HostRuntime) -> Result<(), Fail> {
+    for (labels, lines, (parent, child), told) in CYCLES {
+        let mut bill = bill_of(rt.alloc(), labels, lines)?;
+        let chain = chain_of(set(&mut bill, rt.alloc(), parent, child, 1));
+        assert!(rt;
+            chain.is_some_and(|path| path.as_slice() == told),
+            "of {labels}"
+        );
     }
-    let chain = chain_of(set(&mut bill, alloc, last, first, 1));
-    assert!(rt; chain.is_some_and(|path| path.as_slice() == [first, least, last].as_slice()));
     Ok(())
 }
 
+/// Whether a node has just these lines, and these users.
+fn has_ends(
+    alloc: Global,
+    bill: &Bill,
+    id: NodeId,
+    lines: &[BillLine],
+    users: &[BillLine],
+) -> Result<bool, Fail> {
+    let found = ends_of(alloc, bill, id)?;
+    Ok(found.0.as_slice() == lines && found.1.as_slice() == users)
+}
+
 #[test]
-fn the_lines_of_a_node_are_those_of_its_users(rt: HostRuntime) -> Result<(), Fail> {
+fn a_line_stands_at_both_ends_until_it_is_dropped(rt: HostRuntime) -> Result<(), Fail> {
     let alloc = rt.alloc();
-    let mut bill = Bill::start(alloc)?;
-    let b = add(&mut bill, alloc, b"B")?;
-    let a = add(&mut bill, alloc, b"A")?;
-    let top = add(&mut bill, alloc, b"TOP")?;
-    for (child, count) in [(b, 5), (a, 7), (b, 6)] {
-        set(&mut bill, alloc, top, child, count)?;
-    }
-    let (lines, users) = ends_of(alloc, &bill, top)?;
-    let wanted = [
-        BillLine { node: a, count: 7 },
-        BillLine { node: b, count: 6 },
-    ];
-    assert_eq!(rt; lines.as_slice(), wanted.as_slice());
-    assert!(rt; users.is_empty());
-    let (_, users) = ends_of(alloc, &bill, b)?;
-    assert_eq!(rt;
-        users.as_slice(),
-        [BillLine {
-            node: top,
-            count: 6
-        }]
-        .as_slice()
+    let mut bill = bill_of(alloc, "BAT", &[(2, 0, 5), (2, 1, 7), (2, 0, 6)])?;
+    let (b, a) = (
+        BillLine { node: 0, count: 6 },
+        BillLine { node: 1, count: 7 },
     );
-    Ok(())
-}
-
-#[test]
-fn a_dropped_line_is_gone_from_both_ends(rt: HostRuntime) -> Result<(), Fail> {
-    let alloc = rt.alloc();
-    let mut bill = Bill::start(alloc)?;
-    let a = add(&mut bill, alloc, b"A")?;
-    let b = add(&mut bill, alloc, b"B")?;
-    set(&mut bill, alloc, b, a, 1)?;
-    assert!(rt; are_there(&bill, &[a, b]));
-    assert!(rt; drop_there(&mut bill, b, a));
-    assert!(rt; !drop_there(&mut bill, b, a));
-    let (lines, _) = ends_of(alloc, &bill, b)?;
-    let (_, users) = ends_of(alloc, &bill, a)?;
-    assert!(rt; lines.is_empty() && users.is_empty());
-    set(&mut bill, alloc, a, b, 1)?;
+    assert!(rt; has_ends(alloc, &bill, 2, &[a, b], &[])?);
+    assert!(rt; has_ends(alloc, &bill, 0, &[], &[BillLine { node: 2, count: 6 }])?);
+    assert!(rt; drop_there(&mut bill, 2, 0) && !drop_there(&mut bill, 2, 0));
+    assert!(rt; has_ends(alloc, &bill, 2, &[a], &[])? && has_ends(alloc, &bill, 0, &[], &[])?);
     Ok(())
 }
 
@@ -198,43 +172,14 @@ fn layers(alloc: Global, many: u32) -> Result<Bill, Fail> {
 }
 
 #[test]
-fn forty_layers_are_affected_each_node_once(rt: HostRuntime) -> Result<(), Fail> {
-    let alloc = rt.alloc();
-    let mut bill = layers(alloc, 40)?;
-    let above = affected(&bill, alloc, 1)?;
-    assert_eq!(rt; above.len(), 79);
-    assert_eq!(rt; above[0], 1);
-    let chain = chain_of(set(&mut bill, alloc, 0, 78, 1));
-    assert!(rt; chain.is_some_and(|path| path.as_slice().len() == 40));
-    Ok(())
-}
-
-#[test]
-fn a_copy_goes_its_own_way(rt: HostRuntime) -> Result<(), Fail> {
-    let alloc = rt.alloc();
-    let bill = layers(alloc, 3)?;
-    let mut copy = bill.copied(alloc)?;
-    assert!(rt; drop_there(&mut copy, 2, 0));
-    assert_eq!(rt; affected(&bill, alloc, 0)?.len(), 5);
-    let above = affected(&copy, alloc, 0)?;
-    assert_eq!(rt; above.len(), 4);
-    assert!(rt; !above.contains(&2));
-    Ok(())
-}
-
-#[test]
-fn thousands_of_nodes_and_lines_go_in(rt: HostRuntime) -> Result<(), Fail> {
-    let alloc = rt.alloc();
-    let mut bill = layers(alloc, 1_000)?;
-    let whole = affected(&bill, alloc, 0)?;
-    assert_eq!(rt; whole.len(), 1_999);
-    assert!(rt; drop_there(&mut bill, 2, 0) && drop_there(&mut bill, 3, 0));
-    assert_eq!(rt; affected(&bill, alloc, 0)?.len(), 1);
-    set(&mut bill, alloc, 0, 1_998, 3)?;
-    assert_eq!(rt;
-        affected(&bill, alloc, 1_998)?.as_slice(),
-        [1_998, 0].as_slice()
-    );
+fn nodes_of_many_layers_are_affected_once(rt: HostRuntime) -> Result<(), Fail> {
+    for (many, top) in [(40, 78), (1_000, 1_998)] {
+        let mut bill = layers(rt.alloc(), many)?;
+        let above = affected(&bill, rt.alloc(), 1)?;
+        assert_eq!(rt; above.len(), top + 1);
+        let chain = chain_of(set(&mut bill, rt.alloc(), 0, top as NodeId, 1));
+        assert!(rt; chain.is_some_and(|path| path.as_slice().len() == many as usize));
+    }
     Ok(())
 }
 
@@ -292,101 +237,56 @@ fn tells_what_comes(bill: &mut Bill, alloc: Global, plan: BillPlan) -> Result<bo
     Ok(alike)
 }
 
-/// Whether a planned line is told as it comes, where it may be set.
-fn set_is_told(
-    bill: &mut Bill,
-    alloc: Global,
-    parent: NodeId,
-    child: NodeId,
-) -> Result<bool, Fail> {
-    let nodes = bill.node_count();
+/// Whether a bill with a line, where it may be set, and one more node is told as it comes.
+fn set_is_told(bill: &Bill, alloc: Global, parent: NodeId, child: NodeId) -> Result<bool, Fail> {
+    let mut copy = bill.copied(alloc)?;
+    let nodes = copy.node_count();
     if parent as usize >= nodes || child as usize >= nodes {
         return Err(Fail::new("no node"));
     }
-    match bill.plan_set(alloc, parent, child, 7) {
-        Ok(plan) => tells_what_comes(bill, alloc, plan),
+    match copy.plan_set(alloc, parent, child, 7) {
+        Ok(mut plan) => {
+            copy.plan_node(&mut plan, b"N")?;
+            tells_what_comes(&mut copy, alloc, plan)
+        }
         Err(LineFault::Closes { chain: _ }) => Ok(parent <= child),
         Err(fault) => Err(Fail::from(fault)),
     }
 }
 
 /// Whether a bill without a line is told as it comes.
-fn drop_is_told(
-    bill: &mut Bill,
-    alloc: Global,
-    parent: NodeId,
-    child: NodeId,
-) -> Result<bool, Fail> {
-    let nodes = bill.node_count();
+fn drop_is_told(bill: &Bill, alloc: Global, parent: NodeId, child: NodeId) -> Result<bool, Fail> {
+    let mut copy = bill.copied(alloc)?;
+    let nodes = copy.node_count();
     if parent as usize >= nodes || child as usize >= nodes {
         return Err(Fail::new("no node"));
     }
-    let plan = bill.plan_drop(alloc, parent, child)?;
-    tells_what_comes(bill, alloc, plan)
+    let plan = copy.plan_drop(alloc, parent, child)?;
+    tells_what_comes(&mut copy, alloc, plan)
 }
 
 #[test]
 fn a_planned_bill_tells_what_the_bill_tells_then(rt: HostRuntime) -> Result<(), Fail> {
-    let alloc = rt.alloc();
-    let mut bill = layers(alloc, 3)?;
-    add(&mut bill, alloc, b"low")?;
-    for parent in 0..7 {
-        for child in 0..7 {
-            let mut copy = bill.copied(alloc)?;
-            assert!(rt;
-                set_is_told(&mut copy, alloc, parent, child)?,
-                "{parent} to {child}"
-            );
-            let mut copy = bill.copied(alloc)?;
-            assert!(rt;
-                drop_is_told(&mut copy, alloc, parent, child)?,
-                "{parent} to {child}"
-            );
+    let bill = layers(rt.alloc(), 3)?;
+    for parent in 0..6 {
+        for child in 0..6 {
+            let told = set_is_told(&bill, rt.alloc(), parent, child)?
+                && drop_is_told(&bill, rt.alloc(), parent, child)?;
+            assert!(rt; told, "{parent} to {child}");
         }
     }
     Ok(())
 }
 
 #[test]
-fn planned_nodes_have_the_next_numbers_and_no_lines(rt: HostRuntime) -> Result<(), Fail> {
-    let alloc = rt.alloc();
-    let mut bill = layers(alloc, 3)?;
-    let mut plan = bill.plan_nothing(alloc);
-    assert_eq!(rt; bill.plan_node(&mut plan, b"N"), Ok(6));
-    assert_eq!(rt; bill.plan_node(&mut plan, b"M"), Ok(7));
+fn planned_nodes_have_the_next_numbers(rt: HostRuntime) -> Result<(), Fail> {
+    let bill = layers(rt.alloc(), 3)?;
+    let mut plan = bill.plan_nothing(rt.alloc());
     let taken = PlanFault::Node {
         fault: NodeFault::Taken,
     };
+    assert_eq!(rt; bill.plan_node(&mut plan, b"N"), Ok(6));
     assert_eq!(rt; bill.plan_node(&mut plan, b"N"), Err(taken));
     assert_eq!(rt; bill.plan_node(&mut plan, b"1a"), Err(taken));
-    assert_eq!(rt; bill.node_count(), 6);
-    assert!(rt; tells_what_comes(&mut bill, alloc, plan)?);
-    assert_eq!(rt; bill.node_count(), 8);
-    Ok(())
-}
-
-/// Whether a plan of a line and of a new node is told as it comes.
-fn line_and_node_are_told(
-    bill: &mut Bill,
-    alloc: Global,
-    parent: NodeId,
-    child: NodeId,
-) -> Result<bool, Fail> {
-    let nodes = bill.node_count();
-    if parent as usize >= nodes || child as usize >= nodes {
-        return Err(Fail::new("no node"));
-    }
-    let mut plan = bill.plan_set(alloc, parent, child, 3)?;
-    bill.plan_node(&mut plan, b"N")?;
-    tells_what_comes(bill, alloc, plan)
-}
-
-#[test]
-fn a_plan_may_set_a_line_and_add_a_node(rt: HostRuntime) -> Result<(), Fail> {
-    let alloc = rt.alloc();
-    let mut bill = layers(alloc, 3)?;
-    let low = add(&mut bill, alloc, b"low")?;
-    assert!(rt; line_and_node_are_told(&mut bill, alloc, 0, low)?);
-    assert_eq!(rt; bill.node_count(), 8);
     Ok(())
 }

@@ -46,17 +46,14 @@ fn exported_again<R: Wait + Sync>(
 
 #[test]
 fn the_start_tables_are_twenty_lines(rt: HostRuntime) -> Result<(), Fail> {
-    let alloc = rt.alloc();
-    let (answer, written) = exported_start(alloc, AMPLE, &[])?;
+    let (answer, written) = exported_start(rt.alloc(), AMPLE, &[])?;
     assert_eq!(rt; answer, Ok(20));
-    let lines = written.as_slice();
-    let first = bytes(alloc, "1|bbp|1|Butyl benzyl phthalate (BBP)|85-68-7\n")?;
-    assert!(rt; lines.starts_with(first.as_slice()));
+    let tenth = written.as_slice().split(|b| *b == b'\n').nth(10);
+    assert_eq!(rt; tenth, Some(b"2\tbbp/bbp\t1\t1000000".as_slice()));
     assert_eq!(rt;
-        lines.split(|b| *b == b'\n').nth(10),
-        Some(bytes(alloc, "2|bbp/bbp|1|1000000")?.as_slice())
+        written.as_slice().iter().filter(|b| **b == b'\n').count(),
+        20
     );
-    assert_eq!(rt; lines.iter().filter(|b| **b == b'\n').count(), 20);
     Ok(())
 }
 
@@ -71,14 +68,13 @@ fn a_desk_that_was_imported_is_exported_as_it_was(rt: HostRuntime) -> Result<(),
 
 #[test]
 fn a_write_that_fails_leaves_a_beginning(rt: HostRuntime) -> Result<(), Fail> {
-    let alloc = rt.alloc();
-    let first = bytes(alloc, "1|bbp|1|Butyl benzyl phthalate (BBP)|85-68-7\n")?;
-    let (answer, written) = exported_start(alloc, 24, &[])?;
-    assert_eq!(rt; answer, Err(ReportFault::LinkFault));
-    assert_eq!(rt; written.len(), 24);
-    assert!(rt; first.as_slice().starts_with(written.as_slice()));
-    let (answer, written) = exported_start(alloc, AMPLE, &[2])?;
-    assert_eq!(rt; answer, Err(ReportFault::LinkFault));
-    assert_eq!(rt; written, first);
+    let first = bytes(rt.alloc(), "1|bbp|1|Butyl benzyl phthalate (BBP)|85-68-7\n")?;
+    let failing: [(usize, &[u64], usize); 2] = [(24, &[], 24), (AMPLE, &[2], first.len())];
+    for (room, calls, length) in failing {
+        let (answer, written) = exported_start(rt.alloc(), room, calls)?;
+        assert_eq!(rt; answer, Err(ReportFault::LinkFault));
+        assert_eq!(rt; written.len(), length);
+        assert!(rt; first.as_slice().starts_with(written.as_slice()));
+    }
     Ok(())
 }

@@ -8,8 +8,8 @@ use desk_report::{ReportFault, import};
 use std::alloc::Global;
 use std::test::Fail;
 
-/// Inputs that are no export file, and the line that is told.
-const DAMAGED: [(&str, u64); 22] = [
+/// Inputs that are no export file, and the line that is told. Of lines that no sound tables have, each for another clause, 0 is told.
+const DAMAGED: [(&str, u64); 36] = [
     ("lead\n", 1),
     ("1|lead\n", 1),
     ("\n", 1),
@@ -32,24 +32,23 @@ const DAMAGED: [(&str, u64); 22] = [
     ("10|E:t1|1|01|unexempt|X\n", 1),
     ("1|lead|1|Lead|7439-92-1\n\n1|zinc|1|Zinc|\n", 2),
     ("1|lead|1|Lead|7439-92-1\nzinc\n1|lead|1|Lead|7439-92-1", 2),
-];
-
-/// Lines of records that no sound tables have, each for another clause.
-const UNSOUND: [&str; 14] = [
-    "2|zinc/lead|1|5\n",
-    "3|X|1|ACME|7|2024-01-23|Paste|1000|1|lead|5|0\n",
-    "3|X|1|ACME|7|2024-01-23|Paste|1000|0|0\n4|X|1|assembly|Frame\n",
-    "4|A|1|article|Pin\n4|B|1|article|Pin\n5|A/B|1|1\n",
-    "4|A|1|assembly|Frame\n5|A/A|1|1\n",
-    "4|A|1|assembly|Frame\n5|A/B|1|1\n",
-    "5|A/B|1|1\n",
-    "6|A|1|3\n",
-    "8|lead|1|2018-06-27\n",
-    "9|2024/A|1|5\n",
-    "4|A|1|assembly|Frame\n9|2024/A|1|5\n",
-    "10|E:t1|1|2|unexempt|X\n",
-    "10|E:t1|1|1|unexempt|X\n10|E:t2|1|1|unexempt|Y\n",
-    "10|D:ACME:7|1|1|line|A|B|1\n",
+    ("2|zinc/lead|1|5\n", 0),
+    ("3|X|1|ACME|7|2024-01-23|Paste|1000|1|lead|5|0\n", 0),
+    (
+        "3|X|1|ACME|7|2024-01-23|Paste|1000|0|0\n4|X|1|assembly|Frame\n",
+        0,
+    ),
+    ("4|A|1|article|Pin\n4|B|1|article|Pin\n5|A/B|1|1\n", 0),
+    ("4|A|1|assembly|Frame\n5|A/A|1|1\n", 0),
+    ("4|A|1|assembly|Frame\n5|A/B|1|1\n", 0),
+    ("5|A/B|1|1\n", 0),
+    ("6|A|1|3\n", 0),
+    ("8|lead|1|2018-06-27\n", 0),
+    ("9|2024/A|1|5\n", 0),
+    ("4|A|1|assembly|Frame\n9|2024/A|1|5\n", 0),
+    ("10|E:t1|1|2|unexempt|X\n", 0),
+    ("10|E:t1|1|1|unexempt|X\n10|E:t2|1|1|unexempt|Y\n", 0),
+    ("10|D:ACME:7|1|1|line|A|B|1\n", 0),
 ];
 
 /// What an import of this input into an empty store answers, and the records that the store has then.
@@ -82,30 +81,6 @@ fn the_first_damaged_line_is_told(rt: HostRuntime) -> Result<(), Fail> {
 }
 
 #[test]
-fn lines_of_no_sound_tables_are_told_as_line_0(rt: HostRuntime) -> Result<(), Fail> {
-    for input in UNSOUND {
-        assert_eq!(rt; damaged_line(rt.alloc(), input)?, Some(0), "of {input}");
-    }
-    Ok(())
-}
-
-#[test]
-fn an_empty_input_puts_nothing_in(rt: HostRuntime) -> Result<(), Fail> {
-    let (answer, keeper) = imported(rt.alloc(), "", (&[], &[]))?;
-    assert_eq!(rt; answer, Ok(0));
-    assert!(rt; keeper.records().is_empty());
-    Ok(())
-}
-
-#[test]
-fn a_desk_is_imported_whole(rt: HostRuntime) -> Result<(), Fail> {
-    let (answer, keeper) = imported(rt.alloc(), DESK, (&[], &[]))?;
-    assert_eq!(rt; answer, Ok(16));
-    assert_eq!(rt; keeper.records().len(), 16);
-    Ok(())
-}
-
-#[test]
 fn a_store_that_has_a_record_takes_no_others(rt: HostRuntime) -> Result<(), Fail> {
     let alloc = rt.alloc();
     let some: [Told; 1] = [(1, "lead", "1|Lead|7439-92-1")];
@@ -120,15 +95,16 @@ fn a_store_that_has_a_record_takes_no_others(rt: HostRuntime) -> Result<(), Fail
 
 #[test]
 fn a_refused_call_leaves_the_store_empty(rt: HostRuntime) -> Result<(), Fail> {
-    let alloc = rt.alloc();
-    for call in [2, 3] {
-        let (answer, keeper) = imported(alloc, DESK, (&[call], &[]))?;
-        assert_eq!(rt; answer, Err(ReportFault::KeeperFault));
+    let refused: [(&[u64], &[u64], ReportFault); 3] = [
+        (&[2], &[], ReportFault::KeeperFault),
+        (&[3], &[], ReportFault::KeeperFault),
+        (&[], &[3], ReportFault::LinkFault),
+    ];
+    for (of_store, of_link, fault) in refused {
+        let (answer, keeper) = imported(rt.alloc(), DESK, (of_store, of_link))?;
+        assert_eq!(rt; answer, Err(fault));
         assert!(rt; keeper.records().is_empty());
     }
-    let (answer, keeper) = imported(alloc, DESK, (&[], &[3]))?;
-    assert_eq!(rt; answer, Err(ReportFault::LinkFault));
-    assert!(rt; keeper.records().is_empty());
     Ok(())
 }
 
@@ -169,12 +145,13 @@ fn import_made(alloc: Global, len: usize) -> Result<(Result<u64, ReportFault>, u
 
 #[test]
 fn too_long_an_input_is_told_before_its_first_line(rt: HostRuntime) -> Result<(), Fail> {
-    let alloc = rt.alloc();
-    let (answer, left) = import_made(alloc, 268_435_460)?;
-    assert_eq!(rt; answer, Err(ReportFault::TooLong));
-    assert_eq!(rt; left, 3);
-    let (answer, left) = import_made(alloc, 268_435_456)?;
-    assert_eq!(rt; answer, Err(ReportFault::Damaged { line: 1 }));
-    assert_eq!(rt; left, 0);
+    for (len, fault, unread) in [
+        (268_435_460, ReportFault::TooLong, 3),
+        (268_435_456, ReportFault::Damaged { line: 1 }, 0),
+    ] {
+        let (answer, left) = import_made(rt.alloc(), len)?;
+        assert_eq!(rt; answer, Err(fault));
+        assert_eq!(rt; left, unread);
+    }
     Ok(())
 }

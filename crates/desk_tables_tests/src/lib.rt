@@ -3,10 +3,6 @@
 #![tactic(auto)]
 
 #[cfg(test)]
-mod accept;
-#[cfg(test)]
-mod gather;
+mod edits;
 #[cfg(test)]
 mod sound;
-#[cfg(test)]
-mod tests;

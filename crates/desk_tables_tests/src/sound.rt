@@ -73,79 +73,77 @@ const BROKEN: [(Record, (u8, &str)); 12] = [
     ((10, "D:ACME:7", "1\t2\tunexempt\tR6C"), (10, "D:ACME:7")),
 ];
 
+/// Records, more of them, and where their tables aren't sound, the table and the code that are told then.
+type Case = (
+    &'static [Record],
+    &'static [Record],
+    Option<(u8, &'static str)>,
+);
+
+/// Desks up to the last mass and tonnage that fit, and past them.
+const WHOLE: [Case; 5] = [
+    (&LAMP, &[], None),
+    (&TOWER, &[], None),
+    (&TOWER, &[(5, "F3/F2", "1\t1000000")], Some((4, "F3"))),
+    (&TOWER, &[(9, "2024/F2", "1\t100")], None),
+    (
+        &TOWER,
+        &[(9, "2024/F2", "1\t1000000")],
+        Some((9, "2024/F2")),
+    ),
+];
+
 /// The tables of these rows.
 fn tables_of(alloc: Global, records: &[Record], more: &[Record]) -> Result<Tables, Fail> {
     let mut rows = Vec::new(alloc);
-    for (table, code, text) in records {
-        rows.push(read_row(alloc, *table, code.as_bytes(), text.as_bytes())?)?;
-    }
-    for (table, code, text) in more {
+    for (table, code, text) in records.iter().chain(more.iter()) {
         rows.push(read_row(alloc, *table, code.as_bytes(), text.as_bytes())?)?;
     }
     Ok(Tables::gather(alloc, rows)?)
 }
 
-/// Whether the tables of these rows are sound.
-fn are_sound(alloc: Global, records: &[Record], more: &[Record]) -> Result<bool, Fail> {
-    let tables = tables_of(alloc, records, more)?;
-    Ok(tables.is_sound(alloc).is_ok())
-}
-
-/// Whether the tables of these rows are told as unsound by this table and code.
+/// Whether the tables of these rows are told as unsound by this table and code, or as sound.
 fn are_told(
     alloc: Global,
     records: &[Record],
     more: &[Record],
-    told: (u8, &str),
+    told: Option<(u8, &str)>,
 ) -> Result<bool, Fail> {
     let tables = tables_of(alloc, records, more)?;
     match tables.is_sound(alloc) {
-        Ok(()) => Ok(false),
+        Ok(()) => Ok(told.is_none()),
         Err(SoundFault::Unsound { table, key }) => {
-            Ok(table == told.0 && key.as_slice() == told.1.as_bytes())
+            Ok(told.is_some_and(|told| table == told.0 && key.as_slice() == told.1.as_bytes()))
         }
         Err(SoundFault::OutOfMemory) => Err(Fail::new("no memory")),
     }
 }
 
 #[test]
-fn the_start_tables_are_sound(rt: HostRuntime) -> Result<(), Fail> {
-    let tables = Tables::start(rt.alloc())?;
-    assert!(rt; tables.is_sound(rt.alloc()).is_ok());
-    Ok(())
-}
-
-#[test]
-fn a_whole_desk_is_sound(rt: HostRuntime) -> Result<(), Fail> {
-    assert!(rt; are_sound(rt.alloc(), &LAMP, &[])?);
-    Ok(())
-}
-
-#[test]
 fn a_row_that_breaks_a_clause_is_told(rt: HostRuntime) -> Result<(), Fail> {
     for (record, told) in BROKEN {
-        assert!(rt;
-            are_told(rt.alloc(), &LAMP, &[record], told)?,
-            "of {} {}",
-            record.0,
-            record.1
-        );
+        let is_told = are_told(rt.alloc(), &LAMP, &[record], Some(told))?;
+        assert!(rt; is_told, "of {} {}", record.0, record.1);
     }
     Ok(())
 }
 
 #[test]
-fn a_part_is_told_where_it_weighs_too_much(rt: HostRuntime) -> Result<(), Fail> {
-    assert!(rt; are_sound(rt.alloc(), &TOWER, &[])?);
-    let heavier = [(5, "F3/F2", "1\t1000000")];
-    assert!(rt; are_told(rt.alloc(), &TOWER, &heavier, (4, "F3"))?);
+fn a_desk_is_sound_where_its_sums_fit(rt: HostRuntime) -> Result<(), Fail> {
+    for (records, more, told) in WHOLE {
+        assert!(rt; are_told(rt.alloc(), records, more, told)?, "of {more:?}");
+    }
     Ok(())
 }
 
+/// Lines in another order than that of their keys, and one of them twice.
+const LINES: [Record; 3] = [(5, "B/C", "1\t2"), (5, "A/C", "1\t1"), (5, "A/C", "1\t7")];
+
 #[test]
-fn a_shipment_is_told_where_its_year_weighs_too_much(rt: HostRuntime) -> Result<(), Fail> {
-    assert!(rt; are_sound(rt.alloc(), &TOWER, &[(9, "2024/F2", "1\t100")])?);
-    let heavier = [(9, "2024/F2", "1\t1000000")];
-    assert!(rt; are_told(rt.alloc(), &TOWER, &heavier, (9, "2024/F2"))?);
+fn rows_stand_in_the_order_of_their_keys_and_the_later_of_two_is_kept(
+    rt: HostRuntime,
+) -> Result<(), Fail> {
+    let tables = tables_of(rt.alloc(), &LINES, &[])?;
+    assert!(rt; tables.lines().iter().map(|line| line.count).eq([7, 2]));
     Ok(())
 }
