@@ -1,0 +1,44 @@
+-- What a batch leaves, made or taken back.
+use Rattle.std.proofs.Common.{◌≡◌, ◌++◌, ◌+◌, ◌<◌, ℕ, length, take, List, [], ◌∷◌, Option, Ok, refl, sym, ap, subst, ◌∙◌}
+use Rattle.std.proofs.lemmas.List.{take_more}
+use Rattle.std.specs.List.{slice_index_or}
+use Rattle.sqlite_value.specs.Order.{Row}
+use Rattle.sqlite.specs.State.{State}
+use Rattle.desk_edge.specs.Content.{changed, changed_all}
+use Rattle.desk_edge.specs.declared.change.Change.{Change}
+use Rattle.desk_edge.specs.declared.key.Key.{Key}
+use Rattle.desk_sqlite.specs.Content.{AreMade, IsMade, content_of}
+use Rattle.desk_sqlite.specs.Inside.{IsInside, Leaves}
+use Rattle.desk_sqlite.specs.Store.{rows_in}
+
+pub inside_itself : (s : State) → IsInside s s
+inside_itself s = record { clean = λ clean. clean; kept = λ _ _. record { was_open = λ h. h; committed = λ _. refl } }
+
+pub none_made : (rows : List Row) → AreMade [] rows rows
+none_made rows key = refl
+
+changed_push : (changes : List Change) (change : Change) (key : Key) (body : Option (List ℕ)) → changed_all (changes ++ change ∷ []) key body ≡ changed change key (changed_all changes key body)
+changed_push [] change key body = refl
+changed_push (first ∷ changes) change key body = changed_push changes change key (changed first key body)
+
+-- one change more
+pub made_push : (changes : List Change) (change : Change) (old mid new : List Row) → AreMade changes old mid → IsMade change mid new → AreMade (changes ++ change ∷ []) old new
+made_push changes change old mid new all one key = one key ∙ ap (changed change key) (all key) ∙ sym (changed_push changes change key (content_of old key))
+
+-- nothing is made by no change
+pub none_left_out : (s : State) (changes : List Change) → Leaves s s (Ok tt) (AreMade (take 0 changes))
+none_left_out s changes clean inside = (inside, λ store. (store, none_made (rows_in s)))
+
+-- one change more is made
+pub one_left_more : (a b c : State) (changes : List Change) (i : ℕ) (change : Change) → i < length changes → change ≡ slice_index_or changes i change
+    → IsInside b c → Leaves a b (Ok tt) (AreMade (take i changes)) → Leaves b c (Ok tt) (IsMade change) → Leaves a c (Ok tt) (AreMade (take (i + 1) changes))
+one_left_more a b c changes i change within is later all one clean inside =
+    let mid = all (later.clean clean) inside in
+    let last = one clean mid.0 in
+    let more : take (i + 1) changes ≡ take i changes ++ change ∷ [] = take_more changes i change within ∙ ap (λ x. take i changes ++ x ∷ []) (sym is) in (
+      last.0,
+      λ store.
+          let m = mid.1 store in
+          let n = last.1 m.0 in
+          (n.0, subst (λ made. AreMade made (rows_in a) (rows_in c)) (sym more) (made_push (take i changes) change (rows_in a) (rows_in b) (rows_in c) m.1 n.1)),
+    )

@@ -1,0 +1,14 @@
+pub mod TextLemmas
+pub mod ListLemmas
+pub mod ValueLemmas
+pub mod ReadLemmas
+pub mod MeaningLemmas
+pub mod ContentLemmas
+pub mod StateLemmas
+pub mod FindLemmas
+pub mod NumberLemmas
+pub mod LookLemmas
+pub mod PastLemmas
+pub mod InsideLemmas
+pub mod ReadyLemmas
+pub mod CommitLemmas

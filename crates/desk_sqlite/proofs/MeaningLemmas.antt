@@ -1,0 +1,149 @@
+-- What the statements do to the rows, from the clauses of the crate.
+use Rattle.std.proofs.Common.{◌≡◌, ◌⊎◌, ◌&&◌, not, inl, inr, ℕ, ℤ, pos, List, [], ◌∷◌, Bool, true, false, cond, None, Ok, Err, Result, refl, ap, subst, ◌∙◌}
+use Rattle.sqlite_value.specs.declared.value.Value.{Value}
+use Rattle.sqlite_value.specs.declared.value.Value.TheVariants.{Null, Int, Blob}
+use Rattle.sqlite_value.specs.declared.keys.Collation.TheVariants.{Binary}
+use Rattle.sqlite_value.specs.Order.{Row}
+use Rattle.sqlite_trees.specs.Tree.{Trees, put_row}
+use Rattle.sqlite_sql.specs.declared.ops.BinaryOp.TheVariants.{Compare}
+use Rattle.sqlite_sql.specs.declared.ops.CompareOp.TheVariants.{Eq, Gt}
+use Rattle.sqlite_sql.specs.Term.{Term, lit, col, op2}
+use Rattle.sqlite_sql.specs.Ops.{unary}
+use Rattle.sqlite_sql.specs.Query.{IsAnswer}
+use Rattle.sqlite_sql.specs.Program.{overlay}
+use Rattle.sqlite_schema.specs.declared.schema.Kind.TheVariants.{Integer}
+use Rattle.sqlite_schema.specs.declared.command.Source.TheVariants.{Values}
+use Rattle.sqlite_schema.specs.declared.command.Command.TheVariants.{Insert, Delete}
+use Rattle.sqlite_rules.specs.Edit.{edit_of, edited, without_all, is_taken, are_fresh, next_rowid}
+use Rattle.sqlite_rules.specs.Cast.{cast}
+use Rattle.sqlite_rules.specs.Calls.{ids_of}
+use Rattle.sqlite_rules.specs.declared.error.Rowids.TheVariants.{Chosen, Given}
+use Rattle.sqlite.specs.Effect.{Database}
+use Rattle.sqlite.specs.Does.{Tally, Does}
+use Rattle.sqlite.specs.Rows.{Written}
+use Rattle.sqlite.specs.Listing.{understood}
+use Rattle.sqlite.specs.State.{State, mode_of, Executes, QueriesRow, Shown}
+use Rattle.sqlite.proofs.Callers.{statement_of, runs_as, first_as, reads_as, one_step}
+use Rattle.desk_sqlite.specs.Texts.{first_text, within_text, beyond_text, numbers_text, insert_text, drop_text}
+use Rattle.desk_sqlite.specs.Table.{record_table, store_schema}
+use Rattle.desk_sqlite.proofs.TextLemmas.{first_query, drop_query, numbers_query, insert_is, insert_plain, drop_is, drop_plain, first_is, first_plain, first_listed, within_is, within_plain, within_listed, beyond_is, beyond_plain, beyond_listed, numbers_is, numbers_plain, numbers_listed}
+
+-- the tests of a drop, of a look within a kind, and of one beyond it
+abbrev pub drop_tests : List Term
+drop_tests = op2 (Compare Eq Binary) (col 1 1) (col 0 0) ∷ op2 (Compare Eq Binary) (col 1 2) (col 0 1) ∷ []
+
+abbrev pub within_tests : List Term
+within_tests = op2 (Compare Eq Binary) (col 1 1) (col 0 0) ∷ op2 (Compare Gt Binary) (col 1 2) (col 0 1) ∷ []
+
+abbrev pub beyond_tests : List Term
+beyond_tests = op2 (Compare Gt Binary) (col 1 1) (col 0 0) ∷ []
+
+-- the row that an insert puts in
+abbrev pub row_of : ℤ → ℕ → List ℕ → List ℕ → Row
+row_of n kind code body = Int n ∷ Int (pos kind) ∷ Blob code ∷ Blob body ∷ []
+
+either : (b : Bool) (x : Value) → cond b x x ≡ x
+either true x = refl
+either false x = refl
+
+cast_null : cast Integer Null ≡ Null
+unfolding unary
+cast_null = either _ Null
+
+cast_number : (n : ℤ) → cast Integer (Int n) ≡ Int n
+unfolding unary
+cast_number n = either _ (Int n)
+
+-- a part that gave a value did not stop on the way
+went : {B E R : Type 0} {b : B} {Stops : E → Type 0} → ((stop : E) × Stops stop × (Ok b ≡ Err stop)) ⊎ R → R
+went (inl stopped) = absurd (let e = stopped.2 in cc)
+went (inr on) = on
+
+same_value : {B E : Type 0} {a b : B} → ◌≡◌ {A = Result B E} (Ok a) (Ok b) → a ≡ b
+same_value e = cc
+
+both : (a b : Bool) → (a && b) ≡ true → (a ≡ true) × (b ≡ true)
+both true b e = (refl, e)
+both false b e = absurd (let bad : false ≡ true = e in cc)
+
+not_it : (b : Bool) → not b ≡ true → b ≡ false
+not_it true e = absurd (let bad : false ≡ true = e in cc)
+not_it false e = refl
+
+module _ (checks : List Term) (name : List ℕ) (old new : State) (has : old.now.schema ≡ store_schema checks name) where
+  -- a drop takes out the rows that pass its tests
+  pub drops : (kind : ℕ) (code : List ℕ) (count : ℕ) → Executes drop_text (Int (pos kind) ∷ Blob code ∷ []) old new (Ok count)
+      → (new.now.schema ≡ store_schema checks name) × (found : List Row) × IsAnswer (drop_query drop_tests) (overlay old.now.trees []) (Int (pos kind) ∷ Blob code ∷ []) found
+      × (new.now.trees 0 ≡ without_all (old.now.trees 0) (ids_of found))
+  drops kind code count h =
+      let params = Int (pos kind) ∷ Blob code ∷ [] in
+      let db = old.now.trees in
+      let command = Delete 0 (record { lets = []; body = drop_query drop_tests }) in
+      let w = runs_as drop_text params old new (store_schema checks name) has command (drop_is checks name) (drop_plain checks name) count h in
+      let text = statement_of drop_text (understood (store_schema checks name) drop_text) in
+      let done = went (subst (λ s. Does old.step_limit (mode_of old) params (record old.now { schema = s }) text None command (Ok (w.tally, new.now))) has w.changed) in
+      let now = ap (λ (p : Tally × Database). p.1) (same_value (went (went done.2).2).2) in
+      let given = went done.1 in
+      let applied = went given.2 in
+      let trees : done.0.trees ≡ applied.0 = ap (λ (it : Written). it.trees) (same_value applied.2) in
+      let rows = (one_step (store_schema checks name) _ db applied.0 (edit_of db (record_table checks) (ids_of given.0) Given 0 []) refl applied.1).rows in
+      (ap (λ (d : Database). d.schema) now, given.0, given.1.answer Null, ap (λ (d : Database). d.trees 0) now ∙ ap (λ (t : Trees). t 0) trees ∙ rows)
+
+  -- an insert puts in one row, under a number that none had
+  pub inserts : (kind : ℕ) (code body : List ℕ) (count : ℕ) → Executes insert_text (Int (pos kind) ∷ Blob code ∷ Blob body ∷ []) old new (Ok count)
+      → (new.now.schema ≡ store_schema checks name) × (n : ℤ) × (is_taken (old.now.trees 0) (row_of n kind code body) ≡ false) × (new.now.trees 0 ≡ put_row (row_of n kind code body) (old.now.trees 0))
+  inserts kind code body count h =
+      let params = Int (pos kind) ∷ Blob code ∷ Blob body ∷ [] in
+      let db = old.now.trees in
+      let table = record_table checks in
+      let command = Insert 0 (Values (lit Null ∷ col 0 0 ∷ col 0 1 ∷ col 0 2 ∷ []) 4) in
+      let w = runs_as insert_text params old new (store_schema checks name) has command (insert_is checks name) (insert_plain checks name) count h in
+      let text = statement_of insert_text (understood (store_schema checks name) insert_text) in
+      let done = went (subst (λ s. Does old.step_limit (mode_of old) params (record old.now { schema = s }) text None command (Ok (w.tally, new.now))) has w.changed) in
+      let now = ap (λ (p : Tally × Database). p.1) (same_value (went (went done.2).2).2) in
+      let given = went done.1 in
+      let written = went (went given.2).2 in
+      let counted = went written.2 in
+      let trees : done.0.trees ≡ written.0 = ap (λ (it : Written). it.trees) (same_value counted.2) ∙ same_value counted.1 in
+      let applies = one_step (store_schema checks name) _ db written.0 (edit_of db table [] Chosen 0 given.0) refl written.1 in
+      let n = next_rowid (db 0) in
+      let news : (edit_of db table [] Chosen 0 given.0).news ≡ row_of n kind code body ∷ [] = ap (λ all. (edit_of db table [] Chosen 0 all).news) given.1.1 ∙ rw (cast_null, cast_number (pos kind)) refl in
+      let fresh = not_it _ (both _ _ (subst (λ all. are_fresh (db 0) all ≡ true) news applies.fresh)).0 in
+      let rows : written.0 0 ≡ put_row (row_of n kind code body) (db 0) = applies.rows ∙ ap (λ all. edited db (record { table = table; gone = []; news = all })) news in
+      (ap (λ (d : Database). d.schema) now, n, fresh, ap (λ (d : Database). d.trees 0) now ∙ ap (λ (t : Trees). t 0) trees ∙ rows)
+
+  -- what the looks show
+  pub shows_first : (row : Row) → QueriesRow first_text [] old new (Ok row) → (tail : List Row) × IsAnswer (first_query []) (overlay old.now.trees []) [] (row ∷ tail)
+  shows_first row h =
+      let got = (first_as first_text [] old new (store_schema checks name) has _ (first_is checks name) (first_plain checks name) (first_listed checks name) row h).1 in
+      (got.0, got.1 Null)
+
+  pub shows_within : (kind : ℕ) (code : List ℕ) (row : Row) → QueriesRow within_text (Int (pos kind) ∷ Blob code ∷ []) old new (Ok row)
+      → (tail : List Row) × IsAnswer (first_query within_tests) (overlay old.now.trees []) (Int (pos kind) ∷ Blob code ∷ []) (row ∷ tail)
+  shows_within kind code row h =
+      let got = (first_as within_text (Int (pos kind) ∷ Blob code ∷ []) old new (store_schema checks name) has _ (within_is checks name) (within_plain checks name) (within_listed checks name) row h).1 in
+      (got.0, got.1 Null)
+
+  pub shows_beyond : (kind : ℕ) (row : Row) → QueriesRow beyond_text (Int (pos kind) ∷ []) old new (Ok row)
+      → (tail : List Row) × IsAnswer (first_query beyond_tests) (overlay old.now.trees []) (Int (pos kind) ∷ []) (row ∷ tail)
+  shows_beyond kind row h =
+      let got = (first_as beyond_text (Int (pos kind) ∷ []) old new (store_schema checks name) has _ (beyond_is checks name) (beyond_plain checks name) (beyond_listed checks name) row h).1 in
+      (got.0, got.1 Null)
+
+  pub shows_no_first : Shown first_text [] old new [] → IsAnswer (first_query []) (overlay old.now.trees []) [] []
+  shows_no_first h =
+      (reads_as first_text [] old new (store_schema checks name) has _ (first_is checks name) (first_plain checks name) (first_listed checks name) [] h).answer Null
+
+  pub shows_none_within : (kind : ℕ) (code : List ℕ) → Shown within_text (Int (pos kind) ∷ Blob code ∷ []) old new []
+      → IsAnswer (first_query within_tests) (overlay old.now.trees []) (Int (pos kind) ∷ Blob code ∷ []) []
+  shows_none_within kind code h =
+      (reads_as within_text (Int (pos kind) ∷ Blob code ∷ []) old new (store_schema checks name) has _ (within_is checks name) (within_plain checks name) (within_listed checks name) [] h).answer Null
+
+  pub shows_none_beyond : (kind : ℕ) → Shown beyond_text (Int (pos kind) ∷ []) old new []
+      → IsAnswer (first_query beyond_tests) (overlay old.now.trees []) (Int (pos kind) ∷ []) []
+  shows_none_beyond kind h =
+      (reads_as beyond_text (Int (pos kind) ∷ []) old new (store_schema checks name) has _ (beyond_is checks name) (beyond_plain checks name) (beyond_listed checks name) [] h).answer Null
+
+  pub shows_numbers : (rows : List Row) → Shown numbers_text [] old new rows → IsAnswer numbers_query (overlay old.now.trees []) [] rows
+  shows_numbers rows h =
+      (reads_as numbers_text [] old new (store_schema checks name) has _ (numbers_is checks name) (numbers_plain checks name) (numbers_listed checks name) rows h).answer Null

@@ -1,0 +1,13 @@
+use Rattle.sqlite.specs.Held.{state}
+use Rattle.desk_sqlite.proofs.InsideLemmas.{inside_by, drop_leaves}
+use Rattle.desk_sqlite.proofs.change.drop_record.Goals as goal
+
+pub returns-clause-inside : goal.returns-clause-inside
+returns-clause-inside g c = inside_by _ _ _ c.execute.ensures.survives _ _ c.execute.result c.execute.ensures.runs
+
+pub returns-clause-dropped : goal.returns-clause-dropped
+returns-clause-dropped g c =
+    let old = state g.S.Store c.args.tx.now.conn.now in
+    let new = state g.S.Store c.execute.new.self.conn.now in
+    drop_leaves old new c.args.kind c.args.code.now c.execute.result c.done_of.result c.done_of.ensures
+    (λ clean inside. rw (c.params-to_sql.ensures, c.params-to_sql-2.ensures, c.from.ensures) at (c.execute.ensures.runs clean inside))

@@ -1,0 +1,24 @@
+use Rattle.std.proofs.Common.{◌≡◌, [], ◌∷◌, pos, IsTrue, rules}
+use Rattle.sqlite_value.specs.declared.value.Value.TheVariants.{Int, Blob}
+use Rattle.sqlite.specs.Held.{state}
+use Rattle.sqlite.specs.State.{HasCleanDisk, QueriesRow}
+use Rattle.desk_sqlite.specs.Texts.{within_text}
+use Rattle.desk_sqlite.proofs.LookLemmas.{asked_still, within_is_plain, within_found}
+use Rattle.desk_sqlite.proofs.look.row_within.Goals as goal
+
+pub returns-clause-still : goal.returns-clause-still
+returns-clause-still g c =
+    let old = state g.S.Store c.args.conn.now in
+    let new = state g.S.Store c.query_row.new.self in
+    let settled : IsTrue old.is_open → old.now ≡ old.committed = search rules in
+    let asked : HasCleanDisk new → QueriesRow within_text (Int (pos c.args.kind) ∷ Blob c.args.code.now ∷ []) old new c.query_row.result = λ clean. rw (c.params-to_sql.ensures, c.params-to_sql-2.ensures, c.from.ensures) at (c.query_row.ensures.row clean) in
+    asked_still old new _ c.query_row.ensures.survives within_text (Int (pos c.args.kind) ∷ Blob c.args.code.now ∷ []) c.query_row.result asked (within_is_plain old) settled
+
+pub returns-clause-look : goal.returns-clause-look
+returns-clause-look g c suits clean now =
+    let old = state g.S.Store c.args.conn.now in
+    let new = state g.S.Store c.query_row.new.self in
+    let settled : IsTrue old.is_open → old.now ≡ old.committed = search rules in
+    let asked : HasCleanDisk new → QueriesRow within_text (Int (pos c.args.kind) ∷ Blob c.args.code.now ∷ []) old new c.query_row.result = λ clean. rw (c.params-to_sql.ensures, c.params-to_sql-2.ensures, c.from.ensures) at (c.query_row.ensures.row clean) in
+    let still = asked_still old new _ c.query_row.ensures.survives within_text (Int (pos c.args.kind) ∷ Blob c.args.code.now ∷ []) c.query_row.result asked (within_is_plain old) settled in
+    within_found old new still suits clean now c.args.kind c.args.code.now c.query_row.result c.found_of.result c.found_of.ensures (asked clean)

@@ -1,0 +1,18 @@
+-- When the numbers of rows rise.
+use Rattle.std.specs.Prelude.{◌≡◌, ℤ, List}
+use Rattle.std.specs.Ordering.{int_cmp}
+use Rattle.std.specs.declared.cmp.Ordering.TheVariants.{Less}
+use Rattle.sqlite_value.specs.declared.value.Value.TheVariants.{Int}
+use Rattle.sqlite_value.specs.Order.{Row, column}
+use Rattle.sqlite_trees.specs.Tree.{IsAscending}
+use Rattle.sqlite_rules.specs.Edit.{id_in}
+use Rattle.sqlite_rules.specs.Lists.{Has}
+
+-- the number in the first column
+abbrev pub number_of : Row → ℤ
+number_of row = id_in (column row 0)
+
+-- each row has a number in its first column, which is less than those of the rows after it
+pub record AreRising (rows : List Row) : Type 0 where
+  pub numbers : (row : Row) → Has rows row → column row 0 ≡ Int (number_of row)
+  pub rise : IsAscending (λ a b. int_cmp (number_of a) (number_of b) ≡ Less) rows

@@ -1,0 +1,67 @@
+-- When a connection stands over the table of a store.
+use Rattle.std.specs.Prelude.{◌≡◌, ℕ, true, false, Bool, ◌&&◌, List, [], ◌∷◌, Option, None, Some, if◌then◌else◌, IsTrue}
+use Rattle.std.specs.Cmp.Lexicographic.{slice_cmp}
+use Rattle.std.specs.Ordering.{nat_cmp, is_eq, is_lt, is_gt, ordering_then}
+use Rattle.sqlite_value.specs.Order.{Row, column}
+use Rattle.sqlite_sql.specs.Term.{Term}
+use Rattle.sqlite_schema.specs.declared.schema.Schema.{Schema}
+use Rattle.sqlite_rules.specs.Lists.{Has}
+use Rattle.sqlite.specs.State.{State, HasCleanDisk}
+use Rattle.desk_sqlite.specs.Rows.{is_of, body_of, same_key, AreNumbered}
+use Rattle.desk_sqlite.specs.Table.{store_schema}
+
+-- the schema is the table of a store and the index of its keys, and nothing else
+abbrev pub IsOurs : Schema → Type 0
+IsOurs schema = (checks : List Term) × (name : List ℕ) × (schema ≡ store_schema checks name)
+
+-- the rows of the table
+abbrev pub rows_in : State → List Row
+rows_in s = s.now.trees 0
+
+-- the database is one such table, whose rows have numbers of their own
+pub record IsStore (s : State) : Type 0 where
+  pub ours : IsOurs s.now.schema
+  pub numbered : AreNumbered (rows_in s)
+
+-- where the disk is clean and the connection open, the database is a store
+abbrev pub Suits : State → Type 0
+Suits s = HasCleanDisk s → IsTrue s.is_open → IsStore s
+
+-- nothing is kept for the kind and the code, and for each other as before
+abbrev pub Dropped : ℕ → List ℕ → List Row → List Row → Type 0
+Dropped kind code old new = (k : ℕ) (c : List ℕ) → body_of new k c ≡ (if same_key kind code k c then None else body_of old k c)
+
+-- the body is kept for the kind and the code, and for each other key what was kept before
+abbrev pub Inserted : ℕ → List ℕ → List ℕ → List Row → List Row → Type 0
+Inserted kind code body old new = (k : ℕ) (c : List ℕ) → body_of new k c ≡ (if same_key kind code k c then Some body else body_of old k c)
+
+-- as far as the disk is clean and the connection open, they were before, and nothing is changed
+pub record IsStill (old new : State) : Type 0 where
+  pub clean : HasCleanDisk new → HasCleanDisk old
+  pub was_open : HasCleanDisk new → IsTrue new.is_open → IsTrue old.is_open
+  pub same : Suits old → HasCleanDisk new → IsTrue new.is_open → new.now ≡ old.now
+
+-- the key comes before the other, by kind and then by the bytes of the code
+abbrev pub is_before : ℕ → List ℕ → ℕ → List ℕ → Bool
+is_before kind code k c = is_lt (ordering_then (nat_cmp kind k) (slice_cmp nat_cmp code c))
+
+-- of the rows whose keys are wanted there is none, or the columns of this one were shown, and none has an earlier key
+abbrev pub IsLook : (ℕ → List ℕ → Bool) → List Row → Option Row → Type 0
+IsLook wanted rows None = (k : ℕ) (c : List ℕ) (x : Row) → Has rows x → is_of k c x ≡ true → wanted k c ≡ false
+IsLook wanted rows (Some shown) =
+    (row : Row) × Has rows row × (shown ≡ column row 1 ∷ column row 2 ∷ column row 3 ∷ [])
+    × ((own : ℕ) (code : List ℕ) → is_of own code row ≡ true
+    → (wanted own code ≡ true)
+    × ((k : ℕ) (c : List ℕ) (x : Row) → Has rows x → is_of k c x ≡ true → wanted k c ≡ true → is_before k c own code ≡ false))
+
+-- each key is looked for
+abbrev pub any_key : ℕ → List ℕ → Bool
+any_key k c = true
+
+-- the key is of the kind and past the code
+abbrev pub is_within : ℕ → List ℕ → ℕ → List ℕ → Bool
+is_within kind code k c = is_eq (nat_cmp k kind) && is_gt (slice_cmp nat_cmp c code)
+
+-- the key is past the kind
+abbrev pub is_beyond : ℕ → ℕ → List ℕ → Bool
+is_beyond kind k c = is_gt (nat_cmp k kind)

@@ -1,0 +1,26 @@
+-- The statements that a store is asked.
+use Rattle.std.specs.Prelude.{ℕ, List, codes}
+
+-- tells the number of each row
+abbrev pub numbers_text : List ℕ
+numbers_text = codes "SELECT rowid FROM record ORDER BY rowid"
+
+-- the first record of all
+abbrev pub first_text : List ℕ
+first_text = codes "SELECT kind, code, body FROM record ORDER BY kind, code LIMIT 1"
+
+-- the first record of a kind past a code
+abbrev pub within_text : List ℕ
+within_text = codes "SELECT kind, code, body FROM record WHERE kind = ?1 AND code > ?2 ORDER BY kind, code LIMIT 1"
+
+-- the first record of the kinds past a kind
+abbrev pub beyond_text : List ℕ
+beyond_text = codes "SELECT kind, code, body FROM record WHERE kind > ?1 ORDER BY kind, code LIMIT 1"
+
+-- keeps a record whose key no other has
+abbrev pub insert_text : List ℕ
+insert_text = codes "INSERT INTO record (kind, code, body) VALUES (?1, ?2, ?3)"
+
+-- drops the record of a key
+abbrev pub drop_text : List ℕ
+drop_text = codes "DELETE FROM record WHERE kind = ?1 AND code = ?2"

@@ -1,0 +1,170 @@
+ghost use Rattle.std.specs.Prelude.{◌≡◌, ◌≢◌, ◌≤◌, false, true, Err, OnOk, IsErrOf, IsTrue};
+ghost use Rattle.sqlite.specs.Held.{state};
+ghost use Rattle.sqlite.specs.State.{HasCleanDisk};
+ghost use Rattle.desk_edge.specs.Faults.{Rose};
+ghost use Rattle.desk_sqlite.specs.Content.{content_of};
+ghost use Rattle.desk_sqlite.specs.Store.{rows_in};
+
+use crate::commit::commit_all;
+use crate::find::find_record;
+use crate::ready::make_ready;
+use desk_edge::{Change, KeepFault, Keeper, Key, Record};
+use sqlite::{Alter, Connection, Error, ErrorCode};
+use std::alloc::Global;
+use std::marker::Model;
+
+/// A store of records in the table `record` of a database.
+///
+/// It tells what it keeps once it is ready, where the database is that one table in the form of [`SqlKeeper::ready`], the disk has
+/// returned what was written and no failure has shut the connection. It keeps then, under each kind and code, the body in their row.
+#[derive(Drop)]
+pub struct SqlKeeper<S: Alter> {
+    connection: Connection<S>,
+    is_ready: bool,
+    is_ours: bool,
+    faults: u64,
+}
+
+impl<S: Alter> Model for SqlKeeper<S> {
+    ghost use Rattle.std.specs.Prelude.{◌≡◌, false, true};
+    ghost use Rattle.sqlite.specs.Held.{state};
+    ghost use Rattle.desk_sqlite.specs.Keeping.{Keeping, keeping_code};
+    ghost use Rattle.desk_sqlite.specs.Store.{Suits};
+
+    ghost Value = { Keeping S };
+
+    ghost coded = { keeping_code S.code };
+
+    ghost view = { λ k. record { connection = k.connection; is_ready = k.is_ready; is_ours = k.is_ours; faults = k.faults } };
+
+    // A keeper that is ready is outside a transaction; where the database was found to be a store, it is one as long as the disk is
+    // clean and the connection open.
+    ghost invariant = { λ k. (k.is_ready ≡ true → k.connection.in_transaction ≡ false)
+        × (k.is_ours ≡ true → Suits (state S.Store k.connection)) };
+}
+
+impl<S: Alter> SqlKeeper<S> {
+    /// A keeper over the database of the connection. It isn't ready yet, and has counted no fault.
+    pub fn adopt(connection: Connection<S>) -> SqlKeeper<S>
+        ensures connection { result.connection ≡ connection }
+        ensures new { (result.is_ready ≡ false) × (result.is_ours ≡ false) × (result.faults ≡ 0) }
+    {
+        SqlKeeper {
+            connection,
+            is_ready: false,
+            is_ours: false,
+            faults: 0,
+        }
+    }
+
+    /// Gives the connection back.
+    pub fn release(self) -> Connection<S>
+        ensures { result ≡ self.connection }
+    {
+        let SqlKeeper {
+            connection,
+            is_ready: _,
+            is_ours: _,
+            faults: _,
+        } = self;
+        connection
+    }
+
+    /// How many faults were counted.
+    pub fn faults(&self) -> u64
+        ensures { result ≡ self.now.faults }
+    {
+        self.faults
+    }
+
+    /// Whether the last [`SqlKeeper::ready`] that answered `Ok` found the database to be its one table and nothing else.
+    pub fn is_ours(&self) -> bool
+        ensures { result ≡ self.now.is_ours }
+    {
+        self.is_ours
+    }
+
+    /// Makes the table `record` where there is none, and looks whether the database is this one table:
+    ///
+    /// ```sql
+    /// CREATE TABLE record (kind INTEGER NOT NULL CHECK (kind >= 0 AND kind <= 255), code BLOB NOT NULL,
+    ///     body BLOB NOT NULL, PRIMARY KEY (kind, code)) STRICT
+    /// ```
+    ///
+    /// Where a table of that name has another form, or other tables stand beside it, it may answer `Ok`, and the keeper tells no
+    /// records. `Failed` comes exactly where a fault was counted in this call: a statement was refused other than for memory, or the
+    /// connection is inside a transaction.
+    pub fn ready(&mut self) -> Result<(), KeepFault>
+        ensures ready { OnOk result (self.new.is_ready ≡ true) }
+        ensures never_falls { self.old.faults ≤ self.new.faults }
+        ensures steady { result ≢ Err KeepFault.Failed → self.new.faults ≡ self.old.faults }
+        ensures failed { IsErrOf result KeepFault.Failed → Rose self.old.faults self.new.faults }
+    {
+        self.is_ready = false;
+        self.is_ours = false;
+        match make_ready(&mut self.connection) {
+            Ok(ours) => {
+                self.is_ours = ours;
+                self.is_ready = true;
+                Ok(())
+            }
+            Err(error) => Err(self.refused(error)),
+        }
+    }
+
+    /// Counts a fault.
+    fn fault(&mut self) -> KeepFault
+        ensures answer { result ≡ KeepFault.Failed }
+        ensures same { (self.new.connection ≡ self.old.connection) × (self.new.is_ready ≡ self.old.is_ready) × (self.new.is_ours ≡ self.old.is_ours) }
+        ensures never_falls { self.old.faults ≤ self.new.faults }
+        ensures rose { Rose self.old.faults self.new.faults }
+    {
+        self.faults = self.faults.saturating_add(1);
+        KeepFault::Failed
+    }
+
+    /// What a refused statement is told as. Each but for want of memory is a fault, which is counted.
+    fn refused(&mut self, error: Error) -> KeepFault
+        ensures same { (self.new.connection ≡ self.old.connection) × (self.new.is_ready ≡ self.old.is_ready) × (self.new.is_ours ≡ self.old.is_ours) }
+        ensures never_falls { self.old.faults ≤ self.new.faults }
+        ensures steady { result ≢ KeepFault.Failed → self.new.faults ≡ self.old.faults }
+        ensures failed { result ≡ KeepFault.Failed → Rose self.old.faults self.new.faults }
+    {
+        match error {
+            Error::SqliteFailure(ErrorCode::OutOfMemory) => KeepFault::OutOfMemory,
+            _ => self.fault(),
+        }
+    }
+}
+
+impl<S: Alter> Keeper for SqlKeeper<S> {
+    ghost faults = { λ k. k.faults };
+
+    ghost Tells = { λ k. (k.is_ours ≡ true) × HasCleanDisk (state S.Store k.connection) × IsTrue (state S.Store k.connection).is_open };
+
+    ghost content = { λ k. content_of (rows_in (state S.Store k.connection)) };
+
+    fn next_record(
+        &mut self,
+        alloc: Global,
+        after: Option<&Key>,
+    ) -> Result<Option<Record>, KeepFault> {
+        if !self.is_ready {
+            return Err(self.fault());
+        }
+        match find_record(&mut self.connection, alloc, after) {
+            Ok(found) => Ok(found),
+            Err(error) => Err(self.refused(error)),
+        }
+    }
+
+    fn commit(&mut self, _alloc: Global, batch: &[Change]) -> Result<(), KeepFault> {
+        if !self.is_ready {
+            return Err(self.fault());
+        }
+        match commit_all(&mut self.connection, batch) {
+            Ok(()) => Ok(()),
+            Err(error) => Err(self.refused(error)),
+        }
+    }
+}

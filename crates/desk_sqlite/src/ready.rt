@@ -1,0 +1,85 @@
+ghost use Rattle.std.specs.Prelude.{◌≡◌, false, true, IfOk, IfSome, IsTrue, int_lt};
+ghost use Rattle.sqlite.specs.Held.{state};
+ghost use Rattle.sqlite.specs.State.{HasCleanDisk};
+ghost use Rattle.desk_sqlite.specs.Numbers.{AreRising};
+ghost use Rattle.desk_sqlite.specs.Store.{IsOurs, Suits, rows_in};
+
+use crate::form::is_ours;
+use sqlite::{Alter, Connection, Error, ErrorCode, Row};
+
+/// Makes the table of a store where there is none of its name. It answers whether the database is one such table.
+pub(crate) fn make_ready<S: Alter>(conn: &mut Connection<S>) -> Result<bool, Error>
+    ensures mode { IfOk result (λ ours. conn.new.in_transaction ≡ false) }
+    ensures suits { IfOk result (λ ours. IsTrue ours → Suits (state S.Store conn.new)) }
+{
+    match make_table(conn) {
+        Ok(()) => {}
+        Err(error) => return Err(error),
+    }
+    if !conn.is_autocommit() {
+        return Err(Error::SqliteFailure(ErrorCode::TransactionState));
+    }
+    if is_ours(conn.schema()) {
+        are_numbered(conn)
+    } else {
+        Ok(false)
+    }
+}
+
+/// Makes the table of a store, where there is none of its name.
+fn make_table<S: Alter>(conn: &mut Connection<S>) -> Result<(), Error> {
+    if !conn.is_autocommit() {
+        return Err(Error::SqliteFailure(ErrorCode::TransactionState));
+    }
+    match conn.execute(
+        "CREATE TABLE IF NOT EXISTS record (kind INTEGER NOT NULL CHECK (kind >= 0 AND kind <= 255), \
+            code BLOB NOT NULL, body BLOB NOT NULL, PRIMARY KEY (kind, code)) STRICT",
+        &[],
+    ) {
+        Ok(_) => Ok(()),
+        Err(error) => Err(error),
+    }
+}
+
+/// Whether each row of a store's table has a number of its own.
+///
+/// A database always numbers its rows so. What is known of an open connection doesn't say it, and a drop relies on it.
+fn are_numbered<S: Alter>(conn: &mut Connection<S>) -> Result<bool, Error>
+    requires outside { conn.old.in_transaction ≡ false }
+    requires ours { IsOurs (state S.Store conn.old).now.schema }
+    ensures mode { conn.new.in_transaction ≡ false }
+    ensures suits { IfOk result (λ numbered. IsTrue numbered → Suits (state S.Store conn.new)) }
+{
+    match conn.query_all("SELECT rowid FROM record ORDER BY rowid", &[]) {
+        Ok(rows) => rise(rows.as_slice()),
+        Err(error) => Err(error),
+    }
+}
+
+/// Whether the number is greater than the last one, if there is one.
+fn is_above(number: i64, last: Option<i64>) -> bool
+    ensures { IsTrue result → IfSome last (λ before. int_lt before number ≡ true) }
+{
+    match last {
+        Some(before) => before < number,
+        None => true,
+    }
+}
+
+/// Whether the first columns of the rows are numbers, each greater than the one before it.
+fn rise(rows: &[Row]) -> Result<bool, Error>
+    ensures { IfOk result (λ rise. IsTrue rise → AreRising rows.now) }
+{
+    let mut last: Option<i64> = None;
+    'rows: for row in rows {
+        let number: i64 = match row.get(0) {
+            Ok(number) => number,
+            Err(error) => return Err(error),
+        };
+        if !is_above(number, last) {
+            return Ok(false);
+        }
+        last = Some(number);
+    }
+    Ok(true)
+}
