@@ -12,8 +12,10 @@ use Rattle.desk_history.specs.Sound.{Sound}
 use Rattle.desk_model.specs.Lists.{Lists}
 use Rattle.desk_model.specs.Start.{start}
 use Rattle.desk_records.specs.Records.{tables_content}
-use Rattle.desk_top.specs.Answer.{Answer, Answers, answer_of_opening, answer_without_memory, status_code}
-use Rattle.desk_top.specs.Session.{Console, EndsSession, IsCause, WasServed, status_of}
+use Rattle.desk_top.specs.Answer.{Answer, Answers, answer_of_opening, answer_to_store_fault, answer_without_memory, status_code}
+use Rattle.desk_top.specs.Console.{Console}
+use Rattle.desk_top.specs.Session.{EndsSession, WasServed, status_of}
+use Rattle.desk_top.specs.Store.{IsCause, WasNotBegun}
 use Rattle.desk_top.specs.declared.status.Status.{Status}
 use Rattle.desk_top.specs.declared.status.Status.TheVariants as status
 
@@ -53,26 +55,11 @@ cause_as Told Tells a b faults answer tells same (inr (inl (kind, code, is, dama
     inr (inl (kind, code, is, damaged_as Told Tells a b kind code tells same damaged, λ told t sound opened. none (tells told) t sound (opened_so a b t (same told) opened)))
 cause_as Told Tells a b faults answer tells same (inr (inr memory)) = inr (inr memory)
 
--- a session over a keeper is one over the store that the keeper was opened from and given back to
-pub ends_as : (Told Tells : Type 0) (a b c d : Content) (faults ended : ℕ) (console : Console) (rose : Type 0)
+-- what didn't begin over a keeper didn't begin over the store that the keeper was opened from and given back to
+pub unbegun_as : (Told Tells : Type 0) (a b c d : Content) (faults ended : ℕ) (console : Console) (rose : Type 0)
     → (Told → Tells) → (Told → IsSame a b) → (Told → IsSame c d)
-    → EndsSession Tells b c faults ended console rose → EndsSession Told a d faults ended console rose
-ends_as Told Tells a b c d faults ended console rose tells same given (inl (first, opened, served, is, was)) =
-    inl (
-      first,
-      (λ told. opened_as a b first (same told) (opened (tells told))),
-      served,
-      is,
-      record {
-        sound = was.sound;
-        last = was.last;
-        bytes = was.bytes;
-        read = was.read;
-        serves = was.serves;
-        closed = λ told. same_trans (tables_content was.last) c d (was.closed (tells told)) (given told);
-      },
-    )
-ends_as Told Tells a b c d faults ended console rose tells same given (inr was) = inr record {
+    → WasNotBegun Tells b c faults ended console rose → WasNotBegun Told a d faults ended console rose
+unbegun_as Told Tells a b c d faults ended console rose tells same given was = record {
   answer = was.answer;
   cause = cause_as Told Tells a b faults was.answer tells same was.cause;
   status = was.status;
@@ -85,6 +72,28 @@ ends_as Told Tells a b c d faults ended console rose tells same given (inr was) 
         → IsSame a d ⊎ (IsEmpty a × IsSame (tables_content start) d)
     kept_as told (inl stays) = inl (same_trans a c d (same_trans a b c (same told) stays) (given told))
     kept_as told (inr (none, begun)) = inr ((λ key. sym (same told key) ∙ none key), same_trans (tables_content start) c d begun (given told))
+
+-- a session over a keeper is one over the store that the keeper is given back to
+pub ends_as : (Told Tells : Type 0) (kept c d : Content) (faults ended : ℕ) (console : Console) (rose : Type 0)
+    → (Told → Tells) → (Told → IsSame c d)
+    → EndsSession Tells kept c faults ended console rose → EndsSession Told kept d faults ended console rose
+ends_as Told Tells kept c d faults ended console rose tells given (inl (first, opened, served, is, was)) =
+    inl (
+      first,
+      (λ told. opened (tells told)),
+      served,
+      is,
+      record {
+        sound = was.sound;
+        last = was.last;
+        bytes = was.bytes;
+        read = was.read;
+        serves = was.serves;
+        closed = λ told. same_trans (tables_content was.last) c d (was.closed (tells told)) (given told);
+      },
+    )
+ends_as Told Tells kept c d faults ended console rose tells given (inr was) =
+    inr (unbegun_as Told Tells kept kept c d faults ended console rose tells (λ told key. refl) given was)
 
 -- an input that is what it was is kept
 pub keeps_of : (old new : Option (List ℕ)) → new ≡ old → Keeps old new
@@ -128,12 +137,12 @@ cause_of Tells kept faults (opening.Damaged kind code) failed damaged unsound =
     inr (inl (kind, code, refl, damaged kind code refl, unsound kind code refl))
 cause_of Tells kept faults opening.OutOfMemory failed damaged unsound = inr (inr refl)
 
--- a session that didn't begin ends with the line that tells why
-pub ends_unbegun : (Tells : Type 0) (kept keeps : Content) (faults ended : ℕ) (answer : Answer) (console : Console) (rose : Type 0)
+-- what didn't begin tells why, and leaves the store as it was
+pub unbegun : (Tells : Type 0) (kept keeps : Content) (faults ended : ℕ) (answer : Answer) (console : Console) (rose : Type 0)
     → IsCause Tells kept faults answer → (ended ≡ status_code answer.status) ⊎ (ended ≡ status_code status.OutOfMemory)
     → Answers answer ended console.before console.after rose → Keeps console.unread console.left → (Tells → IsSame kept keeps)
-    → EndsSession Tells kept keeps faults ended console rose
-ends_unbegun Tells kept keeps faults ended answer console rose cause is told unread same = inr record {
+    → WasNotBegun Tells kept keeps faults ended console rose
+unbegun Tells kept keeps faults ended answer console rose cause is told unread same = record {
   answer = answer;
   cause = cause;
   status = is;
@@ -141,3 +150,25 @@ ends_unbegun Tells kept keeps faults ended answer console rose cause is told unr
   unread = unread;
   closed = λ tells. inl (same tells);
 }
+
+-- the shelf didn't open a store: nothing began, and the line tells why
+pub not_lent : (Told Tells lost : Type 0) (kept keeps : Content) (ended : Status) (console : Console) (rose : Type 0)
+    → (ended ≡ status.StoreFault) ⊎ (ended ≡ status.OutOfMemory) → (ended ≡ status.StoreFault → lost)
+    → (ended ≡ status.StoreFault → Answers answer_to_store_fault (status_code ended) console.before console.after rose)
+    → (ended ≡ status.OutOfMemory → Answers answer_without_memory (status_code ended) console.before console.after rose)
+    → console.left ≡ console.unread → (Tells → Told × IsSame kept keeps)
+    → (faults : ℕ) × WasNotBegun Tells kept keeps faults (status_code ended) console rose × (Tells → Told) × (0 < faults → lost)
+not_lent Told Tells lost kept keeps ended console rose (inl is) failed store_line memory_line stays others = (
+  1,
+  unbegun Tells kept keeps 1 (status_code ended) answer_to_store_fault console rose (inl (refl, search (arith))) (inl (ap status_code is))
+      (store_line is) (keeps_of _ _ stays) (λ tells. (others tells).1),
+  (λ tells. (others tells).0),
+  λ some. failed is,
+)
+not_lent Told Tells lost kept keeps ended console rose (inr is) failed store_line memory_line stays others = (
+  0,
+  unbegun Tells kept keeps 0 (status_code ended) answer_without_memory console rose (inr (inr refl)) (inl (ap status_code is))
+      (memory_line is) (keeps_of _ _ stays) (λ tells. (others tells).1),
+  (λ tells. (others tells).0),
+  λ some. absurd (search (arith, some)),
+)

@@ -14,7 +14,7 @@ use Rattle.desk_history.specs.Refused.{refused}
 use Rattle.desk_scratch.specs.CheckText.{check_text}
 use Rattle.desk_scratch.specs.MaterialBlock.{material_block, rule_line}
 use Rattle.desk_top.specs.Check.{text_unless}
-use Rattle.desk_top.specs.declared.command.Check.{Check}
+use Rattle.desk_words.specs.declared.command.Check.{Check}
 
 -- the text on a declaration is the same before it and after it
 pub text_after : (t : Lists) (kind : Kind) (day : Date) (d : Declared) → check_text (entered t (Declare d)) kind day d ≡ check_text t kind day d

@@ -2,12 +2,15 @@
 use Rattle.std.specs.Prelude.{◌≡◌, ℕ, ◌⊎◌, if◌then◌else◌, ◌==◌, List, ◌++◌, codes, decimal, Option, None, Some, Result, Ok, Err}
 use Rattle.std.specs.Io.KnownBytes.{Appends, Keeps}
 use Rattle.desk_edge.specs.Transfer.{AppendsBeginning, AppendsPart}
+use Rattle.desk_text.specs.Day.{Date}
 use Rattle.desk_declare.specs.Faults.{declare_fault_words}
+use Rattle.desk_model.specs.Lists.{Lists}
 use Rattle.desk_model.specs.Refusals.{refusal_words}
+use Rattle.desk_scratch.specs.Summary.{summary_text}
 use Rattle.desk_clerk.specs.declared.open_fault.OpenFault.{OpenFault}
 use Rattle.desk_clerk.specs.declared.open_fault.OpenFault.TheVariants as opening
 use Rattle.desk_top.specs.Check.{checked}
-use Rattle.desk_top.specs.declared.command.Check.{Check}
+use Rattle.desk_words.specs.declared.command.Check.{Check}
 use Rattle.desk_top.specs.declared.refusal.Refusal.{Refusal}
 use Rattle.desk_top.specs.declared.refusal.Refusal.TheVariants.{InputTooLong, BadDeclaration, Rule}
 use Rattle.desk_top.specs.declared.status.Status.{Status}
@@ -49,11 +52,31 @@ answer_of_check (Err refusal) = record { status = Refused; text = refusal_line r
 abbrev pub answer_to_other_words : Answer
 answer_to_other_words = record { status = BadWords; text = codes "desk: words\n" }
 
+-- the answer of `audit` and of `sample`: the summary of these tables on a day
+abbrev pub answer_of_summary : Lists → Date → Answer
+answer_of_summary t day = record { status = Done; text = summary_text t day }
+
+-- the answer to an import of so many records
+abbrev pub answer_to_import : ℕ → Answer
+answer_to_import number = record { status = Done; text = codes "imported " ++ decimal number ++ codes "\n" }
+
+-- the answer to an import into a store that keeps something
+abbrev pub answer_to_full_store : Answer
+answer_to_full_store = record { status = Refused; text = codes "refused not-empty\n" }
+
+-- the answer to an import of more bytes than a desk has
+abbrev pub answer_to_long_import : Answer
+answer_to_long_import = record { status = Refused; text = codes "refused input-too-long\n" }
+
+-- the answer to an import whose line of this number is no record's, or whose lines, where it is 0, no desk has
+abbrev pub answer_to_damaged_line : ℕ → Answer
+answer_to_damaged_line line = record { status = Refused; text = codes "refused damaged line " ++ decimal line ++ codes "\n" }
+
 -- the answer where there was no memory
 abbrev pub answer_without_memory : Answer
 answer_without_memory = record { status = OutOfMemory; text = codes "desk: memory\n" }
 
--- the answer where the store refused a call before the first request was read
+-- the answer where the store refused a call
 abbrev pub answer_to_store_fault : Answer
 answer_to_store_fault = record { status = StoreFault; text = codes "desk: store\n" }
 
@@ -77,10 +100,9 @@ abbrev pub IsInput : Option (List ℕ) → List ℕ → Type 0
 IsInput None input = Unit {0}
 IsInput (Some told) input = input ≡ told
 
--- the answer to a command for the bytes that come
-abbrev pub answer_to : Option Check → List ℕ → Answer
-answer_to None bytes = answer_to_other_words
-answer_to (Some check) bytes = answer_of_check (checked check bytes)
+-- the answer to a check for the bytes that come
+abbrev pub answer_to_check : Check → List ℕ → Answer
+answer_to_check check bytes = answer_of_check (checked check bytes)
 
 -- what is written where the program ends with this status: the answer's text, or the line that memory was wanting
 abbrev pub text_with : ℕ → Answer → List ℕ

@@ -1,6 +1,10 @@
 pub mod Answer
 pub mod Check
-pub mod Command
+pub mod Console
 pub mod Faults
+pub mod Import
+pub mod Reports
 pub mod Run
+pub mod Sample
 pub mod Session
+pub mod Store

@@ -1,18 +1,46 @@
--- How the program ends for what its words ask.
-use Rattle.std.specs.Prelude.{◌≡◌, ℕ, ◌+◌, ◌≤◌, List, length, Some}
+-- What the program does for each command.
+use Rattle.std.specs.Prelude.{◌≡◌, ℕ, ◌+◌, ◌≤◌, List, length, Option, None, Some}
 use Rattle.std.specs.Io.KnownBytes.{Consumes, IsAtEnd}
-use Rattle.desk_top.specs.Answer.{Answers, IsInput, answer_to, status_code}
+use Rattle.desk_edge.specs.Content.{Content}
+use Rattle.desk_top.specs.Answer.{Answers, IsInput, answer_to_check, status_code}
 use Rattle.desk_top.specs.Check.{input_limit}
-use Rattle.desk_top.specs.Session.{Console}
-use Rattle.desk_top.specs.declared.command.Check.{Check}
+use Rattle.desk_top.specs.Console.{Console}
+use Rattle.desk_top.specs.Import.{EndsImport}
+use Rattle.desk_top.specs.Reports.{EndsAudit, EndsExport}
+use Rattle.desk_top.specs.Sample.{answer_to_sample}
+use Rattle.desk_top.specs.Session.{EndsSession, nothing_kept}
+use Rattle.desk_top.specs.Store.{OnStore}
 use Rattle.desk_top.specs.declared.status.Status.TheVariants.{Done, ConsoleFault}
+use Rattle.desk_words.specs.declared.command.Check.{Check}
+use Rattle.desk_words.specs.declared.command.Command.{Command}
+use Rattle.desk_words.specs.declared.command.Command.TheVariants as asked
 
 -- The status and the whole text are the ones that are meant for the input. No byte past the one after the limit is asked for, and that
 -- one is never followed by the status of a console's fault.
 pub record IsAnswered (check : Check) (ended : ℕ) (c : Console) (rose : Type 0) : Type 0 where
   pub input : List ℕ
   pub is : IsInput c.unread input
-  pub answers : Answers (answer_to (Some check) input) ended c.before c.after rose
+  pub answers : Answers (answer_to_check check input) ended c.before c.after rose
   pub end : ended ≡ status_code Done → IsAtEnd c.left
   pub taken : (bytes : List ℕ) × Consumes c.unread c.left bytes × (length bytes ≤ input_limit + 1)
   pub fault : ended ≡ status_code ConsoleFault → (bytes : List ℕ) × Consumes c.unread c.left bytes × (length bytes ≤ input_limit)
+
+-- the answer was written, and nothing was read
+abbrev pub IsWritten : (Console → Type 0) → Console → Type 0
+IsWritten Told c = (c.left ≡ c.unread) × Told c
+
+-- a session is served over the desk of its store, or without one over a new desk, whose keeper counts no fault
+abbrev pub IsSession : (Told Tells : List ℕ → Type 0) → (kept keeps : List ℕ → Content) → Type 0 → Option (List ℕ) → ℕ → Console → Type 0 → Type 0
+IsSession Told Tells kept keeps lost None ended c rose = (content : Content) × EndsSession (Unit {0}) nothing_kept content 0 ended c rose
+IsSession Told Tells kept keeps lost (Some name) ended c rose = OnStore Told Tells kept keeps lost EndsSession name ended c rose
+
+-- What each command comes to, where the program ends with this status. Of the shelf: of which stores it tells what they keep, before and
+-- after, what these keep, before and after, and whether its count of faults rose.
+abbrev pub Does : (Told Tells : List ℕ → Type 0) → (kept keeps : List ℕ → Content) → Type 0 → Command → ℕ → Console → Type 0 → Type 0
+Does Told Tells kept keeps lost (asked.Check check) ended c rose = IsAnswered check ended c rose
+Does Told Tells kept keeps lost (asked.Session session) ended c rose = IsSession Told Tells kept keeps lost session.store ended c rose
+Does Told Tells kept keeps lost (asked.Export export) ended c rose = OnStore Told Tells kept keeps lost EndsExport export.store ended c rose
+Does Told Tells kept keeps lost (asked.Import import) ended c rose = OnStore Told Tells kept keeps lost EndsImport import.store ended c rose
+Does Told Tells kept keeps lost (asked.Audit audit) ended c rose = OnStore Told Tells kept keeps lost (EndsAudit audit.day) audit.store ended c rose
+Does Told Tells kept keeps lost (asked.Sample sample) ended c rose =
+    IsWritten (λ c. Answers (answer_to_sample sample.size) ended c.before c.after rose) c

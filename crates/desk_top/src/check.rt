@@ -4,19 +4,19 @@ ghost use Rattle.desk_text.specs.Day.{is_askable};
 ghost use Rattle.desk_model.specs.Declaration.{Declared};
 ghost use Rattle.desk_model.specs.declared.edit.Edit.TheVariants.{Declare};
 ghost use Rattle.desk_edge.specs.Faults.{Rose};
-ghost use Rattle.desk_top.specs.Answer.{Answers, IsInput, answer_of_check, answer_to, status_code};
+ghost use Rattle.desk_top.specs.Answer.{Answers, IsInput, answer_of_check, answer_to_check, status_code};
 ghost use Rattle.desk_top.specs.Check.{Agrees, checked, input_limit, judged};
 
-use crate::command::Check;
 use crate::refusal::Refusal;
 use crate::status::Status;
-use crate::tell::{answer_no_memory, tell};
+use crate::tell::{answer_no_memory, tell, write_text};
 use desk_declare::{DeclareFault, read_declaration};
-use desk_edge::{Link, ReadFault, read_up_to, write_all};
+use desk_edge::{Link, ReadFault, read_up_to};
 use desk_model::Edit;
 use desk_scratch::{Asked, check_text};
 use desk_tables::Tables;
 use desk_text::{Bytes, OutOfMemory};
+use desk_words::Check;
 use std::alloc::Global;
 
 /// The greatest number of bytes in a declaration that is checked.
@@ -82,7 +82,7 @@ pub fn answer_check<L: Link>(alloc: Global, check: &Check, console: &mut L) -> S
     ensures end { result ≡ Status.Done → IsAtEnd (L.unread console.new) }
     ensures no_fault { result ≡ Status.Done → L.faults console.new ≡ L.faults console.old }
     ensures answer { (input : List ℕ) × IsInput (L.unread console.old) input
-        × Answers (answer_to (Some check.now) input) (status_code result)
+        × Answers (answer_to_check check.now input) (status_code result)
         (L.written console.old) (L.written console.new) (Rose (L.faults console.old) (L.faults console.new)) }
     ensures taken { (bytes : List ℕ) × Consumes (L.unread console.old) (L.unread console.new) bytes × (length bytes ≤ input_limit + 1) }
     ensures fault_taken { result ≡ Status.ConsoleFault →
@@ -90,10 +90,7 @@ pub fn answer_check<L: Link>(alloc: Global, check: &Check, console: &mut L) -> S
     ensures never_falls { L.faults console.old ≤ L.faults console.new }
 {
     match check_input(alloc, check, console) {
-        Ok(text) => match write_all(console, text.as_slice()) {
-            Ok(()) => Status::Done,
-            Err(_) => Status::ConsoleFault,
-        },
+        Ok(text) => write_text(console, text.as_slice()),
         Err(CheckFault::Refused(refusal)) => answer_refused(alloc, &refusal, console),
         Err(CheckFault::Failed) => Status::ConsoleFault,
         Err(CheckFault::OutOfMemory) => answer_no_memory(console),

@@ -1,20 +1,27 @@
 //! The substance compliance desk: the program, and what its exit status and its output mean.
 #![tactic(auto)]
 
+mod audit;
 mod check;
-mod command;
+#[cfg(test)]
+mod commands_tests;
+mod export;
+mod import;
 mod refusal;
 mod run;
+mod sample;
 mod session;
 #[cfg(test)]
 mod session_steps;
 #[cfg(test)]
 mod session_tests;
 mod status;
+mod store;
 #[cfg(test)]
 mod store_tests;
 #[cfg(test)]
 mod stream_tests;
+mod summary;
 mod sure_keeper;
 mod tell;
 #[cfg(test)]

@@ -51,8 +51,19 @@ pub(crate) fn push_reply(written: &mut String, turn: &Turn) -> Result<(), Fail> 
     Ok(())
 }
 
-/// The status of a session, and what it writes, where the stream comes by pieces of this length.
-pub(crate) fn session<R: Wait + Sync + Threads>(
+/// The requests of these turns, and their replies.
+pub(crate) fn stream_of(alloc: Global, turns: &[Turn]) -> Result<(String, String), Fail> {
+    let mut stream = String::new(alloc);
+    let mut replies = String::new(alloc);
+    for turn in turns {
+        push_request(&mut stream, turn)?;
+        push_reply(&mut replies, turn)?;
+    }
+    Ok((stream, replies))
+}
+
+/// The status of a command, and what it writes, where the input comes by pieces of this length.
+pub(crate) fn outcome<R: Wait + Sync + Threads>(
     rt: &R,
     alloc: Global,
     words: &[&str],
@@ -63,7 +74,18 @@ pub(crate) fn session<R: Wait + Sync + Threads>(
     requires { 1 ≤ piece }
 {
     let input = Bytes::from(stream.to_vec(alloc)?);
-    let mut console = MemoryLink::new(alloc, input, piece, ROOM, Vec::new(alloc))?;
+    let console = MemoryLink::new(alloc, input, piece, ROOM, Vec::new(alloc))?;
+    outcome_over(rt, alloc, words, console, shelf)
+}
+
+/// The status of a command over this console, and what it writes.
+pub(crate) fn outcome_over<R: Wait + Sync + Threads>(
+    rt: &R,
+    alloc: Global,
+    words: &[&str],
+    mut console: MemoryLink,
+    shelf: &mut MapShelf,
+) -> Result<(u8, Vec<u8>), Fail> {
     let mut list = Vec::new(alloc);
     for word in words {
         list.push(word.to_string(alloc)?)?;
@@ -78,15 +100,10 @@ pub(crate) fn answers_each<R: Wait + Sync + Threads + Abort>(
     alloc: Global,
     turns: &[Turn],
 ) -> Result<(), Fail> {
-    let mut stream = String::new(alloc);
-    let mut replies = String::new(alloc);
-    for turn in turns {
-        push_request(&mut stream, turn)?;
-        push_reply(&mut replies, turn)?;
-    }
+    let (stream, replies) = stream_of(alloc, turns)?;
     let mut shelf = MapShelf::new(alloc, Vec::new(alloc), Vec::new(alloc));
     for piece in [1, 7, 100_000] {
-        let (status, written) = session(
+        let (status, written) = outcome(
             rt,
             alloc,
             &["session"],

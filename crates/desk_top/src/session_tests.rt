@@ -504,7 +504,7 @@ fn a_mass_of_128_bits_is_the_most(rt: HostRuntime) -> Result<(), Fail> {
     answers_each(&rt, rt.alloc(), HEAVY)
 }
 
-const GATEWAY: &[Turn] = &[
+pub(crate) const GATEWAY: &[Turn] = &[
     Turn {
         ask: r#"POST /edit {"edit":"substance","ticket":"t1","code":"lead-oxide","name":"Lead oxide","cas":"1317-36-8"}"#,
         status: "200 OK",

@@ -10,12 +10,12 @@ pub enum Status {
     BadWords,
     /// The console refused a call. Status 3.
     ConsoleFault,
-    /// The store refused a call before the first request was read. Status 4.
+    /// The store refused a call; in a session before the first request was read. Status 4.
     StoreFault,
     /// The store's records aren't those of sound tables; the line written names one. Status 5.
     Damaged,
-    /// The input was read and refused: of `check` the line written says why, and a stream of requests ended inside one, or went on too
-    /// long. Status 6.
+    /// The input is refused: of `check` and `import` the line written says why, and a stream of requests ended inside one, or went on
+    /// too long. Status 6.
     Refused,
     /// There was no memory. Status 8.
     OutOfMemory,

@@ -1,6 +1,6 @@
 //! Sessions over a store: what is kept, and what a store that fails or is damaged ends with.
 
-use crate::session_steps::{Turn, push_reply, push_request, session};
+use crate::session_steps::{Turn, outcome, stream_of};
 use desk_edge::{Change, Keeper, MapKeeper, MapShelf, Record};
 use desk_text::Bytes;
 use std::alloc::Global;
@@ -47,17 +47,6 @@ const AGAIN: &[Turn] = &[
     },
 ];
 
-/// The requests of these turns, and their replies.
-fn stream_of(alloc: Global, turns: &[Turn]) -> Result<(String, String), Fail> {
-    let mut stream = String::new(alloc);
-    let mut replies = String::new(alloc);
-    for turn in turns {
-        push_request(&mut stream, turn)?;
-        push_reply(&mut replies, turn)?;
-    }
-    Ok((stream, replies))
-}
-
 /// Whether a session over the shelf's store ends with the status and writes just the replies of these turns.
 fn is_served<R: Wait + Sync + Threads>(
     rt: &R,
@@ -66,12 +55,12 @@ fn is_served<R: Wait + Sync + Threads>(
     shelf: &mut MapShelf,
 ) -> Result<bool, Fail> {
     let (stream, replies) = stream_of(alloc, turns)?;
-    let (status, written) = session(rt, alloc, &WORDS, stream.as_bytes(), 7, shelf)?;
+    let (status, written) = outcome(rt, alloc, &WORDS, stream.as_bytes(), 7, shelf)?;
     Ok(status == 0 && written.as_slice() == replies.as_bytes())
 }
 
 /// A shelf with one store, of these records as kinds, codes and bodies, whose calls of these numbers fail.
-fn shelf_of(
+pub(crate) fn shelf_of(
     alloc: Global,
     records: &[(u8, &str, &str)],
     failing: &[u64],
@@ -114,7 +103,7 @@ fn told_of<R: Wait + Sync + Threads>(
     mut shelf: MapShelf,
 ) -> Result<(u8, Vec<u8>), Fail> {
     let (stream, _) = stream_of(alloc, FIRST)?;
-    session(rt, alloc, &WORDS, stream.as_bytes(), 100_000, &mut shelf)
+    outcome(rt, alloc, &WORDS, stream.as_bytes(), 100_000, &mut shelf)
 }
 
 #[test]

@@ -3,7 +3,8 @@
 ghost use Rattle.std.specs.Prelude.{◌≤◌};
 
 use crate::run::run;
-use crate::session_steps::session;
+use crate::session_steps::{outcome, stream_of};
+use crate::session_tests::GATEWAY;
 use desk_edge::{MapShelf, MemoryLink};
 use desk_text::Bytes;
 use std::alloc::Global;
@@ -34,7 +35,7 @@ fn ends_so<R: Wait + Sync + Threads>(
     requires { 1 ≤ piece }
 {
     let mut shelf = MapShelf::new(alloc, Vec::new(alloc), Vec::new(alloc));
-    let (status, written) = session(rt, alloc, &["session"], stream, piece, &mut shelf)?;
+    let (status, written) = outcome(rt, alloc, &["session"], stream, piece, &mut shelf)?;
     Ok(status == ended && written.as_slice() == replies.as_bytes())
 }
 
@@ -45,7 +46,16 @@ const CLOSE: &str = "Connection: close\r\n";
 
 const BAD_LENGTH: &str = "411 Length Required";
 
-const ROWS: [Row; 7] = [
+/// A head of 65 lines, and a good request.
+const LONG_HEAD: &[u8] = b"GET /version HTTP/1.1\r\n\
+    A:b\r\nA:b\r\nA:b\r\nA:b\r\nA:b\r\nA:b\r\nA:b\r\nA:b\r\nA:b\r\nA:b\r\nA:b\r\nA:b\r\nA:b\r\n\
+    A:b\r\nA:b\r\nA:b\r\nA:b\r\nA:b\r\nA:b\r\nA:b\r\nA:b\r\nA:b\r\nA:b\r\nA:b\r\nA:b\r\nA:b\r\n\
+    A:b\r\nA:b\r\nA:b\r\nA:b\r\nA:b\r\nA:b\r\nA:b\r\nA:b\r\nA:b\r\nA:b\r\nA:b\r\nA:b\r\nA:b\r\n\
+    A:b\r\nA:b\r\nA:b\r\nA:b\r\nA:b\r\nA:b\r\nA:b\r\nA:b\r\nA:b\r\nA:b\r\nA:b\r\nA:b\r\nA:b\r\n\
+    A:b\r\nA:b\r\nA:b\r\nA:b\r\nA:b\r\nA:b\r\nA:b\r\nA:b\r\nA:b\r\nA:b\r\nA:b\r\nA:b\r\nA:b\r\n\
+    \r\nGET /version HTTP/1.1\r\n\r\n";
+
+const ROWS: [Row; 12] = [
     (
         b"POST /edit HTTP/1.1\r\nContent-Length: 7\r\nContent-Length: 7\r\n\r\n{\"a\":1}",
         BAD_LENGTH,
@@ -87,6 +97,36 @@ const ROWS: [Row; 7] = [
         "400 Bad Request",
         "",
         "bad-query kind\n",
+    ),
+    (
+        b"GET\r\n\r\nGET /version HTTP/1.1\r\n\r\n",
+        "400 Bad Request",
+        CLOSE,
+        "bad-head\n",
+    ),
+    (
+        b"POST /edit HTTP/1.1\r\n\r\nGET /version HTTP/1.1\r\n\r\n",
+        BAD_LENGTH,
+        CLOSE,
+        "length-required\n",
+    ),
+    (
+        b"POST /edit HTTP/1.1\r\nContent-Length: 65537\r\n\r\nGET /version HTTP/1.1\r\n\r\n",
+        "413 Payload Too Large",
+        CLOSE,
+        "body-too-long\n",
+    ),
+    (
+        LONG_HEAD,
+        "431 Request Header Fields Too Large",
+        CLOSE,
+        "head-too-long\n",
+    ),
+    (
+        b"POST /version HTTP/1.1\r\nContent-Length: 0\r\nConnection: keep, CLOSE\r\n\r\nGET /version HTTP/1.1\r\n\r\n",
+        "405 Method Not Allowed",
+        "Allow: GET\r\nConnection: close\r\n",
+        "wrong-method\n",
     ),
 ];
 
@@ -178,6 +218,43 @@ fn a_thousand_requests_at_once_get_a_thousand_replies(rt: HostRuntime) -> Result
             replies.as_str()
         )?
     );
+    Ok(())
+}
+
+/// What a session writes for the edits and the questions of an ordinary desk, four times over, by pieces of this length.
+fn hundred_mixed<R: Wait + Sync + Threads>(
+    rt: &R,
+    alloc: Global,
+    piece: usize,
+) -> Result<(u8, Vec<u8>), Fail>
+    requires { 1 ≤ piece }
+{
+    let (requests, _) = stream_of(alloc, GATEWAY)?;
+    let mut stream = String::new(alloc);
+    for _ in 0..4 {
+        stream.push_str(requests.as_str())?;
+    }
+    let mut shelf = MapShelf::new(alloc, Vec::new(alloc), Vec::new(alloc));
+    outcome(
+        rt,
+        alloc,
+        &["session"],
+        stream.as_bytes(),
+        piece,
+        &mut shelf,
+    )
+}
+
+#[test]
+fn a_hundred_mixed_requests_are_answered_alike_however_they_are_cut(
+    rt: HostRuntime,
+) -> Result<(), Fail> {
+    let alloc = rt.alloc();
+    let (status, written) = hundred_mixed(&rt, alloc, 1)?;
+    let (_, replies) = stream_of(alloc, GATEWAY)?;
+    assert_eq!(rt; status, 0);
+    assert!(rt; written.starts_with(replies.as_bytes()));
+    assert!(rt; hundred_mixed(&rt, alloc, 100_000)? == (0, written));
     Ok(())
 }
 

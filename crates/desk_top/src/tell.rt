@@ -1,12 +1,13 @@
-ghost use Rattle.std.specs.Prelude.{◌≡◌, ◌≤◌};
+ghost use Rattle.std.specs.Prelude.{◌≡◌, ◌⊎◌, ◌≤◌, ◌++◌, codes, decimal, OnErr, OnOk};
 ghost use Rattle.std.specs.Io.KnownBytes.{Appends};
 ghost use Rattle.desk_edge.specs.Faults.{Rose};
-ghost use Rattle.desk_edge.specs.Transfer.{AppendsBeginning};
-ghost use Rattle.desk_top.specs.Answer.{Answers, answer_to_other_words, answer_to_unread_words, answer_without_memory, status_code};
+ghost use Rattle.desk_edge.specs.Transfer.{AppendsBeginning, AppendsPart};
+ghost use Rattle.desk_top.specs.Answer.{Answers, answer_to_other_words, answer_to_store_fault, answer_to_unread_words, answer_without_memory, status_code};
 
 use crate::status::Status;
 use crate::words::WordsFault;
-use desk_edge::{Link, write_all};
+use desk_edge::{Failed, Link, write_all};
+use itoa::Buffer;
 
 /// Writes the answer to words that are no command, and reads nothing.
 pub fn answer_other_words<L: Link>(console: &mut L) -> Status
@@ -44,6 +45,17 @@ pub fn answer_no_memory<L: Link>(console: &mut L) -> Status
     tell(console, Status::OutOfMemory, b"desk: memory\n")
 }
 
+/// Writes that the store refused a call, and reads nothing.
+pub fn answer_store_fault<L: Link>(console: &mut L) -> Status
+    ensures status { result ≡ Status.StoreFault }
+    ensures answer { Answers answer_to_store_fault (status_code result)
+        (L.written console.old) (L.written console.new) (Rose (L.faults console.old) (L.faults console.new)) }
+    ensures input_stays { L.unread console.new ≡ L.unread console.old }
+    ensures never_falls { L.faults console.old ≤ L.faults console.new }
+{
+    tell(console, Status::StoreFault, b"desk: store\n")
+}
+
 /// Writes the line that goes with a status, as far as the console takes it, and hands on the
 /// status.
 pub fn tell<L: Link>(console: &mut L, status: Status, line: &[u8]) -> Status
@@ -56,4 +68,38 @@ pub fn tell<L: Link>(console: &mut L, status: Status, line: &[u8]) -> Status
     // Whoever reads the line may be gone: the status tells as much.
     let _ = write_all(console, line);
     status
+}
+
+/// Writes the whole text of a command that succeeds. 3: the console counted a fault.
+pub fn write_text<L: Link>(console: &mut L, text: &[u8]) -> Status
+    ensures status { (result ≡ Status.Done) ⊎ (result ≡ Status.ConsoleFault) }
+    ensures answer { Answers (record { status = Status.Done; text = text.now }) (status_code result)
+        (L.written console.old) (L.written console.new) (Rose (L.faults console.old) (L.faults console.new)) }
+    ensures input_stays { L.unread console.new ≡ L.unread console.old }
+    ensures console_fault { result ≡ Status.ConsoleFault → Rose (L.faults console.old) (L.faults console.new) }
+    ensures no_fault { result ≡ Status.Done → L.faults console.new ≡ L.faults console.old }
+    ensures never_falls { L.faults console.old ≤ L.faults console.new }
+{
+    match write_all(console, text) {
+        Ok(()) => Status::Done,
+        Err(_) => Status::ConsoleFault,
+    }
+}
+
+/// Writes these words, the number and the end of the line. It takes no memory. `Failed`: the console counted a fault; a part
+/// of the line is written.
+pub fn write_numbered<L: Link>(console: &mut L, words: &[u8], number: u64) -> Result<(), Failed>
+    ensures ok { OnOk result (Appends (L.written console.old) (L.written console.new) (words.now ++ decimal number ++ codes "\n")) }
+    ensures err { OnErr result (AppendsPart (L.written console.old) (L.written console.new) (words.now ++ decimal number ++ codes "\n")) }
+    ensures beginning { AppendsBeginning (L.written console.old) (L.written console.new) (words.now ++ decimal number ++ codes "\n") }
+    ensures input_stays { L.unread console.new ≡ L.unread console.old }
+    ensures steady { OnOk result (L.faults console.new ≡ L.faults console.old) }
+    ensures failed { OnErr result (Rose (L.faults console.old) (L.faults console.new)) }
+    ensures never_falls { L.faults console.old ≤ L.faults console.new }
+{
+    write_all(console, words)?;
+    let mut digits = Buffer::new();
+    write_all(console, digits.format(number).as_bytes())?;
+    write_all(console, b"\n")?;
+    Ok(())
 }

@@ -1,6 +1,7 @@
 ghost use Rattle.std.specs.Prelude.{◌≤◌};
 
-use crate::run::{launch, run};
+use crate::run::launch;
+use crate::session_steps::outcome_over;
 use crate::words::{WordsFault, words};
 use desk_edge::{MapShelf, MemoryLink};
 use desk_text::Bytes;
@@ -26,23 +27,8 @@ fn outcome<R: Wait + Sync + Threads>(
 {
     let input = Bytes::from(input.to_vec(alloc)?);
     let console = MemoryLink::new(alloc, input, piece, ROOM, failing.to_vec(alloc)?)?;
-    outcome_over(rt, alloc, words, console)
-}
-
-/// The status for these words over this console, and what was written.
-fn outcome_over<R: Wait + Sync + Threads>(
-    rt: &R,
-    alloc: Global,
-    words: &[&str],
-    mut console: MemoryLink,
-) -> Result<(u8, Vec<u8>), Fail> {
-    let mut list = Vec::new(alloc);
-    for word in words {
-        list.push(word.to_string(alloc)?)?;
-    }
     let mut shelf = MapShelf::new(alloc, Vec::new(alloc), Vec::new(alloc));
-    let status = run(rt, alloc, &list, &mut console, &mut shelf);
-    Ok((status, console.written().to_vec(alloc)?))
+    outcome_over(rt, alloc, words, console, &mut shelf)
 }
 
 const HEAD: &[u8] = b"D,1,ACME,7,2024-01-23";
@@ -211,19 +197,42 @@ fn are_no_command<R: Wait + Sync + Threads>(
     )
 }
 
+/// Words that are no command line.
+const NO_COMMANDS: [&[&str]; 16] = [
+    &[],
+    &["fly"],
+    &["serve"],
+    &["Check", "2024-01-23", "3"],
+    &["check", "2024-01-23"],
+    &["check", "2024-01-23", "12"],
+    &["check", "2024-02-30", "3"],
+    &["check", "2014-07-21", "3"],
+    &["check", "2024-01-23", "3", "x"],
+    &["check", "2024-01-23", "3", "--store", "a"],
+    &["session", "--store=a", "--store=b"],
+    &["session", "--store", "-"],
+    &["export"],
+    &["audit", "2024-01-23"],
+    &["sample", "0"],
+    &["sample", "01"],
+];
+
 #[test]
 fn other_words_are_no_command_line(rt: HostRuntime) -> Result<(), Fail> {
     let alloc = rt.alloc();
-    assert!(rt; are_no_command(&rt, alloc, &[])?);
-    assert!(rt; are_no_command(&rt, alloc, &["fly"])?);
-    assert!(rt; are_no_command(&rt, alloc, &["check", "2024-01-23"])?);
-    assert!(rt; are_no_command(&rt, alloc, &["check", "2024-01-23", "12"])?);
-    assert!(rt; are_no_command(&rt, alloc, &["check", "2024-02-30", "3"])?);
-    assert!(rt; are_no_command(&rt, alloc, &["check", "2014-07-21", "3"])?);
-    assert!(rt; are_no_command(&rt, alloc, &["check", "2024-01-23", "3", "x"])?);
-    assert!(rt; are_no_command(&rt, alloc, &["Check", "2024-01-23", "3"])?);
-    assert!(rt; are_no_command(&rt, alloc, &["check", "3", "2024-01-23"])?);
-    assert!(rt; are_no_command(&rt, alloc, &["check", "2024-01-23", "3 "])?);
+    for words in NO_COMMANDS {
+        assert!(rt; are_no_command(&rt, alloc, words)?);
+    }
+    let (status, text) = outcome(
+        &rt,
+        alloc,
+        &["check", "--", "2024-01-23", "3"],
+        HEAD,
+        64,
+        &[],
+    )?;
+    assert_eq!(rt; status, 0);
+    assert_eq!(rt; text.as_slice(), ANSWER.as_bytes());
     Ok(())
 }
 
@@ -281,7 +290,8 @@ fn a_line_that_is_cut_short_changes_no_status(rt: HostRuntime) -> Result<(), Fai
     ] {
         let input = Bytes::from(input.to_vec(alloc)?);
         let console = MemoryLink::new(alloc, input, 64, 4, Vec::new(alloc))?;
-        let (ended, text) = outcome_over(&rt, alloc, words, console)?;
+        let mut shelf = MapShelf::new(alloc, Vec::new(alloc), Vec::new(alloc));
+        let (ended, text) = outcome_over(&rt, alloc, words, console, &mut shelf)?;
         assert_eq!(rt; ended, status, "where {written} is written");
         assert_eq!(rt; text.as_slice(), written.as_bytes());
     }

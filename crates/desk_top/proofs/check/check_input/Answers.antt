@@ -11,7 +11,7 @@ use Rattle.desk_top.specs.Check.{Agrees, checked, input_limit}
 use Rattle.desk_top.specs.Faults.{from_read_fault}
 use Rattle.desk_top.specs.declared.check.CheckFault.{CheckFault}
 use Rattle.desk_top.specs.declared.check.CheckFault.TheVariants.{Failed}
-use Rattle.desk_top.specs.declared.command.Check.{Check}
+use Rattle.desk_words.specs.declared.command.Check.{Check}
 use Rattle.desk_top.proofs.Input.{some_input}
 use Rattle.desk_top.proofs.check.check_input.Goals as goal
 

@@ -1,6 +1,6 @@
 -- The line that names a key is the whole text of its status.
 use Rattle.std.proofs.Common.{◌∙◌, inl, refl}
-use Rattle.desk_top.proofs.session.answer_damage.Goals as goal
+use Rattle.desk_top.proofs.store.answer_damage.Goals as goal
 
 pub returns-in-Ok-clause-answer : goal.returns-in-Ok-clause-answer
 returns-in-Ok-clause-answer g c = rw c.tell.ensures.status record {

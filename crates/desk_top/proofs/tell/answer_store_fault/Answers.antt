@@ -1,6 +1,6 @@
 -- The line that the store refused a call is the whole text of its status.
 use Rattle.std.proofs.Common.{inl, refl}
-use Rattle.desk_top.proofs.session.answer_store_fault.Goals as goal
+use Rattle.desk_top.proofs.tell.answer_store_fault.Goals as goal
 
 pub returns-clause-answer : goal.returns-clause-answer
 returns-clause-answer g c = rw c.tell.ensures.status record {

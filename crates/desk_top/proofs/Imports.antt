@@ -1,0 +1,104 @@
+-- What is said of an import into a keeper that was opened from a shelf is said of the shelf's store.
+use Rattle.std.proofs.Common.{◌≡◌, ◌∙◌, ap, sym, subst, ◌⊎◌, ℕ, ◌<◌, List, [], Option, inl, inr, refl, arith}
+use Rattle.std.specs.Io.KnownBytes.{Appends}
+use Rattle.std.proofs.KnownBytes.{Appends-nil}
+use Rattle.desk_edge.specs.Content.{Content, IsSame}
+use Rattle.desk_edge.specs.Faults.{Rose}
+use Rattle.desk_edge.specs.Transfer.{AppendsBeginning}
+use Rattle.desk_records.specs.Records.{tables_content}
+use Rattle.desk_top.specs.Answer.{Answer, Answers, answer_to_store_fault, answer_without_memory, status_code}
+use Rattle.desk_top.specs.Console.{Console}
+use Rattle.desk_top.specs.Import.{EndsImport, IsRefusal}
+use Rattle.desk_top.specs.declared.status.Status.{Status}
+use Rattle.desk_top.specs.declared.status.Status.TheVariants as status
+use Rattle.desk_top.proofs.Stores.{keeps_of, same_trans}
+
+-- why nothing was put into a keeper is why nothing was put into the store
+refusal_as : (Told Tells : Type 0) (a b : Content) (faults : ℕ) (console : Console) (answer : Answer) → (Told → Tells) → (Told → IsSame a b)
+    → IsRefusal Tells b faults console answer → IsRefusal Told a faults console answer
+refusal_as Told Tells a b faults console answer tells same (inl (is, unread, full)) =
+    inl (is, unread, λ told none. full (tells told) (λ key. same told key ∙ none key))
+refusal_as Told Tells a b faults console answer tells same (inr (inl (is, none, bytes, read, long))) =
+    inr (inl (is, (λ told key. sym (same told key) ∙ none (tells told) key), bytes, read, long))
+refusal_as Told Tells a b faults console answer tells same (inr (inr (inl (line, is, none, bytes, read, damaged)))) =
+    inr (inr (inl (line, is, (λ told key. sym (same told key) ∙ none (tells told) key), bytes, read, damaged)))
+refusal_as Told Tells a b faults console answer tells same (inr (inr (inr (inl failed)))) = inr (inr (inr (inl failed)))
+refusal_as Told Tells a b faults console answer tells same (inr (inr (inr (inr memory)))) = inr (inr (inr (inr memory)))
+
+pub import_as : (Told Tells : Type 0) (a b c d : Content) (faults ended : ℕ) (console : Console) (rose : Type 0)
+    → (Told → Tells) → (Told → IsSame a b) → (Told → IsSame c d)
+    → EndsImport Tells b c faults ended console rose → EndsImport Told a d faults ended console rose
+import_as Told Tells a b c d faults ended console rose tells same given (inl was) = inl record {
+  bytes = was.bytes;
+  read = was.read;
+  tables = was.tables;
+  sound = was.sound;
+  number = was.number;
+  file = was.file;
+  empty = λ told key. sym (same told key) ∙ was.empty (tells told) key;
+  closed = λ told. same_trans (tables_content was.tables) c d (was.closed (tells told)) (given told);
+  told = was.told;
+}
+import_as Told Tells a b c d faults ended console rose tells same given (inr was) = inr record {
+  answer = was.answer;
+  cause = refusal_as Told Tells a b faults console was.answer tells same was.cause;
+  told = was.told;
+  closed = λ told. same_trans a c d (same_trans a b c (same told) (was.closed (tells told))) (given told);
+}
+
+-- the shelf didn't open a store: nothing was put in, and the line tells why
+pub not_lent : (Told Tells lost : Type 0) (kept keeps : Content) (ended : Status) (console : Console) (rose : Type 0)
+    → (ended ≡ status.StoreFault) ⊎ (ended ≡ status.OutOfMemory) → (ended ≡ status.StoreFault → lost)
+    → (ended ≡ status.StoreFault → Answers answer_to_store_fault (status_code ended) console.before console.after rose)
+    → (ended ≡ status.OutOfMemory → Answers answer_without_memory (status_code ended) console.before console.after rose)
+    → (Tells → Told × IsSame kept keeps)
+    → (faults : ℕ) × EndsImport Tells kept keeps faults (status_code ended) console rose × (Tells → Told) × (0 < faults → lost)
+not_lent Told Tells lost kept keeps ended console rose (inl is) failed store_line memory_line others = (
+  1,
+  inr record {
+    answer = answer_to_store_fault;
+    cause = inr (inr (inr (inl (refl, search (arith)))));
+    told = store_line is;
+    closed = λ tells. (others tells).1;
+  },
+  (λ tells. (others tells).0),
+  λ some. failed is,
+)
+not_lent Told Tells lost kept keeps ended console rose (inr is) failed store_line memory_line others = (
+  0,
+  inr record {
+    answer = answer_without_memory;
+    cause = inr (inr (inr (inr refl)));
+    told = memory_line is;
+    closed = λ tells. (others tells).1;
+  },
+  (λ tells. (others tells).0),
+  λ some. absurd (search (arith, some)),
+)
+
+-- what is said of a line from where the reading ended is said of it from the beginning: reading writes nothing and counts nothing
+pub answers_as : (answer : Answer) (ended : ℕ) (old mid new : Option (List ℕ)) (f g h : ℕ) → mid ≡ old → g ≡ f
+    → Answers answer ended mid new (Rose g h) → Answers answer ended old new (Rose f h)
+answers_as answer ended old mid new f g h same count told =
+    subst (λ (n : ℕ). Answers answer ended old new (Rose n h)) count (subst (λ (o : Option (List ℕ)). Answers answer ended o new (Rose g h)) same told)
+
+-- a line of status 6 is the whole answer
+pub refused_line : (answer : Answer) (ended : Status) (old new : Option (List ℕ)) (rose : Type 0) → answer.status ≡ status.Refused → ended ≡ status.Refused
+    → ((rose → ⊥) → Appends old new answer.text) → AppendsBeginning old new answer.text → Answers answer (status_code ended) old new rose
+refused_line answer ended old new rose is told steady beginning = rw told record {
+  status = inl (ap status_code (sym is));
+  whole = λ other. cc other;
+  steady = steady;
+  beginning = beginning;
+  fault = λ other. cc other;
+}
+
+-- where the console failed while it was read, nothing was written
+pub unwritten : (old new : Option (List ℕ)) (rose : Type 0) → new ≡ old → rose → Answers answer_without_memory (status_code status.ConsoleFault) old new rose
+unwritten old new rose stays rise = record {
+  status = inr (inl refl);
+  whole = λ other. cc other;
+  steady = λ none. absurd (none rise);
+  beginning = (0, subst (λ (o : Option (List ℕ)). Appends old o []) (sym stays) (Appends-nil old));
+  fault = λ _. inl (keeps_of old new stays);
+}

@@ -1,0 +1,69 @@
+-- Where memory was wanting before a command began, that is what each command may come to.
+use Rattle.std.proofs.Common.{◌≡◌, ℕ, List, [], Option, None, Some, inl, inr, refl, arith}
+use Rattle.std.proofs.KnownBytes.{Consumes-nil}
+use Rattle.desk_edge.specs.Content.{Content}
+use Rattle.desk_top.specs.Answer.{Answer, Answers, answer_to_check, answer_without_memory, status_code}
+use Rattle.desk_top.specs.Console.{Console}
+use Rattle.desk_top.specs.Run.{Does, IsAnswered, IsSession}
+use Rattle.desk_top.specs.Sample.{answer_to_sample}
+use Rattle.desk_top.specs.Session.{nothing_kept}
+use Rattle.desk_top.specs.Store.{WasNotBegun}
+use Rattle.desk_top.specs.declared.status.Status.TheVariants as status
+use Rattle.desk_words.specs.declared.command.Check.{Check}
+use Rattle.desk_words.specs.declared.command.Command.{Command}
+use Rattle.desk_words.specs.declared.command.Command.TheVariants as asked
+use Rattle.desk_top.proofs.Input.{some_input}
+use Rattle.desk_top.proofs.Stores.{keeps_of, unbegun}
+
+-- the line that memory was wanting may stand in the place of any answer
+any_answer : (answer : Answer) (old new : Option (List ℕ)) (rose : Type 0) → Answers answer_without_memory (status_code status.OutOfMemory) old new rose
+    → Answers answer (status_code status.OutOfMemory) old new rose
+any_answer answer old new rose told = record {
+  status = inr (inr refl);
+  whole = λ other. cc other;
+  steady = told.steady;
+  beginning = told.beginning;
+  fault = λ other. cc other;
+}
+
+module _ (console : Console) (rose : Type 0) (stays : console.left ≡ console.unread)
+    (told : Answers answer_without_memory (status_code status.OutOfMemory) console.before console.after rose) where
+  not_begun : (Tells : Type 0) (kept : Content) → WasNotBegun Tells kept kept 0 (status_code status.OutOfMemory) console rose
+  not_begun Tells kept =
+      unbegun Tells kept kept 0 (status_code status.OutOfMemory) answer_without_memory console rose (inr (inr refl)) (inl refl) told
+      (keeps_of console.unread console.left stays) (λ tells key. refl)
+
+  unchecked : (check : Check) → IsAnswered check (status_code status.OutOfMemory) console rose
+  unchecked check =
+      let (input, is) = some_input console.unread in record {
+        input = input;
+        is = is;
+        answers = any_answer (answer_to_check check input) console.before console.after rose told;
+        end = λ other. cc other;
+        taken = ([], rw stays (Consumes-nil console.unread), search (arith));
+        fault = λ other. cc other;
+      }
+
+  unserved : (Tells : List ℕ → Type 0) (kept : List ℕ → Content) (lost : Type 0) (store : Option (List ℕ))
+      → IsSession Tells Tells kept kept lost store (status_code status.OutOfMemory) console rose
+  unserved Tells kept lost None = (nothing_kept, inr (not_begun (Unit {0}) nothing_kept))
+  unserved Tells kept lost (Some name) = (0, inr (not_begun (Tells name) (kept name)), (λ tells. tells), λ some. absurd (search (arith, some)))
+
+  pub undone : (Tells : List ℕ → Type 0) (kept : List ℕ → Content) (lost : Type 0) (command : Command)
+      → Does Tells Tells kept kept lost command (status_code status.OutOfMemory) console rose
+  undone Tells kept lost (asked.Check check) = unchecked check
+  undone Tells kept lost (asked.Session session) = unserved Tells kept lost session.store
+  undone Tells kept lost (asked.Export export) = (0, inr (not_begun (Tells export.store) (kept export.store)), (λ tells. tells), λ some. absurd (search (arith, some)))
+  undone Tells kept lost (asked.Import import) = (
+    0,
+    inr record {
+      answer = answer_without_memory;
+      cause = inr (inr (inr (inr refl)));
+      told = told;
+      closed = λ tells key. refl;
+    },
+    (λ tells. tells),
+    λ some. absurd (search (arith, some)),
+  )
+  undone Tells kept lost (asked.Audit audit) = (0, inr (not_begun (Tells audit.store) (kept audit.store)), (λ tells. tells), λ some. absurd (search (arith, some)))
+  undone Tells kept lost (asked.Sample sample) = (stays, any_answer (answer_to_sample sample.size) console.before console.after rose told)

@@ -1,0 +1,48 @@
+ghost use Rattle.std.specs.Prelude.{◌≡◌, ◌≢◌, ℕ, ◌≤◌, List, true};
+ghost use Rattle.desk_edge.specs.Content.{IsSame};
+ghost use Rattle.desk_edge.specs.Faults.{Rose};
+ghost use Rattle.desk_text.specs.Day.{is_askable};
+ghost use Rattle.desk_top.specs.Answer.{status_code};
+ghost use Rattle.desk_top.specs.Console.{console_of};
+ghost use Rattle.desk_top.specs.Reports.{EndsAudit};
+ghost use Rattle.desk_top.specs.Store.{OnStore};
+
+use crate::status::Status;
+use crate::store::open_desk;
+use crate::summary::answer_summary;
+use desk_edge::{Link, Shelf};
+use desk_words::Audit;
+use std::alloc::Global;
+use std::sync::Wait;
+
+/// Writes the summary of a store's desk on a day to the console. The store is given back as it was opened: an empty one keeps the start
+/// tables.
+///
+/// 3 the console counted a fault. 4 the store refused a call, and 5 its records aren't those of sound tables. 8 there was no memory.
+pub fn answer_audit<R: Wait + Sync, L: Link, S: Shelf>(
+    rt: &R,
+    alloc: Global,
+    asked: &Audit,
+    console: &mut L,
+    shelf: &mut S,
+) -> Status
+    requires { is_askable asked.now.day ≡ true }
+    ensures stored { OnStore (S.Tells shelf.old) (S.Tells shelf.new) (S.content shelf.old) (S.content shelf.new) (Rose (S.faults shelf.old) (S.faults shelf.new))
+        (EndsAudit asked.now.day) asked.now.store (status_code result)
+        (console_of (L.unread console.old) (L.unread console.new) (L.written console.old) (L.written console.new)) (Rose (L.faults console.old) (L.faults console.new)) }
+    ensures others { (other : List ℕ) → other ≢ asked.now.store → S.Tells shelf.new other
+        → S.Tells shelf.old other × IsSame (S.content shelf.old other) (S.content shelf.new other) }
+    ensures words { result ≢ Status.BadWords }
+    ensures console_fault { result ≡ Status.ConsoleFault → Rose (L.faults console.old) (L.faults console.new) }
+    ensures no_fault { result ≡ Status.Done → L.faults console.new ≡ L.faults console.old }
+    ensures never_falls { L.faults console.old ≤ L.faults console.new }
+{
+    let name = asked.store.as_slice();
+    let clerk = match open_desk(rt, alloc, name, console, shelf) {
+        Ok(clerk) => clerk,
+        Err(status) => return status,
+    };
+    let status = answer_summary(alloc, clerk.tables(), asked.day, console);
+    shelf.close_store(name, clerk.close(rt));
+    status
+}

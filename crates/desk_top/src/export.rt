@@ -1,0 +1,68 @@
+ghost use Rattle.std.specs.Prelude.{◌≡◌, ◌≢◌, ◌⊎◌, ℕ, ◌≤◌, List};
+ghost use Rattle.desk_edge.specs.Content.{IsSame};
+ghost use Rattle.desk_edge.specs.Faults.{Rose};
+ghost use Rattle.desk_history.specs.Sound.{Sound};
+ghost use Rattle.desk_top.specs.Answer.{status_code};
+ghost use Rattle.desk_top.specs.Console.{console_of};
+ghost use Rattle.desk_top.specs.Reports.{EndsExport, WasExported};
+ghost use Rattle.desk_top.specs.Store.{OnStore};
+
+use crate::status::Status;
+use crate::store::open_desk;
+use crate::tell::answer_no_memory;
+use desk_edge::{Link, Shelf};
+use desk_report::{ReportFault, export};
+use desk_tables::Tables;
+use desk_words::Export;
+use std::alloc::Global;
+use std::sync::Wait;
+
+/// Writes the records of a store's desk to the console, a line each, in the order of their keys. The records of one table at a time
+/// are held. The store is given back as it was opened: an empty one keeps the start tables.
+///
+/// 3 the console counted a fault; a beginning is written. 4 the store refused a call, and 5 its records aren't those of sound tables:
+/// then nothing but the line for that is written. 8 there was no memory; where that was wanting in the middle, the line for it stands
+/// behind a beginning, so that no import takes it for a whole one.
+pub fn answer_export<R: Wait + Sync, L: Link, S: Shelf>(
+    rt: &R,
+    alloc: Global,
+    asked: &Export,
+    console: &mut L,
+    shelf: &mut S,
+) -> Status
+    ensures stored { OnStore (S.Tells shelf.old) (S.Tells shelf.new) (S.content shelf.old) (S.content shelf.new) (Rose (S.faults shelf.old) (S.faults shelf.new))
+        EndsExport asked.now.store (status_code result)
+        (console_of (L.unread console.old) (L.unread console.new) (L.written console.old) (L.written console.new)) (Rose (L.faults console.old) (L.faults console.new)) }
+    ensures others { (other : List ℕ) → other ≢ asked.now.store → S.Tells shelf.new other
+        → S.Tells shelf.old other × IsSame (S.content shelf.old other) (S.content shelf.new other) }
+    ensures words { result ≢ Status.BadWords }
+    ensures console_fault { result ≡ Status.ConsoleFault → Rose (L.faults console.old) (L.faults console.new) }
+    ensures no_fault { result ≡ Status.Done → L.faults console.new ≡ L.faults console.old }
+    ensures never_falls { L.faults console.old ≤ L.faults console.new }
+{
+    let name = asked.store.as_slice();
+    let clerk = match open_desk(rt, alloc, name, console, shelf) {
+        Ok(clerk) => clerk,
+        Err(status) => return status,
+    };
+    let status = write_export(alloc, clerk.tables(), console);
+    shelf.close_store(name, clerk.close(rt));
+    status
+}
+
+/// Writes the export file of the tables.
+fn write_export<L: Link>(alloc: Global, tables: &Tables, console: &mut L) -> Status
+    requires { Sound tables.now.lists }
+    ensures written { WasExported tables.now.lists (status_code result) (L.written console.old) (L.written console.new) (Rose (L.faults console.old) (L.faults console.new)) }
+    ensures status { (result ≡ Status.Done) ⊎ (result ≡ Status.ConsoleFault) ⊎ (result ≡ Status.OutOfMemory) }
+    ensures input_stays { L.unread console.new ≡ L.unread console.old }
+    ensures console_fault { result ≡ Status.ConsoleFault → Rose (L.faults console.old) (L.faults console.new) }
+    ensures no_fault { result ≡ Status.Done → L.faults console.new ≡ L.faults console.old }
+    ensures never_falls { L.faults console.old ≤ L.faults console.new }
+{
+    match export(alloc, tables, console) {
+        Ok(_) => Status::Done,
+        Err(ReportFault::OutOfMemory) => answer_no_memory(console),
+        Err(_) => Status::ConsoleFault,
+    }
+}

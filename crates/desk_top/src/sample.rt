@@ -1,0 +1,66 @@
+ghost use Rattle.std.specs.Prelude.{◌≡◌, ◌⊎◌, ◌≤◌, [], ◌∷◌, IfOk, OnOk};
+ghost use Rattle.desk_edge.specs.Faults.{Rose};
+ghost use Rattle.desk_history.specs.History.{tables_after};
+ghost use Rattle.desk_history.specs.Sound.{Sound};
+ghost use Rattle.desk_model.specs.Start.{start};
+ghost use Rattle.desk_sample.specs.Sample.{sample_edits};
+ghost use Rattle.desk_top.specs.Answer.{Answers, status_code};
+ghost use Rattle.desk_top.specs.Sample.{answer_to_sample};
+ghost use Rattle.desk_words.specs.Commands.{sample_limit};
+
+use crate::status::Status;
+use crate::summary::answer_summary;
+use crate::tell::answer_no_memory;
+use desk_edge::Link;
+use desk_sample::sample;
+use desk_tables::{Edit, EditFault, Tables};
+use desk_text::{Day, OutOfMemory};
+use desk_words::Sample;
+use std::alloc::Global;
+
+/// Makes a sample desk in memory and writes its summary of 2024-07-22. Nothing is read.
+///
+/// 3 the console counted a fault. 8 there was no memory.
+pub fn answer_sample<L: Link>(alloc: Global, asked: &Sample, console: &mut L) -> Status
+    requires least { 1 ≤ asked.now.size }
+    requires greatest { asked.now.size ≤ sample_limit }
+    ensures answer { Answers (answer_to_sample asked.now.size) (status_code result)
+        (L.written console.old) (L.written console.new) (Rose (L.faults console.old) (L.faults console.new)) }
+    ensures status { (result ≡ Status.Done) ⊎ (result ≡ Status.ConsoleFault) ⊎ (result ≡ Status.OutOfMemory) }
+    ensures input_stays { L.unread console.new ≡ L.unread console.old }
+    ensures console_fault { result ≡ Status.ConsoleFault → Rose (L.faults console.old) (L.faults console.new) }
+    ensures no_fault { result ≡ Status.Done → L.faults console.new ≡ L.faults console.old }
+    ensures never_falls { L.faults console.old ≤ L.faults console.new }
+{
+    match sample_tables(alloc, asked.size) {
+        Ok(tables) => answer_summary(alloc, &tables, Day::new(2024, 7, 22), console),
+        Err(_) => answer_no_memory(console),
+    }
+}
+
+/// The start tables after the edits of a sample of this size, each tried in turn.
+fn sample_tables(alloc: Global, size: u32) -> Result<Tables, OutOfMemory>
+    requires least { 1 ≤ size }
+    requires greatest { size ≤ sample_limit }
+    ensures lists { IfOk result (λ tables. tables.lists ≡ tables_after start (sample_edits size)) }
+    ensures sound { IfOk result (λ tables. Sound tables.lists) }
+{
+    let mut tables = Tables::start(alloc)?;
+    for edit in sample(alloc, u64::from(size))? {
+        try_edit(alloc, &mut tables, edit)?;
+    }
+    Ok(tables)
+}
+
+/// Takes an edit, unless a rule refuses it.
+fn try_edit(alloc: Global, tables: &mut Tables, edit: Edit) -> Result<(), OutOfMemory>
+    requires { Sound tables.old.lists }
+    ensures lists { OnOk result (tables.new.lists ≡ tables_after tables.old.lists (edit ∷ [])) }
+    ensures sound { Sound tables.new.lists }
+{
+    match tables.accept(alloc, edit) {
+        Ok(_) => Ok(()),
+        Err(EditFault::Rule(_)) => Ok(()),
+        Err(EditFault::OutOfMemory) => Err(OutOfMemory),
+    }
+}
