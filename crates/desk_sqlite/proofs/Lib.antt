@@ -1,3 +1,4 @@
+pub mod Crossing
 pub mod TextLemmas
 pub mod ListLemmas
 pub mod ValueLemmas

@@ -30,12 +30,13 @@ mod words;
 
 use crate::run::launch;
 use crate::words::words;
-use desk_edge::{MapShelf, StdLink};
+use desk_edge::StdLink;
+use desk_sqlite::SqlShelf;
 use std::process::ExitCode;
 
 fn main(rt: HostRuntime) -> ExitCode {
     let alloc = rt.alloc();
     let mut console = StdLink::new(rt.stdin(), rt.stdout());
-    let mut shelf = MapShelf::new(alloc, Vec::new(alloc), Vec::new(alloc));
+    let mut shelf = SqlShelf::new(rt);
     ExitCode::from(launch(&rt, alloc, words(&rt), &mut console, &mut shelf))
 }
