@@ -25,3 +25,4 @@ pub mod SoundTickets
 pub mod Consistent
 pub mod FoundParts
 pub mod SumsTold
+pub mod FewFindings

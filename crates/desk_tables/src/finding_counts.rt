@@ -22,8 +22,9 @@ impl<'a> TableLists<'a> {
     /// Whether all parts together have more findings than the desk keeps. The bill is that of the lists, and the masses are those of
     /// the parts, in order.
     ///
-    /// It looks at each material for each rule and at each article for each candidate, and takes, for each 64 of them that have
-    /// findings of their own, a few passes over them and the lines.
+    /// Where few ways lead down from parts it takes a few passes over nodes and lines. Else it looks at each material for each rule and
+    /// at each article for each candidate, and takes, for each 64 of them that have findings of their own, a few passes over them and
+    /// the lines.
     pub(crate) fn has_too_many_findings(
         &self,
         alloc: Global,
@@ -36,6 +37,9 @@ impl<'a> TableLists<'a> {
         requires light { too_heavy_part self.now ≡ None }
         ensures { IfOk result (λ many. many ≡ has_too_many_findings self.now) }
     {
+        if self.has_few_ways(alloc, bill)? {
+            return Ok(false);
+        }
         let own = self.own_counts(alloc, masses)?;
         let holders = holders_of(alloc, own.as_slice())?;
         let reach = bill.reach_counts(alloc, holders.as_slice())?;

@@ -12,6 +12,7 @@ mod counts;
 mod cycle;
 mod declared;
 mod edit_fault;
+mod few_findings;
 mod finding_counts;
 mod findings;
 mod found_part;

@@ -22,8 +22,8 @@ use std::alloc::Global;
 impl Tables {
     /// Tests the sums, over a bill that is that of the tables.
     ///
-    /// It takes what the sums take: a few passes over the bill, and for each 64 nodes that have findings of their own a
-    /// few more.
+    /// It takes what the sums take: a few passes over the bill, and where many ways lead down from parts, for each 64 nodes that have
+    /// findings of their own, a few more.
     pub(crate) fn test_sums(&self, alloc: Global, bill: &Links) -> Result<(), SoundFault>
         requires consistent { IsConsistent self.now.lists }
         requires bill { IsBillOf bill.now self.now.lists }

@@ -1,11 +1,11 @@
 -- A bill with a line set, put in or taken out at a place.
-use Rattle.std.proofs.Common.{◌≡◌, ℕ, suc, List, ◌∷◌, ◌++◌, drop, map, take, sym, ap, ◌∙◌}
+use Rattle.std.proofs.Common.{◌≡◌, ◌<◌, ℕ, suc, List, [], ◌∷◌, ◌++◌, drop, get_or, length, map, take, refl, subst, sym, ap, ◌∙◌, arith}
 use Rattle.std.specs.Prelude.{insert, remove}
-use Rattle.std.proofs.lemmas.List.{drop-map, map-append, take-map}
+use Rattle.std.proofs.lemmas.List.{drop-map, get_or-map, length-map, map-append, take-map}
 use Rattle.desk_model.specs.declared.rows.line.LineRow.{LineRow}
 use Rattle.desk_totals.specs.declared.link.Link.{Link}
-use Rattle.desk_totals.specs.Linked.{Linked}
-use Rattle.desk_totals.specs.Places.{line_at}
+use Rattle.desk_totals.specs.Linked.{Linked, single}
+use Rattle.desk_totals.specs.Places.{ArePlaces, line_at, single_link}
 
 module _ {X Y : Type 0} (f : X → Y) where
   pub map-insert : (xs : List X) (place : ℕ) (x : X) → map f (insert xs place x) ≡ insert (map f xs) place (f x)
@@ -26,3 +26,17 @@ pub with_other_lines : (nodes : List (List ℕ)) (count : ℕ) (links others : L
     bill_of nodes count (map (line_at nodes) others) ≡ bill_of bill.nodes bill.material_count (change bill.lines)
 with_other_lines nodes count links others bill change view e =
     ap (bill_of nodes count) e ∙ ap (λ (b : Linked). bill_of b.nodes b.material_count (change b.lines)) view
+
+-- links with the count 1 stand for lines with the count 1, between the same places
+pub map-single : (nodes : List (List ℕ)) (links : List Link) → map (line_at nodes) (map single_link links) ≡ map single (map (line_at nodes) links)
+map-single nodes [] = refl
+map-single nodes (link ∷ links) = ap (λ l. single (line_at nodes link) ∷ l) (map-single nodes links)
+
+pub places-single : (count : ℕ) (links : List Link) → ArePlaces count links → ArePlaces count (map single_link links)
+places-single count links places i d h =
+    let within : i < length links = omega (arith, h, length-map links single_link) in
+    let read : get_or (map single_link links) i d ≡ single_link (get_or links i d) = get_or-map single_link links i d d within in
+    let there = places i d within in (
+      subst (λ (link : Link). link.parent < count) (sym read) there.0,
+      subst (λ (link : Link). link.child < count) (sym read) there.1,
+    )

@@ -36,3 +36,7 @@ pub record IsLinked (bill : Linked) : Type 0 where
   pub distinct : are_distinct bill.nodes ≡ true
   pub materials : bill.material_count ≤ length bill.nodes
   pub ends : list_all (has_ends_in bill.nodes) bill.lines ≡ true
+
+-- the line with the count 1 in the place of its own
+abbrev pub single : LineRow → LineRow
+single line = record { parent = line.parent; child = line.child; count = 1 }

@@ -13,6 +13,10 @@ node_at nodes place = slice_index_or nodes place []
 abbrev pub line_at : List (List ℕ) → Link → LineRow
 line_at nodes link = record { parent = node_at nodes link.parent; child = node_at nodes link.child; count = link.count }
 
+-- the link with the count 1 in the place of its own
+abbrev pub single_link : Link → Link
+single_link link = record { parent = link.parent; child = link.child; count = 1 }
+
 -- each link goes from one of so many places to one of them
 abbrev pub ArePlaces : ℕ → List Link → Type 0
 ArePlaces count links = All (λ link. (link.parent < count) × (link.child < count)) links

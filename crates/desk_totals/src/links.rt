@@ -1,6 +1,6 @@
 ghost use Rattle.std.specs.Prelude.{◌≡◌, ◌<◌, ◌≤◌, false, true, map, length, insert, remove, slice_set, IfOk, MatchOption};
-ghost use Rattle.desk_totals.specs.Linked.{IsLinked, has_ends_in, is_among};
-ghost use Rattle.desk_totals.specs.Places.{ArePlaces, IsKeptRight, line_at, node_at};
+ghost use Rattle.desk_totals.specs.Linked.{IsLinked, has_ends_in, is_among, single};
+ghost use Rattle.desk_totals.specs.Places.{ArePlaces, IsKeptRight, line_at, node_at, single_link};
 
 use crate::guess::children_first;
 use crate::link::Link;
@@ -99,6 +99,23 @@ impl Links {
         self.guess.as_slice()
     }
 
+    /// The same bill with the count 1 in each line, beside this one.
+    ///
+    /// It takes a copy of nodes and lines.
+    pub fn single(&self, alloc: Global) -> Result<Links, OutOfMemory>
+        ensures { IfOk result (λ bill. bill ≡ record { nodes = self.now.nodes; material_count = self.now.material_count; lines = map single self.now.lines }) }
+    {
+        let nodes = Vec::from_slice(alloc, self.nodes.as_slice())?;
+        let links = single_links(alloc, self.links.as_slice())?;
+        let guess = single_links(alloc, self.guess.as_slice())?;
+        Ok(Links {
+            nodes,
+            material_count: self.material_count,
+            links,
+            guess,
+        })
+    }
+
     /// The same bill with this line in place of the one that stands at the place.
     ///
     /// It takes two searches and a few passes over nodes and lines.
@@ -148,6 +165,21 @@ impl Links {
         links.remove(place);
         with_links(alloc, self.nodes, self.material_count, links)
     }
+}
+
+/// The links with the count 1 in each.
+fn single_links(alloc: Global, links: &[Link]) -> Result<Vec<Link>, OutOfMemory>
+    ensures { IfOk result (λ singles. singles.items ≡ map single_link links.now) }
+{
+    let mut singles = Vec::with_capacity(alloc, links.len())?;
+    for link in links {
+        singles.push_reserved(Link {
+            parent: link.parent,
+            child: link.child,
+            count: 1,
+        });
+    }
+    Ok(singles)
 }
 
 /// Puts the link in place of the one at the place.
