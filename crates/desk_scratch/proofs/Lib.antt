@@ -5,6 +5,7 @@ pub mod Content
 pub mod Counted
 pub mod DutyParts
 pub mod ExampleProofs
+pub mod Factors
 pub mod LastLine
 pub mod Light
 pub mod Lines

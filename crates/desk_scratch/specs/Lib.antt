@@ -4,6 +4,7 @@ pub mod CheckText
 pub mod Eval
 pub mod Examples
 pub mod Faults
+pub mod Holdings
 pub mod Judgement
 pub mod Laws
 pub mod Material

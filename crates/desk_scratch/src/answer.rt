@@ -171,12 +171,15 @@ fn on_summary(alloc: Global, tables: &Tables, day: Day) -> Result<Bytes, AskFaul
     Ok(text)
 }
 
+/// The most bytes of a version's text: a word, a space, twenty digits and the end of the line.
+const VERSION_TEXT_MOST: usize = 29;
+
 /// The answer on the number of the tables. It has one line.
 #[tactic(auto, unfolding(crate::specs::Eval::eval))]
 fn on_version(alloc: Global, tables: &Tables) -> Result<Bytes, AskFault>
     ensures { result ≢ Err ask.OutOfMemory → result ≡ eval tables.now.lists question.Version }
 {
-    let mut text = String::new(alloc);
+    let mut text = String::with_capacity(alloc, VERSION_TEXT_MOST)?;
     push_version_line(&mut text, tables)?;
     Ok(Bytes::from(text.into_bytes()))
 }

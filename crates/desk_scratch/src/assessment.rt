@@ -1,13 +1,15 @@
-ghost use Rattle.std.specs.Prelude.{◌≡◌, ◌≤◌, ◌+◌, ◌*◌, ◌<◌, ◌^◌, length, sum_by, map, IfOk};
+ghost use Rattle.std.specs.Prelude.{◌≡◌, ◌≤◌, length, IfOk};
 ghost use Rattle.desk_history.specs.Sound.{Sound};
 ghost use Rattle.desk_model.specs.declared.limits.TheConstants.{CONTENT_LIMIT};
 ghost use Rattle.desk_model.specs.declared.rows.material.MaterialRow.{MaterialRow};
-ghost use Rattle.desk_findings.specs.Share.{factor_of, share};
+ghost use Rattle.desk_findings.specs.Share.{share};
 ghost use Rattle.desk_findings.specs.Verdicts.{terms_of, verdict_on};
 ghost use Rattle.desk_scratch.specs.Assessment.{facts_of};
+ghost use Rattle.desk_scratch.specs.Holdings.{holdings_of};
 
 use crate::asked::Asked;
 use crate::facts::Facts;
+use crate::holdings::Holdings;
 use desk_law::{Rule, Terms, Verdict, judge};
 use desk_model::SubstanceMass;
 use desk_tables::Tables;
@@ -57,19 +59,16 @@ impl<'a> Assessment<'a> {
         self.terms
     }
 
-    /// The share of the rule in a material of these substances, in millionths of a microgram. It takes a binary search
-    /// for each.
-    #[tactic(auto, unfolding(desk_findings::specs::Share::share))]
-    pub(crate) fn share(&self, rule: Rule, substances: &[SubstanceMass]) -> u128
+    /// What a material of these substances holds. It takes two binary searches for each.
+    pub(crate) fn holdings(
+        &self,
+        alloc: Global,
+        substances: &[SubstanceMass],
+    ) -> Result<Holdings<'a>, OutOfMemory>
         requires { length substances.now ≤ CONTENT_LIMIT }
-        ensures { (material : MaterialRow) → substances.now ≡ material.substances → result ≡ share self.now.lists rule material }
+        ensures { IfOk result (λ holdings. holdings ≡ holdings_of self.now.lists substances.now) }
     {
-        let mut share = 0u128;
-        for held in substances {
-            share += u128::from(held.mass)
-                * u128::from(self.tables.factor_of(rule, &held.substance));
-        }
-        share
+        Holdings::new(alloc, self.tables, substances)
     }
 
     /// The verdict on a material for the rule, whose share in it is given. It looks at each exemption row where the

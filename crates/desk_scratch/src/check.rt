@@ -20,8 +20,8 @@ use std::fmt::Write;
 /// The whole answer to `check` for a declaration, over these tables: what was asked, what was declared of each material
 /// and its verdict for each rule, and whether no verdict is a breach.
 ///
-/// It takes, for each material, rule and substance, a binary search, and for each rule whose limit a material is over,
-/// a look at each exemption row.
+/// It takes, for each material and substance, two binary searches, and for each rule whose limit a material is over, a
+/// look at each exemption row.
 pub fn check_text(
     alloc: Global,
     tables: &Tables,
@@ -43,7 +43,7 @@ pub fn check_text(
         declaration.supplier(),
         declaration.number(),
     )?;
-    let breach = push_blocks(&mut text, &by, declaration)?;
+    let breach = push_blocks(alloc, &mut text, &by, declaration)?;
     push_compliance_line(&mut text, !breach)?;
     Ok(Bytes::from(text.into_bytes()))
 }
@@ -67,6 +67,7 @@ fn push_check_line(
 
 /// Appends the block of each material, in order of code. Tells whether some verdict is a breach.
 fn push_blocks(
+    alloc: Global,
     out: &mut String,
     by: &Assessment<'_>,
     declaration: &Declaration,
@@ -77,7 +78,8 @@ fn push_blocks(
 {
     let mut breach = false;
     for material in declaration.materials() {
-        breach = breach | push_material_block(out, by, &facts_in(declaration, material))?;
+        let facts = facts_in(declaration, material);
+        breach = breach | push_material_block(alloc, out, by, &facts)?;
     }
     Ok(breach)
 }

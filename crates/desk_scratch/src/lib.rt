@@ -12,6 +12,7 @@ mod check;
 mod duties;
 pub mod examples;
 mod facts;
+mod holdings;
 pub mod laws;
 mod material;
 mod material_block;

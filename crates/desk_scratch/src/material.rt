@@ -15,8 +15,8 @@ use std::alloc::Global;
 
 /// The answer on a material: what was declared of it, and its verdict for each rule.
 ///
-/// It takes, for each rule and substance of the material, a binary search, and for each rule whose limit it is over, a
-/// look at each exemption row. The text has thirteen lines.
+/// It takes, for each substance of the material, two binary searches, and for each rule whose limit it is over, a look
+/// at each exemption row. The text has thirteen lines.
 pub(crate) fn material_text(
     alloc: Global,
     tables: &Tables,
@@ -31,7 +31,7 @@ pub(crate) fn material_text(
     let by = Assessment::new(tables, terms.as_slice(), *asked);
     let mut text = String::new(alloc);
     push_version_line(&mut text, tables)?;
-    let breach = push_material_block(&mut text, &by, &Facts::from(material))?;
+    let breach = push_material_block(alloc, &mut text, &by, &Facts::from(material))?;
     push_compliance_line(&mut text, !breach)?;
     Ok(Bytes::from(text.into_bytes()))
 }

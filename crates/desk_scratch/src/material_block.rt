@@ -4,20 +4,23 @@ ghost use Rattle.desk_law.specs.Rule.{all_rules};
 ghost use Rattle.desk_model.specs.declared.limits.TheConstants.{CONTENT_LIMIT};
 ghost use Rattle.desk_model.specs.declared.rows.material.MaterialRow.{MaterialRow};
 ghost use Rattle.desk_scratch.specs.Assessment.{facts_of};
+ghost use Rattle.desk_scratch.specs.Holdings.{holdings_of};
 ghost use Rattle.desk_scratch.specs.Judgement.{has_breach, is_breach, is_breached};
 ghost use Rattle.desk_scratch.specs.MaterialBlock.{material_block, material_line_with, rule_line, rule_line_with, verdict_words};
 
 use crate::assessment::Assessment;
 use crate::facts::Facts;
+use crate::holdings::Holdings;
 use crate::verdict_words::VerdictWords;
 use desk_law::{Rule, Verdict, limit_ppm};
 use desk_text::OutOfMemory;
-use std::alloc::AllocError;
+use std::alloc::{AllocError, Global};
 use std::fmt::Write;
 
 /// Appends the lines on a material: what was declared of it, and its verdict for each rule. Tells whether one of these
 /// is a breach.
 pub(crate) fn push_material_block(
+    alloc: Global,
     out: &mut String,
     by: &Assessment<'_>,
     facts: &Facts<'_>,
@@ -28,8 +31,9 @@ pub(crate) fn push_material_block(
     ensures breach { IfOk result (λ breach. (material : MaterialRow) → facts.now ≡ facts_of material
         → breach ≡ has_breach by.now.lists by.now.kind by.now.day material) }
 {
+    let holdings = by.holdings(alloc, facts.substances)?;
     push_material_line(out, facts)?;
-    push_rule_lines(out, by, facts)
+    push_rule_lines(out, by, facts, &holdings)
 }
 
 /// Appends the line on what was declared of a material.
@@ -51,8 +55,9 @@ fn push_rule_lines(
     out: &mut String,
     by: &Assessment<'_>,
     facts: &Facts<'_>,
+    holdings: &Holdings<'_>,
 ) -> Result<bool, OutOfMemory>
-    requires { length facts.now.substances ≤ CONTENT_LIMIT }
+    requires { holdings.now ≡ holdings_of by.now.lists facts.now.substances }
     ensures lines { OnOk result ((material : MaterialRow) → facts.now ≡ facts_of material
         → string_bytes out.new ≡ string_bytes out.old ++ flat_map (rule_line by.now.lists by.now.kind by.now.day material) all_rules) }
     ensures breach { IfOk result (λ breach. (material : MaterialRow) → facts.now ≡ facts_of material
@@ -60,7 +65,7 @@ fn push_rule_lines(
 {
     let mut breach = false;
     for rule in Rule::ALL {
-        breach = breach | push_rule_line(out, by, facts, rule)?;
+        breach = breach | push_rule_line(out, by, facts, holdings, rule)?;
     }
     Ok(breach)
 }
@@ -70,15 +75,16 @@ fn push_rule_line(
     out: &mut String,
     by: &Assessment<'_>,
     facts: &Facts<'_>,
+    holdings: &Holdings<'_>,
     rule: Rule,
 ) -> Result<bool, OutOfMemory>
-    requires { length facts.now.substances ≤ CONTENT_LIMIT }
+    requires { holdings.now ≡ holdings_of by.now.lists facts.now.substances }
     ensures line { OnOk result ((material : MaterialRow) → facts.now ≡ facts_of material
         → string_bytes out.new ≡ string_bytes out.old ++ rule_line by.now.lists by.now.kind by.now.day material rule) }
     ensures breach { IfOk result (λ breach. (material : MaterialRow) → facts.now ≡ facts_of material
         → breach ≡ is_breached by.now.lists by.now.kind by.now.day material rule) }
 {
-    let share = by.share(rule, facts.substances);
+    let share = holdings.share(rule);
     let limit = u128::from(limit_ppm(rule)) * u128::from(facts.mass);
     let verdict = by.verdict(rule, share, facts);
     let rows = by.terms();

@@ -7,7 +7,7 @@ ghost use Rattle.desk_findings.specs.Articles.{materials_in};
 ghost use Rattle.desk_findings.specs.Chain.{chain};
 ghost use Rattle.desk_findings.specs.Findings.{rules_over};
 ghost use Rattle.desk_findings.specs.Reaches.{reaches};
-ghost use Rattle.desk_findings.specs.Share.{is_over_limit};
+ghost use Rattle.desk_findings.specs.Share.{is_over_limit, share};
 ghost use Rattle.desk_scratch.specs.Judgement.{has_breach, is_breached, reaches_breach};
 ghost use Rattle.desk_scratch.specs.MaterialBlock.{judged_words_with, verdict_words};
 ghost use Rattle.desk_scratch.specs.Rohs.{asked_product_line, over_lines, rohs_text};
@@ -31,7 +31,7 @@ use std::fmt::Write;
 /// rule whose limit it is over, and whether none of these is a breach.
 ///
 /// It takes the bill once, a few passes over nodes and lines for each 64 materials and for each breach, and for each
-/// reached material, rule and substance a binary search. The text has at most two lines for each reached material and
+/// reached material and substance two binary searches. The text has at most two lines for each reached material and
 /// rule, and three more.
 pub(crate) fn rohs_text(
     alloc: Global,
@@ -138,14 +138,17 @@ fn push_rules(
         ++ flat_map (over_lines bill.now product.now by.now.day material.now) (rules_over bill.now material.now)) }
     ensures breach { IfOk result (λ breach. breach ≡ has_breach bill.now product.now.kind by.now.day material.now) }
 {
+    let holdings = by.holdings(alloc, material.substances.as_slice())?;
     let mut breach = false;
     for rule in Rule::ALL {
-        breach = breach | push_if_over(alloc, out, by, bill, product, material, rule)?;
+        let share = holdings.share(rule);
+        breach = breach | push_if_over(alloc, out, by, bill, product, material, rule, share)?;
     }
     Ok(breach)
 }
 
-/// Appends the lines on a rule, where the material is over its limit. Tells whether the verdict is a breach.
+/// Appends the lines on a rule of this share, where the material is over its limit. Tells whether the verdict is a
+/// breach.
 #[tactic(auto, unfolding(crate::specs::Rohs::over_lines, crate::specs::Rohs::over_line))]
 fn push_if_over(
     alloc: Global,
@@ -155,26 +158,26 @@ fn push_if_over(
     product: &ProductRow,
     material: &MaterialRow,
     rule: Rule,
+    its_share: u128,
 ) -> Result<bool, OutOfMemory>
     requires lists { by.now.lists ≡ bill.now }
     requires kind { by.now.kind ≡ product.now.kind }
-    requires few { length material.now.substances ≤ CONTENT_LIMIT }
+    requires share { its_share ≡ share by.now.lists rule material.now }
     ensures lines { OnOk result (string_bytes out.new ≡ string_bytes out.old
         ++ (if is_over_limit bill.now rule material.now then over_lines bill.now product.now by.now.day material.now rule else [])) }
     ensures breach { IfOk result (λ breach. breach ≡ is_breached bill.now product.now.kind by.now.day material.now rule) }
 {
-    let share = by.share(rule, material.substances.as_slice());
-    if !over(share, material.mass, limit_ppm(rule)) {
+    if !over(its_share, material.mass, limit_ppm(rule)) {
         return Ok(false);
     }
-    let verdict = by.verdict(rule, share, &Facts::from(material));
+    let verdict = by.verdict(rule, its_share, &Facts::from(material));
     let limit = u128::from(limit_ppm(rule)) * u128::from(material.mass);
     let rows = by.terms();
     push_over_line(
         out,
         &material.code,
         rule,
-        share,
+        its_share,
         limit,
         VerdictWords { verdict, rows },
     )?;

@@ -6,6 +6,7 @@ ghost use Rattle.desk_history.specs.Sound.{Sound};
 ghost use Rattle.desk_law.specs.Rule.{all_rules};
 ghost use Rattle.desk_model.specs.declared.limits.TheConstants.{CONTENT_LIMIT};
 ghost use Rattle.desk_model.specs.Lists.{is_part};
+ghost use Rattle.desk_findings.specs.Share.{share};
 ghost use Rattle.desk_findings.specs.Verdicts.{terms_of};
 ghost use Rattle.desk_law.specs.Kind.{kind_code};
 ghost use Rattle.desk_scratch.specs.Judgement.{breach_count, is_breached};
@@ -27,9 +28,9 @@ use std::fmt::Write;
 
 /// The answer on the whole desk: how much is kept, and how each product stands on a day, which is askable.
 ///
-/// It takes the bill once, and for each product a few passes over nodes and lines for each 64 of them, a binary search
-/// for each reached material, rule and substance, and the search for its duties. The text has a line for each product,
-/// and eleven more.
+/// It takes the bill once, and for each product a few passes over nodes and lines for each 64 of them, two binary
+/// searches for each reached material and substance, and the search for its duties. The text has a line for each
+/// product, and eleven more.
 pub(crate) fn summary_text(alloc: Global, tables: &Tables, day: Day) -> Result<Bytes, OutOfMemory>
     requires sound { Sound tables.now.lists }
     requires askable { is_askable day ≡ true }
@@ -179,43 +180,52 @@ fn breach_count(
     let mut count = 0u128;
     let mut place: usize = 0;
     for material in bill.tables().materials() {
-        count += breaches_if_reached(by, material, reached[place]);
+        count += breaches_if_reached(alloc, by, material, reached[place])?;
         place += 1;
     }
     Ok(count)
 }
 
 /// How many rules a material breaches, 0 where it isn't reached.
-fn breaches_if_reached(by: &Assessment<'_>, material: &MaterialRow, is_reached: bool) -> u128
+fn breaches_if_reached(
+    alloc: Global,
+    by: &Assessment<'_>,
+    material: &MaterialRow,
+    is_reached: bool,
+) -> Result<u128, OutOfMemory>
     requires { length material.now.substances ≤ CONTENT_LIMIT }
-    ensures count { result ≡ (if is_reached then count_by (is_breached by.now.lists by.now.kind by.now.day material.now) all_rules else 0) }
-    ensures bound { result ≤ 10 }
+    ensures count { IfOk result (λ count. count ≡ (if is_reached then count_by (is_breached by.now.lists by.now.kind by.now.day material.now) all_rules else 0)) }
+    ensures bound { IfOk result (λ count. count ≤ 10) }
 {
     if is_reached {
-        breaches_of(by, material)
+        breaches_of(alloc, by, material)
     } else {
-        0
+        Ok(0)
     }
 }
 
 /// How many rules a material breaches.
-fn breaches_of(by: &Assessment<'_>, material: &MaterialRow) -> u128
+fn breaches_of(
+    alloc: Global,
+    by: &Assessment<'_>,
+    material: &MaterialRow,
+) -> Result<u128, OutOfMemory>
     requires { length material.now.substances ≤ CONTENT_LIMIT }
-    ensures count { result ≡ count_by (is_breached by.now.lists by.now.kind by.now.day material.now) all_rules }
-    ensures bound { result ≤ 10 }
+    ensures count { IfOk result (λ count. count ≡ count_by (is_breached by.now.lists by.now.kind by.now.day material.now) all_rules) }
+    ensures bound { IfOk result (λ count. count ≤ 10) }
 {
+    let holdings = by.holdings(alloc, material.substances.as_slice())?;
     let mut count = 0u128;
     for rule in Rule::ALL {
-        count += u128::from(breaches(by, material, rule));
+        count += u128::from(breaches(by, material, rule, holdings.share(rule)));
     }
-    count
+    Ok(count)
 }
 
-/// Whether a material breaches the rule.
-fn breaches(by: &Assessment<'_>, material: &MaterialRow, rule: Rule) -> bool
-    requires { length material.now.substances ≤ CONTENT_LIMIT }
+/// Whether a material breaches the rule, whose share in it is given.
+fn breaches(by: &Assessment<'_>, material: &MaterialRow, rule: Rule, its_share: u128) -> bool
+    requires { its_share ≡ share by.now.lists rule material.now }
     ensures { result ≡ is_breached by.now.lists by.now.kind by.now.day material.now rule }
 {
-    let share = by.share(rule, material.substances.as_slice());
-    is_breach(by.verdict(rule, share, &Facts::from(material)))
+    is_breach(by.verdict(rule, its_share, &Facts::from(material)))
 }

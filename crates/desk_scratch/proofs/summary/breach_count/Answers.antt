@@ -11,8 +11,8 @@ use Rattle.desk_tables.proofs.Taken.{take_whole}
 use Rattle.desk_scratch.specs.Judgement.{is_breached}
 use Rattle.desk_scratch.proofs.summary.breach_count.Goals as goal
 
-pub breaches_if_reached-count-requires : goal.breaches_if_reached-count-requires
-breaches_if_reached-count-requires c =
+pub breaches_if_reached-requires : goal.breaches_if_reached-requires
+breaches_if_reached-requires c =
     let few = subst (All (λ material. length material.substances ≤ CONTENT_LIMIT)) (sym c.loop-material.invariant.same) (few_held c.args.bill.now c.tables.ensures.sound.consistent) in
     subst (λ material. length material.substances ≤ CONTENT_LIMIT) (sym c.material-item.is) (few c.loop-material.material-index c.material-item.result c.loop-material-test.true)
 
