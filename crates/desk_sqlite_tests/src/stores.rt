@@ -1,0 +1,137 @@
+ghost use Rattle.std.specs.Prelude.{IfOk, IsTrue};
+ghost use Rattle.sqlite_disk.specs.Memory.{memory_is_usable};
+
+use desk_edge::{Change, KeepFault, Keeper, Key, Record};
+use desk_sqlite::SqlKeeper;
+use sqlite::{Alter, Connection, Error, FileStore, Files, MemStore, Options};
+use sqlite_disk::{Disk, Fuse, Memory};
+use std::alloc::Global;
+use std::test::Fail;
+
+// Most of these have no clause, and they are written for any store or disk, so that the proof of a test does not carry the state of
+// each call.
+
+/// A keeper over the database of the connection.
+pub(crate) fn adopted<S: Alter>(conn: Connection<S>) -> SqlKeeper<S> {
+    SqlKeeper::adopt(conn)
+}
+
+/// A new database in memory.
+pub(crate) fn in_memory(alloc: Global) -> Result<Connection<MemStore>, Fail> {
+    Ok(Connection::open_in_memory(alloc)?)
+}
+
+pub(crate) fn ready<S: Alter>(keeper: &mut SqlKeeper<S>) -> Result<(), KeepFault> {
+    keeper.ready()
+}
+
+pub(crate) fn commit<S: Alter>(
+    keeper: &mut SqlKeeper<S>,
+    alloc: Global,
+    batch: &[Change],
+) -> Result<(), KeepFault> {
+    keeper.commit(alloc, batch)
+}
+
+pub(crate) fn next<S: Alter>(
+    keeper: &mut SqlKeeper<S>,
+    alloc: Global,
+    after: Option<&Key>,
+) -> Result<Option<Record>, KeepFault> {
+    keeper.next_record(alloc, after)
+}
+
+pub(crate) fn is_ours<S: Alter>(keeper: &SqlKeeper<S>) -> bool {
+    keeper.is_ours()
+}
+
+pub(crate) fn faults<S: Alter>(keeper: &SqlKeeper<S>) -> u64 {
+    keeper.faults()
+}
+
+pub(crate) fn released<S: Alter>(keeper: SqlKeeper<S>) -> Connection<S> {
+    keeper.release()
+}
+
+pub(crate) fn run<S: Alter>(conn: &mut Connection<S>, sql: &str) -> Result<usize, Error> {
+    conn.execute(sql, &[])
+}
+
+/// A store on these disks.
+fn opened<D: Disk + Drop>(
+    alloc: Global,
+    log: D,
+    db: D,
+) -> Result<SqlKeeper<FileStore<D>>, (Error, Files<D>)>
+    requires { IsTrue (D.Disk.is_usable log) × IsTrue (D.Disk.is_usable db) }
+{
+    match Connection::open_files(alloc, Files { log, db }, Options::new(1)) {
+        Ok(conn) => Ok(SqlKeeper::adopt(conn)),
+        Err((error, left)) => Err((error, left.into_files())),
+    }
+}
+
+/// A store on these disks that is ready.
+fn ready_on<D: Disk + Drop>(alloc: Global, log: D, db: D) -> Result<SqlKeeper<FileStore<D>>, Fail>
+    requires { IsTrue (D.Disk.is_usable log) × IsTrue (D.Disk.is_usable db) }
+{
+    match opened(alloc, log, db) {
+        Ok(mut keeper) => {
+            keeper.ready()?;
+            Ok(keeper)
+        }
+        Err((error, _)) => Err(Fail::from(error)),
+    }
+}
+
+/// The disks of a store that is closed.
+pub(crate) fn closed<D: Disk + Drop>(keeper: SqlKeeper<FileStore<D>>) -> Files<D> {
+    keeper.release().into_store().close()
+}
+
+/// A store on two new disks.
+pub(crate) fn new_store(alloc: Global) -> Result<SqlKeeper<FileStore<Memory>>, Fail> {
+    ready_on(alloc, Memory::new(alloc), Memory::new(alloc))
+}
+
+/// A disk with these bytes.
+fn disk_of(alloc: Global, bytes: &[u8]) -> Result<Memory, Fail>
+    ensures { IfOk result (λ disk. IsTrue (memory_is_usable disk)) }
+{
+    let mut disk = Memory::new(alloc);
+    if !bytes.is_empty() {
+        disk.write_at(0, bytes)?;
+    }
+    if !disk.may_be_used() {
+        return Err(Fail::new("the disk may not be used"));
+    }
+    Ok(disk)
+}
+
+/// The store on copies of these disks.
+pub(crate) fn store_of(
+    alloc: Global,
+    log: &Memory,
+    db: &Memory,
+) -> Result<SqlKeeper<FileStore<Memory>>, Fail> {
+    ready_on(
+        alloc,
+        disk_of(alloc, log.bytes())?,
+        disk_of(alloc, db.bytes())?,
+    )
+}
+
+/// A store that may not be ready, on new disks that pass so many calls on and refuse each further one, or the disks where it isn't
+/// opened.
+pub(crate) fn stopping_store(
+    alloc: Global,
+    log_calls: u64,
+    db_calls: u64,
+) -> Result<SqlKeeper<FileStore<Fuse<Memory>>>, Files<Fuse<Memory>>> {
+    let log = Fuse::new(Memory::new(alloc), log_calls);
+    let db = Fuse::new(Memory::new(alloc), db_calls);
+    match opened(alloc, log, db) {
+        Ok(keeper) => Ok(keeper),
+        Err((_, files)) => Err(files),
+    }
+}
