@@ -87,74 +87,73 @@ const NO_FACTORS: &[&str] = &[
 
 const TICKET: KeyRow = (false, "ticket", CODES, NO_CODES);
 
+/// Each word with its keys.
 #[rattlefmt::skip]
-fn words() -> [WordRow; 11] {
-    [
-        ("substance", &[
-            TICKET,
-            (false, "code", CODES, NO_CODES),
-            (false, "name", NAMES, NO_NAMES),
-            (true, "cas", &[r#""7439-92-1""#, "null"], &["7", r#""7439-92-2""#, r#""""#]),
+const WORDS: [WordRow; 11] = [
+    ("substance", &[
+        TICKET,
+        (false, "code", CODES, NO_CODES),
+        (false, "name", NAMES, NO_NAMES),
+        (true, "cas", &[r#""7439-92-1""#, "null"], &["7", r#""7439-92-2""#, r#""""#]),
+    ]),
+    ("member", &[
+        TICKET,
+        (false, "substance", CODES, NO_CODES),
+        (false, "rule", RULES, NO_RULES),
+        (false, "factor", MILLIONS, NO_FACTORS),
+    ]),
+    ("part", &[
+        TICKET,
+        (false, "code", CODES, NO_CODES),
+        (false, "kind", &[r#""article""#, r#""assembly""#], &["null", r#""box""#, r#""Article""#, "1"]),
+        (false, "name", NAMES, NO_NAMES),
+    ]),
+    ("line", &[
+        TICKET,
+        (false, "parent", CODES, NO_CODES),
+        (false, "child", CODES, NO_CODES),
+        (false, "count", &["1", "1000000"], &["null", "0", "1000001", "-1", "1.0", r#""1""#]),
+    ]),
+    ("unline", &[TICKET, (false, "parent", CODES, NO_CODES), (false, "child", CODES, NO_CODES)]),
+    ("product", &[
+        TICKET,
+        (false, "part", CODES, NO_CODES),
+        (false, "kind", &[r#""3""#, r#""7t""#, r#""11""#], &["null", "3", r#""12""#, r#""7T""#]),
+    ]),
+    ("exemption", &[
+        TICKET,
+        (false, "row", CODES, NO_CODES),
+        (false, "annex", &["3", "4"], &["null", "2", "5", r#""3""#, "3.0"]),
+        (false, "number", &[r#""6(c)""#], &["null", "6", r#""""#, r#""6[c]""#, r#""123456789012345678901""#]),
+        (false, "rule", RULES, NO_RULES),
+        (false, "kinds", &[
+            r#"["3"]"#,
+            r#"["11","1","2","3","4","5","6","7","7t","8","8i","9","9i","10"]"#,
+        ], &[
+            "null", "3", r#""3""#, "{}", "[]", r#"["3","3"]"#, r#"["12"]"#, "[3]", r#"["3",null]"#,
+            r#"["1","2","3","4","5","6","7","7t","8","8i","9","9i","10","11","1"]"#,
         ]),
-        ("member", &[
-            TICKET,
-            (false, "substance", CODES, NO_CODES),
-            (false, "rule", RULES, NO_RULES),
-            (false, "factor", MILLIONS, NO_FACTORS),
-        ]),
-        ("part", &[
-            TICKET,
-            (false, "code", CODES, NO_CODES),
-            (false, "kind", &[r#""article""#, r#""assembly""#], &["null", r#""box""#, r#""Article""#, "1"]),
-            (false, "name", NAMES, NO_NAMES),
-        ]),
-        ("line", &[
-            TICKET,
-            (false, "parent", CODES, NO_CODES),
-            (false, "child", CODES, NO_CODES),
-            (false, "count", &["1", "1000000"], &["null", "0", "1000001", "-1", "1.0", r#""1""#]),
-        ]),
-        ("unline", &[TICKET, (false, "parent", CODES, NO_CODES), (false, "child", CODES, NO_CODES)]),
-        ("product", &[
-            TICKET,
-            (false, "part", CODES, NO_CODES),
-            (false, "kind", &[r#""3""#, r#""7t""#, r#""11""#], &["null", "3", r#""12""#, r#""7T""#]),
-        ]),
-        ("exemption", &[
-            TICKET,
-            (false, "row", CODES, NO_CODES),
-            (false, "annex", &["3", "4"], &["null", "2", "5", r#""3""#, "3.0"]),
-            (false, "number", &[r#""6(c)""#], &["null", "6", r#""""#, r#""6[c]""#, r#""123456789012345678901""#]),
-            (false, "rule", RULES, NO_RULES),
-            (false, "kinds", &[
-                r#"["3"]"#,
-                r#"["11","1","2","3","4","5","6","7","7t","8","8i","9","9i","10"]"#,
-            ], &[
-                "null", "3", r#""3""#, "{}", "[]", r#"["3","3"]"#, r#"["12"]"#, "[3]", r#"["3",null]"#,
-                r#"["1","2","3","4","5","6","7","7t","8","8i","9","9i","10","11","1"]"#,
-            ]),
-            (false, "application", NAMES, NO_NAMES),
-            (false, "from", DAYS, NO_DAYS),
-            (false, "until", DAYS, NO_DAYS),
-            (true, "floor", &["0", "1000000", "null"], NO_MILLIONS),
-            (true, "cap", &["0", "1000000", "null"], NO_MILLIONS),
-        ]),
-        ("unexempt", &[TICKET, (false, "row", CODES, NO_CODES)]),
-        ("candidate", &[TICKET, (false, "substance", CODES, NO_CODES), (false, "day", DAYS, NO_DAYS)]),
-        ("ship", &[
-            TICKET,
-            (false, "product", CODES, NO_CODES),
-            (false, "year", &["2008", "2099"], &["null", "2007", "2100", r#""2024""#]),
-            (false, "units", &["1", "1000000000000"], &["null", "0", "1000000000001", "1e3"]),
-        ]),
-        ("unship", &[
-            TICKET,
-            (false, "product", CODES, NO_CODES),
-            (false, "year", &["2008", "2099"], &["null", "2007", "2100"]),
-            (false, "units", &["1", "1000000000000"], &["null", "0", "1000000000001"]),
-        ]),
-    ]
-}
+        (false, "application", NAMES, NO_NAMES),
+        (false, "from", DAYS, NO_DAYS),
+        (false, "until", DAYS, NO_DAYS),
+        (true, "floor", &["0", "1000000", "null"], NO_MILLIONS),
+        (true, "cap", &["0", "1000000", "null"], NO_MILLIONS),
+    ]),
+    ("unexempt", &[TICKET, (false, "row", CODES, NO_CODES)]),
+    ("candidate", &[TICKET, (false, "substance", CODES, NO_CODES), (false, "day", DAYS, NO_DAYS)]),
+    ("ship", &[
+        TICKET,
+        (false, "product", CODES, NO_CODES),
+        (false, "year", &["2008", "2099"], &["null", "2007", "2100", r#""2024""#]),
+        (false, "units", &["1", "1000000000000"], &["null", "0", "1000000000001", "1e3"]),
+    ]),
+    ("unship", &[
+        TICKET,
+        (false, "product", CODES, NO_CODES),
+        (false, "year", &["2008", "2099"], &["null", "2007", "2100"]),
+        (false, "units", &["1", "1000000000000"], &["null", "0", "1000000000001"]),
+    ]),
+];
 
 /// An object of the word with a good value at each key, but with another one at one of them, or without it.
 fn object(
@@ -231,7 +230,7 @@ fn first_wrong(alloc: Global, word: &str, keys: &[KeyRow]) -> Result<Option<&'st
 
 #[test]
 fn each_key_of_each_word_has_its_values(rt: HostRuntime) -> Result<(), Fail> {
-    for (word, keys) in words() {
+    for (word, keys) in WORDS {
         assert_eq!(rt; first_wrong(rt.alloc(), word, keys)?, None, "of {word}");
     }
     Ok(())

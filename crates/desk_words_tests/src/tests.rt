@@ -125,7 +125,7 @@ fn other_lines_are_refused(rt: HostRuntime) -> Result<(), Fail> {
 }
 
 #[test]
-fn other_lines_about_stores_are_refused(rt: HostRuntime) -> Result<(), Fail> {
+fn other_sessions_are_refused(rt: HostRuntime) -> Result<(), Fail> {
     for line in [
         "session session",
         "session a",
@@ -155,6 +155,15 @@ fn other_lines_about_stores_are_refused(rt: HostRuntime) -> Result<(), Fail> {
         "session --port=1",
         "session --help",
         "session help",
+    ] {
+        assert_eq!(rt; read(rt.alloc(), line)?.as_str(), "refused", "of {line}");
+    }
+    Ok(())
+}
+
+#[test]
+fn other_exports_and_imports_are_refused(rt: HostRuntime) -> Result<(), Fail> {
+    for line in [
         "export",
         "export a",
         "export --",
