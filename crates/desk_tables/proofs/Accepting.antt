@@ -1,5 +1,5 @@
 -- From the rules on the bill to the whole judgement of an edit.
-use Rattle.std.proofs.Common.{◌≡◌, Bool, true, false, ◌||◌, List, [], ◌∷◌, ◌++◌, Option, Some, None, Result, Ok, Err, IfOk, IfSome, ℕ, refl, sym, ap, ◌∙◌, subst}
+use Rattle.std.proofs.Common.{◌≡◌, true, false, ◌||◌, [], ◌∷◌, Option, Some, None, Result, Ok, Err, IfOk, IfSome, ℕ, refl, sym, ap, ◌∙◌, subst}
 use Rattle.std.specs.List.{AllByRecursion}
 use Rattle.std.proofs.lemmas.Bool.{or_parts}
 use Rattle.desk_text.specs.Code.{code_cmp}
@@ -9,13 +9,13 @@ use Rattle.desk_model.specs.declared.edit.Edit.{Edit}
 use Rattle.desk_model.specs.declared.rows.ticket.TicketRow.{TicketRow}
 use Rattle.desk_model.specs.declared.rule_fault.RuleFault.{RuleFault}
 use Rattle.desk_model.specs.Effect.{entered, made, next_number}
-use Rattle.desk_model.specs.Lists.{Lists, IsOrdered}
+use Rattle.desk_model.specs.Lists.{Lists}
 use Rattle.desk_findings.specs.Above.{content, is_above}
 use Rattle.desk_findings.specs.Share.{share}
 use Rattle.desk_findings.specs.Findings.{finding_count, findings}
 use Rattle.desk_findings.specs.Totals.{has_too_many_findings, too_heavy_part, too_heavy_year}
 use Rattle.desk_history.specs.History.{PassesRows}
-use Rattle.desk_history.specs.Refused.{findings_full, first_some, refused, refused_by_bill, refused_by_rows, rules_of_bill, rules_of_rows, total_too_large, year_too_large}
+use Rattle.desk_history.specs.Refused.{closes_cycle, findings_full, first_some, refused, refused_by_bill, refused_by_rows, rules_of_bill, rules_of_rows, total_too_large, year_too_large}
 use Rattle.desk_history.specs.Rising.{may_add_findings, may_raise_masses, may_raise_years}
 use Rattle.desk_history.specs.Sound.{IsConsistent, IsTicketOfEdit, Sound, are_names_kept, are_numbers, are_rows_in_form}
 use Rattle.desk_history.specs.Step.{kept_number, step}
@@ -81,40 +81,51 @@ new_plan desk edit all change ticket room e h passed =
       limits.can_enter,
     )
 
+-- where an edit closes no cycle, the rules on sums decide
+pub bill_by_sums : (t : Lists) (edit : Edit) → closes_cycle t edit ≡ None → refused_by_bill t edit ≡ first_some (total_too_large t edit ∷ findings_full t edit ∷ year_too_large t edit ∷ [])
+unfolding refused_by_bill
+bill_by_sums t edit none = ap (λ fault. first_some (fault ∷ total_too_large t edit ∷ findings_full t edit ∷ year_too_large t edit ∷ [])) none
+
 -- the tables with the rows of an edit that passes the rules 1 to 20, before its ticket is entered
 module _ (t : Lists) (edit : Edit) (s : Sound t) (passed : PassesRows t edit) where
-  pub consistent_before_ticket : (change : RowChange) → changed t change ≡ made t edit → IsConsistent (changed t change)
+  pub consistent_made : (after : Lists) → after ≡ made t edit → after.tickets ≡ t.tickets → IsConsistent after
   unfolding entered are_rows_in_form are_names_kept
-  consistent_before_ticket change e =
-      let after = IsConsistent-entered t edit s.consistent passed in
-      let tickets : (made t edit).tickets ≡ t.tickets = ap (λ lists. lists.tickets) (sym e) ∙ tickets_stay t change in
+  consistent_made after e same =
+      let whole = IsConsistent-entered t edit s.consistent passed in
+      let tickets : (made t edit).tickets ≡ t.tickets = ap (λ lists. lists.tickets) (sym e) ∙ same in
       subst IsConsistent (sym e)
       (record {
         ordered = record {
-          substances = after.ordered.substances;
-          members = after.ordered.members;
-          materials = after.ordered.materials;
-          parts = after.ordered.parts;
-          lines = after.ordered.lines;
-          products = after.ordered.products;
-          exemptions = after.ordered.exemptions;
-          candidates = after.ordered.candidates;
-          shipments = after.ordered.shipments;
+          substances = whole.ordered.substances;
+          members = whole.ordered.members;
+          materials = whole.ordered.materials;
+          parts = whole.ordered.parts;
+          lines = whole.ordered.lines;
+          products = whole.ordered.products;
+          exemptions = whole.ordered.exemptions;
+          candidates = whole.ordered.candidates;
+          shipments = whole.ordered.shipments;
           tickets = subst (IsByKey (λ row. row.code) code_cmp) (sym tickets) s.consistent.ordered.tickets;
         };
-        in_form = after.in_form;
-        names_kept = after.names_kept;
-        codes_apart = after.codes_apart;
-        contents_fit = after.contents_fit;
-        exemptions_fit = after.exemptions_fit;
-        acyclic = after.acyclic;
+        in_form = whole.in_form;
+        names_kept = whole.names_kept;
+        codes_apart = whole.codes_apart;
+        contents_fit = whole.contents_fit;
+        exemptions_fit = whole.exemptions_fit;
+        acyclic = whole.acyclic;
         numbered = subst (λ rows. are_numbers rows ≡ true) (sym tickets) s.consistent.numbered;
         tickets_of_edits = subst (AllByRecursion IsTicketOfEdit) (sym tickets) s.consistent.tickets_of_edits;
       })
 
-  pub sums_after : (change : RowChange) → changed t change ≡ made t edit → rules_of_sums (changed t change) ≡ total_too_large t edit ∷ findings_full t edit ∷ year_too_large t edit ∷ []
+  pub sums_made : (after : Lists) → after ≡ made t edit → rules_of_sums after ≡ total_too_large t edit ∷ findings_full t edit ∷ year_too_large t edit ∷ []
   unfolding total_too_large findings_full year_too_large entered too_heavy_part has_too_many_findings too_heavy_year finding_count findings share content is_above
-  sums_after change e = ap rules_of_sums e
+  sums_made after e = ap rules_of_sums e
+
+  pub consistent_before_ticket : (change : RowChange) → changed t change ≡ made t edit → IsConsistent (changed t change)
+  consistent_before_ticket change e = consistent_made (changed t change) e (tickets_stay t change)
+
+  pub sums_after : (change : RowChange) → changed t change ≡ made t edit → rules_of_sums (changed t change) ≡ total_too_large t edit ∷ findings_full t edit ∷ year_too_large t edit ∷ []
+  sums_after change e = sums_made (changed t change) e
 
   pub none_rise : may_raise_sums edit ≡ false → first_some (total_too_large t edit ∷ findings_full t edit ∷ year_too_large t edit ∷ []) ≡ None
   none_rise e =

@@ -15,9 +15,9 @@ use Rattle.desk_findings.specs.Reaches.{lines_of}
 use Rattle.desk_history.specs.Breaches.{is_number_once}
 use Rattle.desk_history.specs.Limits.{has_too_many_lines, tables_over}
 use Rattle.desk_history.specs.Sound.{IsConsistent, KeepsLimits, KeepsSums, Sound}
-use Rattle.desk_history.proofs.Good.{FormsKept, forms_from, names_from}
+use Rattle.desk_history.proofs.SoundClauses.{FormsKept, forms_from, names_from}
 use Rattle.desk_history.proofs.Numbers.{are_numbers-once}
-use Rattle.desk_history.proofs.Sounds.{NamesKept}
+use Rattle.desk_history.proofs.NamesKept.{NamesKept}
 use Rattle.desk_history.proofs.Unsound.{few_lines_of_each, told}
 use Rattle.desk_tables.specs.declared.sound_fault.SoundFault.{SoundFault}
 use Rattle.desk_tables.specs.declared.sound_fault.SoundFault.TheVariants.{Unsound}

@@ -27,7 +27,7 @@ use Rattle.desk_findings.proofs.Bill.{by_line}
 use Rattle.desk_findings.proofs.Children.{right_parent}
 use Rattle.desk_findings.proofs.Lighter.{unreached}
 use Rattle.desk_history.specs.Sound.{IsConsistent}
-use Rattle.desk_history.proofs.Good.{parents_of, right_of}
+use Rattle.desk_history.proofs.SoundClauses.{parents_of, right_of}
 use Rattle.desk_tables.specs.FindingCounts.{is_over_some_limit, own_of_material, own_of_part}
 
 positive : (n : ℕ) → nat_lt 0 (suc n) ≡ true

@@ -23,8 +23,8 @@ use Rattle.desk_findings.specs.Tonnage.{shipments_in}
 use Rattle.desk_findings.specs.Totals.{too_heavy_year, year_mass}
 use Rattle.desk_findings.proofs.Groups.{shipments_together}
 use Rattle.desk_history.specs.Sound.{IsConsistent}
-use Rattle.desk_history.proofs.Good.{forms_of}
-use Rattle.desk_history.proofs.Sounds.{names_of}
+use Rattle.desk_history.proofs.SoundClauses.{forms_of}
+use Rattle.desk_history.proofs.NamesKept.{names_of}
 use Rattle.desk_totals.specs.Fit.{fit, fit_with}
 use Rattle.desk_totals.proofs.Fits.{fit-above, fit-below, fit_with-fits}
 use Rattle.desk_tables.proofs.Finds.{find_in_second}

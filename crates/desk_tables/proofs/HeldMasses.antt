@@ -23,7 +23,7 @@ use Rattle.desk_findings.specs.Reaches.{lines_of}
 use Rattle.desk_findings.specs.Totals.{too_heavy_part}
 use Rattle.desk_findings.proofs.Loads.{mass-step}
 use Rattle.desk_history.specs.Sound.{IsConsistent}
-use Rattle.desk_history.proofs.Good.{bill_of, forms_of}
+use Rattle.desk_history.proofs.SoundClauses.{bill_of, forms_of}
 use Rattle.desk_history.proofs.Masses.{none_first}
 use Rattle.desk_tables.proofs.KeptForms.{content_of}
 use Rattle.desk_totals.specs.Fit.{fit}

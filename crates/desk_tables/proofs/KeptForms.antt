@@ -13,7 +13,7 @@ use Rattle.desk_model.proofs.Content.{content_parts, substance_parts}
 use Rattle.desk_model.proofs.Elements.{each_from_all}
 use Rattle.desk_model.proofs.Kept.{found_each}
 use Rattle.desk_history.specs.Sound.{Sound}
-use Rattle.desk_history.proofs.Good.{forms_of}
+use Rattle.desk_history.proofs.SoundClauses.{forms_of}
 
 pub content_of : (row : MaterialRow) → is_material_row row ≡ true → is_content row.mass row.substances row.claims ≡ true
 unfolding is_material_row

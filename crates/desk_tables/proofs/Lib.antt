@@ -4,6 +4,7 @@ pub mod DeclaredRows
 pub mod Tickets
 pub mod Commits
 pub mod PutCounts
+pub mod PutLines
 pub mod ParentLines
 pub mod Judging
 pub mod StartTexts

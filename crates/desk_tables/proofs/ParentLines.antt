@@ -20,7 +20,7 @@ use Rattle.desk_findings.specs.Reaches.{lines_of}
 use Rattle.desk_findings.proofs.Bill.{lines_of-none}
 use Rattle.desk_history.specs.Limits.{has_too_many_lines, if_over, tables_over}
 use Rattle.desk_history.specs.Sound.{Sound}
-use Rattle.desk_history.proofs.Good.{parents_of}
+use Rattle.desk_history.proofs.SoundClauses.{parents_of}
 use Rattle.desk_tables.specs.Change.{changed}
 use Rattle.desk_tables.specs.Plan.{entered_by}
 use Rattle.desk_tables.specs.declared.row_change.RowChange.{RowChange}

@@ -8,4 +8,5 @@ pub mod Sums
 pub mod Ticket
 pub mod FindingCounts
 pub mod Gathered
+pub mod PutLine
 pub mod Soundness

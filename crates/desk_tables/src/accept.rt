@@ -1,17 +1,20 @@
 ghost use Rattle.std.specs.Prelude.{◌≡◌, [], ◌∷◌, None, Ok, true, is_ok, Err, IfErr, IfOk, IfSome, OnErr, OnOk};
 ghost use Rattle.desk_model.specs.Effect.{made};
+ghost use Rattle.desk_model.specs.Forms.{is_edit_in_form};
 ghost use Rattle.desk_history.specs.History.{PassesRows};
-ghost use Rattle.desk_history.specs.Refused.{findings_full, first_some, refused_by_bill, refused_by_rows, total_too_large, year_too_large};
+ghost use Rattle.desk_history.specs.Refused.{closes_cycle, findings_full, first_some, refused_by_bill, refused_by_rows, total_too_large, year_too_large};
 ghost use Rattle.desk_history.specs.Sound.{Sound};
 ghost use Rattle.desk_history.specs.Step.{kept_number, step};
 ghost use Rattle.desk_tables.specs.Change.{changed};
 ghost use Rattle.desk_tables.specs.Judged.{IsRefusal, IsRowsPlan};
 ghost use Rattle.desk_tables.specs.Plan.{IsPlan};
+ghost use Rattle.desk_tables.specs.PutLine.{cycle_with, with_line};
 ghost use Rattle.desk_tables.specs.Sums.{is_of_sums, may_raise_sums};
 
+use crate::cycle::line_of;
 use crate::sums::may_raise_sums;
 use crate::{EditFault, RowChange, Tables, TablesPlan};
-use desk_model::{Edit, RuleFault};
+use desk_model::{Edit, LineRow, RuleFault};
 use desk_text::OutOfMemory;
 use std::alloc::Global;
 
@@ -99,9 +102,33 @@ impl Tables {
         ensures { IfOk result (λ fault. fault ≡ refused_by_bill self.now.lists edit.now) }
     {
         edit.in_form();
-        match self.closes_cycle(alloc, edit)? {
-            Some(fault) => Ok(Some(fault)),
+        match line_of(edit) {
+            Some(line) => self.refused_by_line(alloc, edit, &line),
             None => self.refused_by_sums(alloc, edit, change),
+        }
+    }
+
+    /// The first of the rules 20 to 23 that a new edit breaks that puts this line in. The links of the tables are made once: it
+    /// takes a search or two for each line of the bill.
+    #[tactic(auto, unfolding(desk_history::specs::Refused::refused_by_bill))]
+    fn refused_by_line(
+        &self,
+        alloc: Global,
+        edit: &Edit,
+        line: &LineRow,
+    ) -> Result<Option<RuleFault>, OutOfMemory>
+        requires sound { Sound self.now.lists }
+        requires form { is_edit_in_form edit.now ≡ true }
+        requires new { kept_number self.now.lists edit.now ≡ None }
+        requires unrefused { refused_by_rows self.now.lists edit.now ≡ None }
+        requires cycle { closes_cycle self.now.lists edit.now ≡ cycle_with self.now.lists line.now }
+        requires made { made self.now.lists edit.now ≡ with_line self.now.lists line.now }
+        ensures { IfOk result (λ fault. fault ≡ refused_by_bill self.now.lists edit.now) }
+    {
+        let bill = self.lists().links(alloc)?;
+        match self.cycle_fault(alloc, &bill, line)? {
+            Some(fault) => Ok(Some(fault)),
+            None => self.sums_fault_with_line(alloc, bill, line),
         }
     }
 

@@ -1,50 +1,58 @@
-ghost use Rattle.std.specs.Prelude.{◌≡◌, IfOk};
-ghost use Rattle.desk_model.specs.declared.rule_fault.RuleFault.TheVariants.{ClosesCycle};
-ghost use Rattle.desk_findings.specs.Chain.{chain};
-ghost use Rattle.desk_findings.specs.Reaches.{is_or_reaches};
-ghost use Rattle.desk_history.specs.Refused.{closes_cycle, refuse_if};
+ghost use Rattle.std.specs.Prelude.{◌≡◌, IfOk, IfSome, None};
+ghost use Rattle.desk_model.specs.Effect.{made};
+ghost use Rattle.desk_model.specs.Lists.{Lists};
+ghost use Rattle.desk_history.specs.Refused.{closes_cycle};
 ghost use Rattle.desk_history.specs.Sound.{Sound};
+ghost use Rattle.desk_tables.specs.PutLine.{cycle_with, with_line};
+ghost use Rattle.desk_totals.specs.Linked.{IsBillOf};
 
 use crate::Tables;
-use desk_model::{Edit, RuleFault};
-use desk_text::{Code, OutOfMemory};
+use desk_model::{Edit, LineRow, RuleFault};
+use desk_text::OutOfMemory;
+use desk_totals::Links;
 use std::alloc::Global;
 
 impl Tables {
-    /// 20: the child of the line is its parent or reaches it; the chain goes from the child to the parent. It takes two searches
-    /// for each line of the bill, and a few passes over nodes and lines; for an edit that is no line it takes nothing.
-    #[tactic(auto, unfolding(desk_history::specs::Refused::closes_cycle))]
-    pub(crate) fn closes_cycle(
+    /// 20: the child of the line is its parent or reaches it; the chain goes from the child to the parent. The bill is that of the
+    /// tables. It takes a few passes over nodes and lines.
+    pub(crate) fn cycle_fault(
         &self,
         alloc: Global,
-        edit: &Edit,
+        bill: &Links,
+        line: &LineRow,
     ) -> Result<Option<RuleFault>, OutOfMemory>
-        requires { Sound self.now.lists }
-        ensures { IfOk result (λ fault. fault ≡ closes_cycle self.now.lists edit.now) }
+        requires sound { Sound self.now.lists }
+        requires bill { IsBillOf bill.now self.now.lists }
+        ensures { IfOk result (λ fault. fault ≡ cycle_with self.now.lists line.now) }
     {
-        match edit {
-            Edit::Line { parent, child, .. } => self.cycle_fault(alloc, child, parent),
-            _ => Ok(None),
-        }
-    }
-
-    /// The fault of a line from the parent to the child, where the child is the parent or reaches it.
-    fn cycle_fault(
-        &self,
-        alloc: Global,
-        child: &Code,
-        parent: &Code,
-    ) -> Result<Option<RuleFault>, OutOfMemory>
-        requires { Sound self.now.lists }
-        ensures { IfOk result (λ fault. fault
-            ≡ refuse_if (is_or_reaches self.now.lists child.now parent.now) (ClosesCycle (chain self.now.lists child.now parent.now))) }
-    {
-        let bill = self.lists().links(alloc)?;
-        if self.lists().is_or_reaches(alloc, &bill, child, parent)? {
+        let (child, parent) = (&line.child, &line.parent);
+        if self.lists().is_or_reaches(alloc, bill, child, parent)? {
             let chain = bill.chain(alloc, child, parent)?;
             Ok(Some(RuleFault::ClosesCycle { chain }))
         } else {
             Ok(None)
         }
+    }
+}
+
+/// The line of an edit that puts one in.
+#[tactic(auto, unfolding(desk_history::specs::Refused::closes_cycle, desk_model::specs::Effect::made))]
+pub(crate) fn line_of(edit: &Edit) -> Option<LineRow>
+    ensures none { result ≡ None → (t : Lists) → closes_cycle t edit.now ≡ None }
+    ensures cycle { IfSome result (λ line. (t : Lists) → closes_cycle t edit.now ≡ cycle_with t line) }
+    ensures made { IfSome result (λ line. (t : Lists) → made t edit.now ≡ with_line t line) }
+{
+    match edit {
+        Edit::Line {
+            parent,
+            child,
+            count,
+            ..
+        } => Some(LineRow {
+            parent: *parent,
+            child: *child,
+            count: count.get() as u32,
+        }),
+        _ => None,
     }
 }

@@ -33,14 +33,6 @@ impl Tables {
         self.in_order();
         self.lists().share_in(material, rule)
     }
-
-    /// By which factor the substance counts for the rule, in millionths: 0 where it is no member.
-    pub fn factor_of(&self, rule: Rule, substance: &Code) -> u32
-        ensures { result ≡ factor_of self.now.lists rule substance.now }
-    {
-        self.in_order();
-        self.lists().factor_of(rule, substance)
-    }
 }
 
 impl<'a> TableLists<'a> {
@@ -59,7 +51,7 @@ impl<'a> TableLists<'a> {
     }
 
     /// By which factor the substance counts for the rule, in millionths: 0 where it is no member. It takes a binary search.
-    pub fn factor_of(&self, rule: Rule, substance: &Code) -> u32
+    fn factor_of(&self, rule: Rule, substance: &Code) -> u32
         requires { IsByKey member_key member_key_cmp self.now.members }
         ensures { result ≡ factor_of self.now rule substance.now }
     {

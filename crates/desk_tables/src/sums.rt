@@ -2,25 +2,33 @@ ghost use Rattle.std.specs.Prelude.{◌≡◌, true, IfOk};
 ghost use Rattle.desk_history.specs.Refused.{first_some};
 ghost use Rattle.desk_history.specs.Sound.{IsConsistent};
 ghost use Rattle.desk_tables.specs.Change.{changed};
+ghost use Rattle.desk_tables.specs.PutLine.{with_line};
 ghost use Rattle.desk_tables.specs.Sums.{is_of_sums, may_raise_sums, rules_of_sums};
+ghost use Rattle.desk_totals.specs.Linked.{IsBillOf};
 
 use crate::{RowChange, TableLists, Tables};
-use desk_model::{Edit, RuleFault};
+use desk_model::{Edit, LineRow, RuleFault};
+use desk_rows::place_of_row;
 use desk_text::OutOfMemory;
+use desk_totals::Links;
 use std::alloc::Global;
 
 impl<'a> TableLists<'a> {
-    /// The first of the rules 21 to 23 that the lists break.
-    pub fn sums_fault(&self, alloc: Global) -> Result<Option<RuleFault>, OutOfMemory>
-        requires { IsConsistent self.now }
+    /// The first of the rules 21 to 23 that the lists break, over a bill that is theirs.
+    pub(crate) fn sums_fault(
+        &self,
+        alloc: Global,
+        bill: &Links,
+    ) -> Result<Option<RuleFault>, OutOfMemory>
+        requires consistent { IsConsistent self.now }
+        requires bill { IsBillOf bill.now self.now }
         ensures { IfOk result (λ fault. fault ≡ first_some (rules_of_sums self.now)) }
     {
-        let bill = self.links(alloc)?;
-        let masses = self.masses(alloc, &bill)?;
+        let masses = self.masses(alloc, bill)?;
         if let Some(part) = self.too_heavy_part(masses.as_slice()) {
             return Ok(Some(RuleFault::TotalTooLarge { part }));
         }
-        if self.has_too_many_findings(alloc, &bill, masses.as_slice())? {
+        if self.has_too_many_findings(alloc, bill, masses.as_slice())? {
             return Ok(Some(RuleFault::FindingsFull));
         }
         match self.too_heavy_year(masses.as_slice()) {
@@ -42,7 +50,46 @@ impl Tables {
         ensures { IfOk result (λ fault. fault ≡ first_some (rules_of_sums (changed self.now.lists change.now))) }
     {
         let table = self.changed_table(alloc, change)?;
-        self.lists_with(&table).sums_fault(alloc)
+        let lists = self.lists_with(&table);
+        let bill = lists.links(alloc)?;
+        lists.sums_fault(alloc, &bill)
+    }
+
+    /// The first of the rules 21 to 23 that the tables break with the line put in, where the bill is theirs without it.
+    pub(crate) fn sums_fault_with_line(
+        &self,
+        alloc: Global,
+        bill: Links,
+        line: &LineRow,
+    ) -> Result<Option<RuleFault>, OutOfMemory>
+        requires bill { IsBillOf bill self.now.lists }
+        requires consistent { IsConsistent (with_line self.now.lists line.now) }
+        ensures { IfOk result (λ fault. fault ≡ first_some (rules_of_sums (with_line self.now.lists line.now))) }
+    {
+        let bill = self.bill_with_line(alloc, bill, line)?;
+        let mut lines = self.lines.copied(alloc)?;
+        lines.put(*line)?;
+        let lists = self.lists().with_lines(lines.as_slice());
+        lists.sums_fault(alloc, &bill)
+    }
+
+    /// The bill of the tables with the line put in, from theirs without it. It takes two searches and a few passes over nodes and
+    /// lines.
+    fn bill_with_line(
+        &self,
+        alloc: Global,
+        bill: Links,
+        line: &LineRow,
+    ) -> Result<Links, OutOfMemory>
+        requires bill { IsBillOf bill self.now.lists }
+        requires consistent { IsConsistent (with_line self.now.lists line.now) }
+        ensures { IfOk result (λ bill. IsBillOf bill (with_line self.now.lists line.now)) }
+    {
+        self.in_order();
+        match place_of_row(self.lines(), line) {
+            Ok(place) => bill.with_line_at(alloc, place, line),
+            Err(place) => bill.with_line_before(alloc, place, line),
+        }
     }
 }
 

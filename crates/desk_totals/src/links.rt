@@ -129,7 +129,12 @@ impl Links {
         requires ends { has_ends_in self.nodes line.now ≡ true }
         ensures { IfOk result (λ bill. bill ≡ record { nodes = self.nodes; material_count = self.material_count; lines = slice_set self.lines place line.now }) }
     {
-        let link = link_of(self.nodes.as_slice(), self.material_count, line);
+        let link = link_of(
+            self.nodes.as_slice(),
+            self.material_count,
+            line,
+            self.material_count,
+        );
         let mut links = self.links;
         set_link(&mut links, place, link);
         with_links(alloc, self.nodes, self.material_count, links)
@@ -148,7 +153,12 @@ impl Links {
         requires ends { has_ends_in self.nodes line.now ≡ true }
         ensures { IfOk result (λ bill. bill ≡ record { nodes = self.nodes; material_count = self.material_count; lines = insert self.lines place line.now }) }
     {
-        let link = link_of(self.nodes.as_slice(), self.material_count, line);
+        let link = link_of(
+            self.nodes.as_slice(),
+            self.material_count,
+            line,
+            self.material_count,
+        );
         let mut links = self.links;
         links.insert(place, link)?;
         with_links(alloc, self.nodes, self.material_count, links)

@@ -60,7 +60,8 @@ fn first_place_of(nodes: &[Code], code: &Code) -> Option<usize>
     None
 }
 
-/// The links of the lines, one for each.
+/// The links of the lines, one for each. It takes a search for each child, and one for each parent that is neither the
+/// parent of the line before nor the node after that, as where lines stand in order of their parents.
 pub(crate) fn links_of(
     alloc: Global,
     nodes: &[Code],
@@ -73,14 +74,17 @@ pub(crate) fn links_of(
     ensures places { IfOk result (λ links. ArePlaces (length nodes.now) links.items) }
 {
     let mut links = Vec::with_capacity(alloc, lines.len())?;
+    let mut near = material_count;
     for line in lines {
-        links.push_reserved(link_of(nodes, material_count, line));
+        let link = link_of(nodes, material_count, line, near);
+        near = link.parent;
+        links.push_reserved(link);
     }
     Ok(links)
 }
 
-/// The link of a line.
-pub(crate) fn link_of(nodes: &[Code], material_count: usize, line: &LineRow) -> Link
+/// The link of a line, whose parent is looked for near this place first.
+pub(crate) fn link_of(nodes: &[Code], material_count: usize, line: &LineRow, near: usize) -> Link
     requires materials { material_count ≤ length nodes.now }
     requires ends { has_ends_in nodes.now line.now ≡ true }
     ensures line { line_at nodes.now result ≡ line.now }
@@ -88,10 +92,27 @@ pub(crate) fn link_of(nodes: &[Code], material_count: usize, line: &LineRow) -> 
     ensures child { result.child < length nodes.now }
 {
     Link {
-        parent: place_in(nodes, material_count, &line.parent),
+        parent: place_near(nodes, material_count, &line.parent, near),
         child: place_in(nodes, material_count, &line.child),
         count: line.count,
     }
+}
+
+/// The place of a code that is one of the nodes: this place, or the next, or else where a search finds it.
+fn place_near(nodes: &[Code], material_count: usize, code: &Code, near: usize) -> usize
+    requires materials { material_count ≤ length nodes.now }
+    requires there { is_among code.now nodes.now ≡ true }
+    ensures within { result < length nodes.now }
+    ensures code { node_at nodes.now result ≡ code.now }
+{
+    if stands_at(nodes, near, code) {
+        return near;
+    }
+    let next = near.saturating_add(1);
+    if stands_at(nodes, next, code) {
+        return next;
+    }
+    place_in(nodes, material_count, code)
 }
 
 /// The place of a code that is one of the nodes.

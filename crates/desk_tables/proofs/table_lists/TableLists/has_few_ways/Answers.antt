@@ -1,6 +1,6 @@
 use Rattle.std.proofs.Common.{ℕ, replicate, ◌≡◌, ◌≤◌, ◌+◌, ◌*◌, true, length, map, drop, sum_by, sym, ap, subst, ◌∙◌}
 use Rattle.desk_model.specs.declared.limits.TheConstants.{FINDING_LIMIT}
-use Rattle.desk_history.proofs.Good.{bill_of}
+use Rattle.desk_history.proofs.SoundClauses.{bill_of}
 use Rattle.desk_tables.proofs.FewFindings.{few, of_parts_alone, ones, singles, singles_bill, sum_map, ways}
 use Rattle.desk_tables.proofs.HeavyParts.{slice_to_end}
 use Rattle.desk_totals.specs.Fit.{fit}

@@ -4,7 +4,7 @@ use Rattle.std.specs.List.{All, range_with_len}
 use Rattle.std.proofs.lemmas.List.{length-map}
 use Rattle.desk_model.specs.declared.limits.TheConstants.{FINDING_LIMIT}
 use Rattle.desk_findings.specs.Totals.{has_too_many_findings}
-use Rattle.desk_history.proofs.Good.{bill_of}
+use Rattle.desk_history.proofs.SoundClauses.{bill_of}
 use Rattle.desk_tables.specs.FindingCounts.{added_at, holders_among}
 use Rattle.desk_tables.proofs.FindingSums.{added_up, holders_inside, same_len}
 use Rattle.desk_totals.specs.Marks.{reach_count}

@@ -1,4 +1,4 @@
-use Rattle.desk_history.proofs.Good.{right_of}
+use Rattle.desk_history.proofs.SoundClauses.{right_of}
 use Rattle.desk_tables.proofs.table_lists.TableLists.links.Goals as goal
 
 pub linked-requires-clause-children : goal.linked-requires-clause-children
