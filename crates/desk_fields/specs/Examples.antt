@@ -48,11 +48,13 @@ pub record RowTextExamples : Type 0 where
   pub material : body_text solder
       ≡ join_with_byte 9 (codes "1" ∷ codes "ACME" ∷ codes "7" ∷ codes "2024-01-23" ∷ codes "Solder paste" ∷ codes "1000000" ∷ codes "1"
       ∷ codes "lead" ∷ codes "1000" ∷ codes "2" ∷ codes "lead" ∷ codes "6(c)" ∷ codes "cadmium" ∷ codes "8(b)" ∷ [])
-  pub part : body_text (Part (record { code = codes "A"; sort = Assembly; name = codes "Frame" })) ≡ join_with_byte 9 (codes "1" ∷ codes "assembly" ∷ codes "Frame" ∷ [])
+  pub part : body_text (Part (record { code = codes "A"; sort = Assembly; name = codes "Frame" }))
+      ≡ join_with_byte 9 (codes "1" ∷ codes "assembly" ∷ codes "Frame" ∷ [])
   pub line : body_text (Line (record { parent = codes "A"; child = codes "B"; count = 2 })) ≡ join_with_byte 9 (codes "1" ∷ codes "2" ∷ [])
   pub product : body_text (Product (record { part = codes "A"; kind = Toy })) ≡ join_with_byte 9 (codes "1" ∷ codes "7t" ∷ [])
   pub exemption : body_text copper
-      ≡ join_with_byte 9 (codes "1" ∷ codes "3" ∷ codes "6(c)" ∷ codes "lead" ∷ codes "3,7t" ∷ codes "2014-07-22" ∷ codes "2026-06-30" ∷ [] ∷ codes "40000" ∷ codes "Copper alloys" ∷ [])
+      ≡ join_with_byte 9 (codes "1" ∷ codes "3" ∷ codes "6(c)" ∷ codes "lead" ∷ codes "3,7t" ∷ codes "2014-07-22" ∷ codes "2026-06-30" ∷ []
+      ∷ codes "40000" ∷ codes "Copper alloys" ∷ [])
   pub candidate : body_text (Candidate (record { substance = codes "dehp"; day = date 2008 10 28 })) ≡ join_with_byte 9 (codes "1" ∷ codes "2008-10-28" ∷ [])
   pub shipment : body_text (Shipment (record { year = 2024; product = codes "P"; units = 1000 })) ≡ join_with_byte 9 (codes "1" ∷ codes "1000" ∷ [])
   -- the last field of a ticket is the text of its edit, with the TABs in it

@@ -9,4 +9,4 @@ pub mod Firsts
 pub mod Groups
 pub mod Lighter
 pub mod Loads
-pub mod Local
+pub mod AgreeingTables

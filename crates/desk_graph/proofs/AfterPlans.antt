@@ -13,7 +13,7 @@ use Rattle.desk_graph.specs.Edits.{is_taken}
 use Rattle.desk_graph.specs.Order.{AreBothEnds, AreMarkedUp, IsInOrder, IsSwept, has_mark}
 use Rattle.desk_graph.specs.Planned.{BillEdit, HasMadeWayFor, IsBillPlan, changed_lines, changed_users, plan_answer, planned, with_empty, with_next}
 use Rattle.desk_graph.specs.Reaches.{AreAffected, AreChildrenFirst}
-use Rattle.desk_graph.proofs.Changes.{StaysKept, changed-kept, length-labels, more-kept, with_labels, with_labels-is, with_nodes-is}
+use Rattle.desk_graph.proofs.ChangedLines.{StaysKept, changed-kept, length-labels, more-kept, with_labels, with_labels-is, with_nodes-is}
 use Rattle.desk_graph.proofs.Kept.{bill_falls, bill_swept}
 use Rattle.desk_graph.proofs.Ordered.{marked_once, order_inside, order_pairs, rank}
 use Rattle.desk_graph.proofs.Reached.{marks_are}

@@ -5,6 +5,6 @@ pub mod Labels
 pub mod Reached
 pub mod Ordered
 pub mod Kept
-pub mod Changes
+pub mod ChangedLines
 pub mod AfterPlans
 pub mod StaysBill

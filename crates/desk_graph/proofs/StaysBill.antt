@@ -9,7 +9,7 @@ use Rattle.desk_graph.specs.Graph.{is_line, line_count, lines_of}
 use Rattle.desk_graph.specs.Order.{AreBothEnds, AreMarkedUp, IsInOrder, has_mark, mark_of}
 use Rattle.desk_graph.specs.Planned.{AreFree, BillEdit, HasMadeWayFor, IsBillPlan, IsChangeOf, changed_lines, changed_users, planned, with_empty, with_next}
 use Rattle.desk_graph.specs.Reaches.{Falls, enough, has_node, is_affected, is_or_reaches, reaches}
-use Rattle.desk_graph.proofs.Changes.{changed-kept, length-labels, more-kept, with_labels, with_nodes-is}
+use Rattle.desk_graph.proofs.ChangedLines.{changed-kept, length-labels, more-kept, with_labels, with_nodes-is}
 use Rattle.desk_graph.proofs.Ends.{user_is}
 use Rattle.desk_graph.proofs.Kept.{AreUnique, bill_falls, count-more, is_bill, unique-more, user_there}
 use Rattle.desk_graph.proofs.Marks.{marked_below}

@@ -34,9 +34,9 @@ use Rattle.desk_history.specs.Sound.{IsConsistent}
 use Rattle.desk_findings.proofs.Bill.{by_line, is_or_reaches_trans}
 use Rattle.desk_model.proofs.Elements.{any-filter, any-map, any_map, any_none, any_of_all, any_of_filter, each, each_both, each_filter, each_in_map, each_map, each_of_map, none_from_any, sum_same, sum_zero}
 use Rattle.desk_model.proofs.Kept.{code_cmp_total, found_any, found_each, member_key_cmp_total, same_code-from, same_code-true}
-use Rattle.desk_findings.proofs.Local.{Agrees}
+use Rattle.desk_findings.proofs.AgreeingTables.{Agrees}
 use Rattle.desk_findings.proofs.Children.{each_right_child, not_part, right_child_cases}
-use Rattle.desk_history.proofs.Good.{parents_of, right_of}
+use Rattle.desk_history.proofs.SoundClauses.{parents_of, right_of}
 
 -- a code is free of seeds where it neither is one nor reaches one
 abbrev pub IsFree : Lists → List (List ℕ) → List ℕ → Type 0

@@ -70,7 +70,7 @@ use Rattle.desk_model.specs.Forms.{is_part_row}
 use Rattle.desk_model.specs.Lists.{is_material}
 use Rattle.desk_findings.specs.Mass.{mass}
 use Rattle.desk_history.specs.Breaches.{breaks_part, is_overfull}
-use Rattle.desk_history.proofs.Good.{bill_of, parents_of}
+use Rattle.desk_history.proofs.SoundClauses.{bill_of, parents_of}
 use Rattle.desk_history.proofs.Unaffected.{mass_stays}
 
 -- what the examples compute with

@@ -29,8 +29,8 @@ use Rattle.desk_history.specs.History.{PassesRows}
 use Rattle.desk_history.specs.Refused.{findings_full, name_taken}
 use Rattle.desk_history.specs.Rising.{may_add_findings}
 use Rattle.desk_history.specs.Sound.{IsConsistent}
-use Rattle.desk_history.proofs.Good.{parents_of, right_of}
-use Rattle.desk_history.proofs.Made.{refuse_if-none}
+use Rattle.desk_history.proofs.SoundClauses.{parents_of, right_of}
+use Rattle.desk_history.proofs.MadeRows.{refuse_if-none}
 use Rattle.desk_history.proofs.Rules.{unrefused}
 use Rattle.desk_history.proofs.SoundSteps.{IsConsistent-entered}
 use Rattle.desk_history.proofs.Unaffected.{findings_stay}

@@ -25,11 +25,11 @@ use Rattle.desk_findings.specs.Reaches.{enough, is_or_reaches, lines_of, reaches
 use Rattle.desk_history.specs.Refused.{closes_cycle, kind_changed, name_taken, refuse_if, unknown_material, unknown_part, wrong_child}
 use Rattle.desk_findings.specs.Bill.{has_right_child}
 use Rattle.desk_findings.proofs.Bill.{HasParents, by_line, is_or_reaches_trans, lines_of-none, reaches-deeper, reaches-step}
-use Rattle.desk_history.proofs.Changes.{good-lines, good-parts}
+use Rattle.desk_history.proofs.ChangedTables.{good-lines, good-parts}
 use Rattle.desk_model.proofs.Elements.{all_from_each, any-filter, any_gives, any_map, each, each_filter, each_from_all, each_map}
-use Rattle.desk_history.proofs.Good.{IsGood, right_child_from}
+use Rattle.desk_history.proofs.SoundClauses.{IsGood, right_child_from}
 use Rattle.desk_model.proofs.Kept.{code_cmp_total, kept_each, line_key_cmp_total, same_code-from, same_code-true}
-use Rattle.desk_history.proofs.Made.{all_with_row, all_without_row, refuse_if-none, refuse_unless}
+use Rattle.desk_history.proofs.MadeRows.{all_with_row, all_without_row, refuse_if-none, refuse_unless}
 use Rattle.desk_history.proofs.Rules.{IsUnrefused}
 use Rattle.desk_findings.proofs.Children.{right_child_cases, is_part-article, is_part-assembly}
 

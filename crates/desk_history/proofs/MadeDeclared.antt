@@ -19,11 +19,11 @@ use Rattle.desk_model.specs.Forms.{is_content_in_form, is_declaration_in_form, i
 use Rattle.desk_model.specs.Values.{is_code, is_name}
 use Rattle.desk_model.specs.Lists.{Lists, is_material, is_part, is_substance}
 use Rattle.desk_history.specs.Refused.{declared_substances, masses_exceed, name_taken, unknown_substance}
-use Rattle.desk_history.proofs.Changes.{good-materials}
+use Rattle.desk_history.proofs.ChangedTables.{good-materials}
 use Rattle.desk_model.proofs.Elements.{all_from_each, each_both, each_from_all, each_in_flat_map, each_in_map, each_map, each_of_map, find-none}
-use Rattle.desk_history.proofs.Good.{IsGood}
+use Rattle.desk_history.proofs.SoundClauses.{IsGood}
 use Rattle.desk_model.proofs.Kept.{code_cmp_total, each_kept, same_code-true}
-use Rattle.desk_history.proofs.Made.{all_with_rows}
+use Rattle.desk_history.proofs.MadeRows.{all_with_rows}
 use Rattle.desk_history.proofs.Rules.{IsUnrefused}
 
 pub unmapped : {X Y : Type 0} (f : X → Y) (o : Option X) → option_map f o ≡ None → o ≡ None

@@ -27,8 +27,8 @@ use Rattle.desk_history.specs.History.{PassesRows}
 use Rattle.desk_history.specs.Rising.{may_raise_masses}
 use Rattle.desk_history.specs.Refused.{name_taken, total_too_large}
 use Rattle.desk_history.specs.Sound.{IsConsistent}
-use Rattle.desk_history.proofs.Good.{bill_of, parents_of}
-use Rattle.desk_history.proofs.Made.{refuse_if-none}
+use Rattle.desk_history.proofs.SoundClauses.{bill_of, parents_of}
+use Rattle.desk_history.proofs.MadeRows.{refuse_if-none}
 use Rattle.desk_history.proofs.Rules.{unrefused}
 use Rattle.desk_history.proofs.SoundSteps.{IsConsistent-entered}
 use Rattle.desk_history.proofs.Untouched.{SameBill, member_leaves, parts_of_member, parts_of_ship, parts_of_unship, ship_leaves, unship_leaves}

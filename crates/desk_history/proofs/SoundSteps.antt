@@ -22,9 +22,9 @@ use Rattle.desk_model.specs.Start.{start}
 use Rattle.desk_history.specs.Step.{kept_number, step}
 use Rattle.desk_findings.specs.Totals.{has_too_many_findings, too_heavy_part, too_heavy_year}
 use Rattle.desk_history.specs.Limits.{has_too_much_text, tables_over}
-use Rattle.desk_history.proofs.Good.{IsGood, forms_from, good_of, names_from}
+use Rattle.desk_history.proofs.SoundClauses.{IsGood, forms_from, good_of, names_from}
 use Rattle.desk_model.proofs.Kept.{code_cmp_total}
-use Rattle.desk_history.proofs.Made.{good-candidate, good-exemption, good-member, good-product, good-ship, good-substance, good-unexempt, good-unship, refuse_if-none}
+use Rattle.desk_history.proofs.MadeRows.{good-candidate, good-exemption, good-member, good-product, good-ship, good-substance, good-unexempt, good-unship, refuse_if-none}
 use Rattle.desk_history.proofs.MadeBill.{good-line, good-part, good-unline}
 use Rattle.desk_history.proofs.MadeDeclared.{good-declare}
 use Rattle.desk_history.proofs.Rules.{IsUnrefused, passes, sums_of, unrefused}

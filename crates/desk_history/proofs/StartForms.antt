@@ -11,7 +11,7 @@ use Rattle.desk_model.specs.Values.{is_code, is_name}
 use Rattle.desk_history.specs.Sound.{are_rows_in_form}
 use Rattle.desk_model.specs.Start.{base_cas, base_member, base_name, base_substance, rules_by_code, start}
 use Rattle.desk_model.proofs.Elements.{all_from_each, each, each_of_map}
-use Rattle.desk_history.proofs.Good.{FormsKept, forms_from}
+use Rattle.desk_history.proofs.SoundClauses.{FormsKept, forms_from}
 use Rattle.desk_model.proofs.Names.{name_from}
 
 named : (rule : Rule) → is_name (base_name rule) ≡ true

@@ -20,9 +20,9 @@ use Rattle.desk_findings.specs.Share.{share}
 use Rattle.desk_history.specs.Laws.{Stays}
 use Rattle.desk_history.specs.Sound.{IsConsistent}
 use Rattle.desk_history.proofs.Affects.{IsFree, agrees-candidate, agrees-declare, agrees-line, agrees-member, agrees-part, agrees-unline, agrees_plain}
-use Rattle.desk_history.proofs.Good.{bill_of, good_of}
+use Rattle.desk_history.proofs.SoundClauses.{bill_of, good_of}
 use Rattle.desk_model.proofs.Kept.{found_each}
-use Rattle.desk_findings.proofs.Local.{Agrees, same_carried, same_chain, same_findings, same_mass, same_reached}
+use Rattle.desk_findings.proofs.AgreeingTables.{Agrees, same_carried, same_chain, same_findings, same_mass, same_reached}
 use Rattle.desk_history.proofs.MadeBill.{kind_kept}
 use Rattle.desk_history.proofs.Rules.{unrefused}
 use Rattle.desk_history.proofs.SoundSteps.{IsConsistent-entered}

@@ -28,10 +28,10 @@ use Rattle.desk_findings.proofs.Children.{parents_kept, right_parent}
 use Rattle.desk_history.specs.Breaches.{Breaks, IsBrokenAt, IsDecided, breaks_candidate, breaks_exemption, breaks_line, breaks_material, breaks_member, breaks_part, breaks_product, breaks_shipment, breaks_substance, breaks_ticket, is_number_once, is_overfull}
 use Rattle.desk_history.specs.Limits.{has_too_many_lines, has_too_much_text, if_over, tables_over}
 use Rattle.desk_history.specs.Sound.{IsConsistent, IsTicketOfEdit, KeepsSums, Sound}
-use Rattle.desk_history.proofs.Good.{FormsKept, forms_from, forms_of, names_from, parents_of}
+use Rattle.desk_history.proofs.SoundClauses.{FormsKept, forms_from, forms_of, names_from, parents_of}
 use Rattle.desk_history.proofs.Masses.{first_none, none_first}
 use Rattle.desk_history.proofs.Numbers.{are_numbers-once, each_number_once}
-use Rattle.desk_history.proofs.Sounds.{NamesKept, names_of}
+use Rattle.desk_history.proofs.NamesKept.{NamesKept, names_of}
 
 -- some element, and none
 pub any_here : {X : Type 0} (P : X → Type 0) (x : X) (xs : List X) → P x → Any P (x ∷ xs)

@@ -27,7 +27,7 @@ use Rattle.desk_history.specs.History.{PassesRows}
 use Rattle.desk_history.specs.Refused.{ship_below_zero, year_too_large}
 use Rattle.desk_history.specs.Rising.{changes_shipments, may_raise_masses, may_raise_years}
 use Rattle.desk_history.specs.Sound.{IsConsistent}
-use Rattle.desk_history.proofs.Made.{refuse_if-none}
+use Rattle.desk_history.proofs.MadeRows.{refuse_if-none}
 use Rattle.desk_history.proofs.Masses.{below_bound, first_none, mass-le, none_first}
 use Rattle.desk_history.proofs.Rules.{unrefused}
 use Rattle.desk_history.proofs.Unaffected.{mass_stays}

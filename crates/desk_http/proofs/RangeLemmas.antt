@@ -17,7 +17,7 @@ use Rattle.desk_http.specs.declared.http_fault.HttpFault.TheVariants.{BadQuery, 
 use Rattle.desk_http.specs.declared.http_fault.QueryKey.TheVariants as key
 use Rattle.desk_http.specs.declared.method.Method.{Method}
 use Rattle.desk_http.specs.Query.{Pair, askable_day, day_in, if_askable, kind_in, only, pairs_of, values_of}
-use Rattle.desk_http.specs.Routes.{FromPath, FromQuery, RouteRow, are_named, asked_by, asked_with, asks, behind_word, code, code_in, day, ends, if_year, is_ask_in_range, kind, path_of, path_taken, query_of, route_of, routes, row_of, same_method, taken_from_path, word_of, year, year_in}
+use Rattle.desk_http.specs.Routes.{FromPath, FromQuery, RouteRow, are_named, asked_by, asked_with, asks, behind_word, code, code_in, day, ends, if_year, is_ask_in_range, kind, path_of, path_taken, query_of, route_of, routes, route_row, same_method, taken_from_path, path_word, year, year_in}
 
 -- what is asked in the end is in range, whatever is taken from the query
 abbrev IsGood : FromQuery → Type 0
@@ -140,8 +140,8 @@ abbrev with_method : Method → FromQuery → Method × FromQuery
 with_method method next = (method, next)
 
 path_good : (path : List ℕ) → MatchOption (path_taken path) ⊤ (λ taken. IsGood taken.1)
-unfolding row_of
-path_good path = by (row_of (word_of path)) (find_each (λ row. IsGoodPath row.path) (λ row. bytes_eq row.word (word_of path)) routes rows_good)
+unfolding route_row
+path_good path = by (route_row (path_word path)) (find_each (λ row. IsGoodPath row.path) (λ row. bytes_eq row.word (path_word path)) routes rows_good)
   where
     in_turn : (row : RouteRow) (found : Option FromQuery) → taken_from_path row.path (behind_word path) ≡ found → IsGoodPath row.path
         → MatchOption (option_map (with_method row.method) found) ⊤ (λ taken. IsGood taken.1)
@@ -149,8 +149,8 @@ path_good path = by (row_of (word_of path)) (find_each (λ row. IsGoodPath row.p
     in_turn row (Some next) e good = taken_good row.path (behind_word path) next good e
 
     by : (found : Option RouteRow)
-        → MatchOption found (list_any (λ row. bytes_eq row.word (word_of path)) routes ≡ false)
-        (λ row. IsGoodPath row.path × (bytes_eq row.word (word_of path) ≡ true) × (list_any (λ row. bytes_eq row.word (word_of path)) routes ≡ true))
+        → MatchOption found (list_any (λ row. bytes_eq row.word (path_word path)) routes ≡ false)
+        (λ row. IsGoodPath row.path × (bytes_eq row.word (path_word path) ≡ true) × (list_any (λ row. bytes_eq row.word (path_word path)) routes ≡ true))
         → MatchOption (option_and_then (λ row. option_map (with_method row.method) (taken_from_path row.path (behind_word path))) found) ⊤ (λ taken. IsGood taken.1)
     by None h = tt
     by (Some row) h = in_turn row (taken_from_path row.path (behind_word path)) refl h.0

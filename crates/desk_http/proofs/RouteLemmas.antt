@@ -23,12 +23,12 @@ use Rattle.desk_http.specs.Endpoints.{literal_row, row_at, row_place, router_row
 use Rattle.desk_http.specs.declared.http_fault.HttpFault.TheVariants.{NoRoute, WrongMethod}
 use Rattle.desk_http.specs.declared.method.Method.{Method}
 use Rattle.desk_http.specs.Query.{pairs_of}
-use Rattle.desk_http.specs.Routes.{FromQuery, RouteRow, asked_by, asked_with, path_of, path_taken, query_of, route_of, row_of, routes, same_method}
+use Rattle.desk_http.specs.Routes.{FromQuery, RouteRow, asked_by, asked_with, path_of, path_taken, query_of, route_of, route_row, routes, same_method}
 use Rattle.desk_http.proofs.Literals.{are_literal, found-is, found_each}
 
 -- the table has the row of each name under its word
-row-named : (e : Endpoint) → row_of (row_at e).word ≡ Some (row_at e)
-unfolding row_of row_place
+row-named : (e : Endpoint) → route_row (row_at e).word ≡ Some (row_at e)
+unfolding route_row row_place
 row-named Material = refl
 row-named Rohs = refl
 row-named Article33 = refl
@@ -73,8 +73,8 @@ same : (a b : List ℕ) → bytes_eq a b ≡ true → a ≡ b
 same a b e = (bytes_eq-Decides a b).0 e
 
 -- a word that has no row
-none_of : (word : List ℕ) (P : RouteRow → Type 0) → AllByRecursion P routes → ((row : RouteRow) → P row → row.word ≡ word → ⊥) → None ≡ row_of word
-unfolding row_of
+none_of : (word : List ℕ) (P : RouteRow → Type 0) → AllByRecursion P routes → ((row : RouteRow) → P row → row.word ≡ word → ⊥) → None ≡ route_row word
+unfolding route_row
 none_of word P each never = by (find (λ row. bytes_eq row.word word) routes) (find_each P (λ row. bytes_eq row.word word) routes each)
   where
     by : (found : Option RouteRow)
@@ -84,12 +84,12 @@ none_of word P each never = by (find (λ row. bytes_eq row.word word) routes) (f
     by (Some row) h = absurd (never row h.0 (same row.word word h.1))
 
 -- bytes that are no text have none
-pub none_for_bytes : (word : List ℕ) → (IsUtf8 word → ⊥) → None ≡ row_of word
+pub none_for_bytes : (word : List ℕ) → (IsUtf8 word → ⊥) → None ≡ route_row word
 none_for_bytes word none = none_of word (λ row. is_ascii row.word ≡ true) (each_from_all (λ row. is_ascii row.word) routes all_ascii)
     (λ row ascii is. none (subst IsUtf8 is (text_of_ascii row.word ascii)))
 
 -- and nor has what the router doesn't find
-pub none_unfound : (word : List ℕ) → first router_rows word ≡ None → None ≡ row_of word
+pub none_unfound : (word : List ℕ) → first router_rows word ≡ None → None ≡ route_row word
 none_unfound word none = none_of word (λ row. is_some (lookup row.word router_rows) ≡ true) (each_from_all (λ row. is_some (lookup row.word router_rows)) routes all_there)
     (λ row there is. some_none (lookup word router_rows) (sym (found-is word router_rows all_literal) ∙ none) (subst (λ w. is_some (lookup w router_rows) ≡ true) is there))
   where
@@ -98,12 +98,12 @@ none_unfound word none = none_of word (λ row. is_some (lookup row.word router_r
     some_none (Some x) e h = cc
 
 -- what the router finds is the word's row
-pub row_found : (word : List ℕ) (found : RouteOf Endpoint) → first router_rows word ≡ Some found → Some (row_at found.value) ≡ row_of word
+pub row_found : (word : List ℕ) (found : RouteOf Endpoint) → first router_rows word ≡ Some found → Some (row_at found.value) ≡ route_row word
 row_found word found e =
     let each = each_from_all (λ row. bytes_eq row.0 (row_at row.1.value).word) router_rows words in
     let here = found_each (λ row. bytes_eq row.0 (row_at row.1.value).word ≡ true) word router_rows found each (sym (found-is word router_rows all_literal) ∙ e) in
     let is : (row_at found.value).word ≡ word = sym (same here.0 (row_at found.value).word here.1) ∙ same here.0 word here.2 in
-    sym (row-named found.value) ∙ ap row_of is
+    sym (row-named found.value) ∙ ap route_row is
 
 -- one row more is in, and one fewer is left
 pub row_added : (rows : RowsOf (RouteOf Endpoint)) (es : List Endpoint) (i : ℕ) (d : Endpoint) → i < length es

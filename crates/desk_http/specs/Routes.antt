@@ -81,16 +81,16 @@ abbrev pub word_end : List ℕ → ℕ
 word_end path = position_or_len (λ b. b == 47) (drop 1 path) + 1
 
 -- the word of a path: a slash, and what stands before the second slash
-abbrev pub word_of : List ℕ → List ℕ
-word_of path = take (word_end path) path
+abbrev pub path_word : List ℕ → List ℕ
+path_word path = take (word_end path) path
 
 -- what stands behind the word: the second slash and all that follows, if there is one
 abbrev pub behind_word : List ℕ → List ℕ
 behind_word path = drop (word_end path) path
 
 -- the row of a word
-unfoldable pub row_of : List ℕ → Option RouteRow
-row_of word = find (λ row. bytes_eq row.word word) routes
+unfoldable pub route_row : List ℕ → Option RouteRow
+route_row word = find (λ row. bytes_eq row.word word) routes
 
 -- the number, where it is the year of a shipment: 2008 to 2099, so four digits
 abbrev pub if_year : ℕ → Option ℕ
@@ -138,7 +138,7 @@ same_method Other Other = true
 
 -- which method a path takes, and what is left to take from the query; there is none where no row takes the path
 abbrev pub path_taken : List ℕ → Option (Method × FromQuery)
-path_taken path = option_and_then (λ row. option_map (λ next. (row.method, next)) (taken_from_path row.path (behind_word path))) (row_of (word_of path))
+path_taken path = option_and_then (λ row. option_map (λ next. (row.method, next)) (taken_from_path row.path (behind_word path))) (route_row (path_word path))
 
 -- what is asked where the path takes this method, or that it takes another
 abbrev pub asked_with : Method → List Pair → Method × FromQuery → Result Ask HttpFault

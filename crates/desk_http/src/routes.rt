@@ -1,7 +1,7 @@
 ghost use Rattle.std.specs.Prelude.{◌≡◌, OnOk, option_map};
 ghost use Rattle.matchit.specs.Order.{placed};
 ghost use Rattle.desk_http.specs.Endpoints.{literal_row, row_at, router_rows};
-ghost use Rattle.desk_http.specs.Routes.{row_of};
+ghost use Rattle.desk_http.specs.Routes.{route_row};
 
 use crate::endpoint::Endpoint;
 use desk_text::OutOfMemory;
@@ -30,7 +30,7 @@ impl Routes {
 
     /// The row of the table whose path begins with the word.
     pub(crate) fn find(&self, word: &[u8]) -> Option<Endpoint>
-        ensures { option_map row_at result ≡ row_of word.now }
+        ensures { option_map row_at result ≡ route_row word.now }
     {
         match str::from_utf8(word) {
             Ok(word) => self.find_text(word),
@@ -40,7 +40,7 @@ impl Routes {
 
     /// The same for a word that is text, as all words of the table are.
     fn find_text(&self, word: &str) -> Option<Endpoint>
-        ensures { option_map row_at result ≡ row_of word.now }
+        ensures { option_map row_at result ≡ route_row word.now }
     {
         match self.router.at(word) {
             Ok(found) => Some(*found.value),

@@ -1,7 +1,7 @@
 ghost use Rattle.std.specs.Prelude.{◌≡◌, ◌≢◌, ◌≤◌, ◌==◌, Err, true, IfOk, length, option_map, position};
 ghost use Rattle.desk_http.specs.declared.http_fault.HttpFault.TheVariants as fault;
 ghost use Rattle.desk_http.specs.Endpoints.{left_to_take};
-ghost use Rattle.desk_http.specs.Routes.{behind_word, is_ask_in_range, path_of, path_taken, query_of, route_of, word_of};
+ghost use Rattle.desk_http.specs.Routes.{behind_word, is_ask_in_range, path_of, path_taken, query_of, route_of, path_word};
 ghost use Rattle.desk_http.specs.Taken.{span_bytes};
 
 use crate::ask::Ask;
@@ -74,7 +74,7 @@ fn split_target(target: &[u8]) -> (&[u8], &[u8])
 
 /// The word of a path, up to its second slash, and what stands behind that.
 fn split_path(path: &[u8]) -> (&[u8], &[u8])
-    ensures word { result.0.now ≡ word_of path.now }
+    ensures word { result.0.now ≡ path_word path.now }
     ensures behind { result.1.now ≡ behind_word path.now }
 {
     match path {

@@ -21,7 +21,7 @@ use Rattle.desk_model.proofs.Elements.{count_by-cons, each_from_all, each_map}
 use Rattle.desk_model.proofs.Kept.{code_cmp_total, line_key_cmp_total, member_key_cmp_total, shipment_key_cmp_total}
 use Rattle.desk_fields.proofs.RowsRead.{member_lacks, parent_lacks, year_lacks}
 use Rattle.desk_history.specs.Sound.{Sound}
-use Rattle.desk_history.proofs.Good.{forms_of}
+use Rattle.desk_history.proofs.SoundClauses.{forms_of}
 use Rattle.desk_records.specs.Records.{record_of, records_of}
 use Rattle.desk_records.proofs.Codes.{lines_agree, members_agree, shipments_agree}
 use Rattle.desk_records.proofs.Moves.{AllNot, none_above, same_left}

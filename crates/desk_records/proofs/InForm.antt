@@ -19,7 +19,7 @@ use Rattle.desk_model.proofs.EditTold.{three_parts}
 use Rattle.desk_model.proofs.Elements.{each_both, each_from_all}
 use Rattle.desk_fields.specs.RowTexts.{IsRowInForm, IsTicketCode}
 use Rattle.desk_history.specs.Sound.{IsTicketOfEdit, Sound}
-use Rattle.desk_history.proofs.Good.{forms_of}
+use Rattle.desk_history.proofs.SoundClauses.{forms_of}
 use Rattle.desk_history.proofs.Numbers.{each_in_range}
 use Rattle.desk_tables.proofs.ParentLines.{tickets_fit}
 

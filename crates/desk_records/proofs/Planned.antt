@@ -38,7 +38,7 @@ use Rattle.desk_fields.proofs.RowFields.{number_lacks}
 use Rattle.desk_fields.proofs.RowsRead.{member_lacks, parent_lacks, year_lacks}
 use Rattle.desk_history.specs.Sound.{Sound}
 use Rattle.desk_history.specs.Step.{step}
-use Rattle.desk_history.proofs.Good.{FormsKept, forms_of}
+use Rattle.desk_history.proofs.SoundClauses.{FormsKept, forms_of}
 use Rattle.desk_history.proofs.SoundSteps.{Sound-step}
 use Rattle.desk_tables.specs.Change.{changed}
 use Rattle.desk_tables.specs.Desk.{Desk}

@@ -9,7 +9,7 @@ use Rattle.desk_fields.specs.RowTexts.{IsRowInForm}
 use Rattle.desk_model.specs.declared.row.Row.{Row}
 use Rattle.desk_records.specs.Records.{IsRecordOf, record_of}
 use Rattle.desk_rows.specs.Rows.{IsByKey}
-use Rattle.desk_report.specs.Lines.{line_of, lines_of}
+use Rattle.desk_report.specs.Lines.{line_of, record_lines}
 use Rattle.desk_report.specs.Reading.{AreInOrder, HasBadLine}
 
 -- what is known of a bad line is known with more behind
@@ -19,7 +19,7 @@ bad_later bytes more line h = record {
   before = h.before;
   bad = h.bad;
   rest = h.rest ++ more;
-  parts = ap (λ (l : List ℕ). l ++ more) h.parts ∙ append_assoc (lines_of h.records ++ h.bad) (10 ∷ h.rest) more;
+  parts = ap (λ (l : List ℕ). l ++ more) h.parts ∙ append_assoc (record_lines h.records ++ h.bad) (10 ∷ h.rest) more;
   one_line = h.one_line;
   number = h.number;
   is_bad = h.is_bad;
@@ -40,7 +40,7 @@ last_row (first ∷ records) kept all = last_row records kept all.1
 
 -- the line that is whole now is the first bad one
 pub bad_now : (read held : List ℕ) (records : List Record) (rows : List Row) (line : ℕ) → IsByKey key_of key_cmp records → records ≡ map record_of rows → AllByRecursion IsRowInForm rows
-    → All (λ b. (b == 10) ≡ false) held → read ≡ lines_of records ++ held → line ≡ length records + 1
+    → All (λ b. (b == 10) ≡ false) held → read ≡ record_lines records ++ held → line ≡ length records + 1
     → ((kept : Record) (row : Row) → IsRecordOf row kept → line_of kept ≡ held ++ 10 ∷ [] → IsByKey key_of key_cmp (records ++ kept ∷ []) → ⊥)
     → HasBadLine (read ++ 10 ∷ []) line
 bad_now read held records rows line by_key is forms one_line e number none = record {
@@ -55,10 +55,10 @@ bad_now read held records rows line by_key is forms one_line e number none = rec
 }
 
 -- one more line of a record
-pub line_more : (read held : List ℕ) (records : List Record) (kept : Record) → read ≡ lines_of records ++ held → line_of kept ≡ held ++ 10 ∷ []
-    → read ++ 10 ∷ [] ≡ lines_of (records ++ kept ∷ []) ++ []
+pub line_more : (read held : List ℕ) (records : List Record) (kept : Record) → read ≡ record_lines records ++ held → line_of kept ≡ held ++ 10 ∷ []
+    → read ++ 10 ∷ [] ≡ record_lines (records ++ kept ∷ []) ++ []
 line_more read held records kept e same =
-    ap (λ (l : List ℕ). l ++ 10 ∷ []) e ∙ append_assoc (lines_of records) held (10 ∷ [])
-    ∙ ap (λ (l : List ℕ). lines_of records ++ l) (sym same)
-    ∙ sym (flat_map-append line_of records (kept ∷ []) ∙ ap (λ (l : List ℕ). lines_of records ++ l) (append-nil (line_of kept)))
-    ∙ sym (append-nil (lines_of (records ++ kept ∷ [])))
+    ap (λ (l : List ℕ). l ++ 10 ∷ []) e ∙ append_assoc (record_lines records) held (10 ∷ [])
+    ∙ ap (λ (l : List ℕ). record_lines records ++ l) (sym same)
+    ∙ sym (flat_map-append line_of records (kept ∷ []) ∙ ap (λ (l : List ℕ). record_lines records ++ l) (append-nil (line_of kept)))
+    ∙ sym (append-nil (record_lines (records ++ kept ∷ [])))

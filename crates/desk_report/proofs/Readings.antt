@@ -6,7 +6,7 @@ use Rattle.desk_edge.specs.Content.{key_cmp, key_of}
 use Rattle.desk_edge.specs.declared.record.Record.{Record}
 use Rattle.desk_rows.specs.Rows.{IsByKey}
 use Rattle.desk_report.specs.Imported.{IsRead, import_limit}
-use Rattle.desk_report.specs.Lines.{lines_of}
+use Rattle.desk_report.specs.Lines.{record_lines}
 use Rattle.desk_report.specs.ReadLines.{AreLinesOf}
 use Rattle.desk_report.specs.Reading.{GoodRead, HasBadLine, IsReadTo}
 use Rattle.desk_report.specs.declared.lines.Lines.{Lines}
@@ -40,6 +40,6 @@ all_read items (Ok v) old new bytes good given at_end within read h = record {
   given = given;
   at_end = at_end;
   within = within;
-  lines = read ∙ ap (λ (held : List ℕ). lines_of good.records ++ held) h.1 ∙ append-nil (lines_of good.records) ∙ ap lines_of (sym h.0);
+  lines = read ∙ ap (λ (held : List ℕ). record_lines good.records ++ held) h.1 ∙ append-nil (record_lines good.records) ∙ ap record_lines (sym h.0);
   by_key = h.2;
 }

@@ -31,7 +31,7 @@ use Rattle.desk_clerk.specs.Opening.{content_in, record_limit}
 use Rattle.desk_clerk.proofs.Few.{few_of_sound}
 use Rattle.desk_clerk.proofs.PutIn.{puts}
 use Rattle.desk_report.specs.File.{AreAllOf, in_table, table_at, tables_in}
-use Rattle.desk_report.specs.Lines.{line_of, lines_of, sorted}
+use Rattle.desk_report.specs.Lines.{line_of, record_lines, sorted}
 use Rattle.desk_report.proofs.Parts.{parts_at}
 use Rattle.desk_report.proofs.Sorting.{sorted_by_key}
 
@@ -205,8 +205,8 @@ one_more t place l =
     ∙ ap (λ records. flat_map sorted (take place (tables_in t)) ++ records) (append-nil (sorted (table_at t place)))
 
 pub lines_more : (t : Lists) (place : ℕ) → place < 10
-    → lines_of (flat_map sorted (take (place + 1) (tables_in t))) ≡ lines_of (flat_map sorted (take place (tables_in t))) ++ lines_of (sorted (table_at t place))
-lines_more t place l = ap lines_of (one_more t place l) ∙ flat_map-append line_of (flat_map sorted (take place (tables_in t))) (sorted (table_at t place))
+    → record_lines (flat_map sorted (take (place + 1) (tables_in t))) ≡ record_lines (flat_map sorted (take place (tables_in t))) ++ record_lines (sorted (table_at t place))
+lines_more t place l = ap record_lines (one_more t place l) ∙ flat_map-append line_of (flat_map sorted (take place (tables_in t))) (sorted (table_at t place))
 
 pub number_more : (t : Lists) (place : ℕ) → place < 10
     → length (flat_map sorted (take (place + 1) (tables_in t))) ≡ length (flat_map sorted (take place (tables_in t))) + length (sorted (table_at t place))
@@ -214,11 +214,11 @@ number_more t place l = ap (λ l. length l) (one_more t place l) ∙ length-appe
 
 -- the lines before a table, its own, and those behind
 pub lines_at : (t : Lists) (place : ℕ) → place < 10
-    → lines_of (written t) ≡ lines_of (flat_map sorted (take place (tables_in t))) ++ lines_of (sorted (table_at t place)) ++ lines_of (flat_map sorted (drop (suc place) (tables_in t)))
+    → record_lines (written t) ≡ record_lines (flat_map sorted (take place (tables_in t))) ++ record_lines (sorted (table_at t place)) ++ record_lines (flat_map sorted (drop (suc place) (tables_in t)))
 lines_at t place l =
     let front = flat_map sorted (take place (tables_in t)) in
     let piece = sorted (table_at t place) in
     let behind = flat_map sorted (drop (suc place) (tables_in t)) in
-    ap lines_of (parts_at sorted (tables_in t) place [] l)
+    ap record_lines (parts_at sorted (tables_in t) place [] l)
     ∙ flat_map-append line_of (front ++ piece) behind
-    ∙ ap (λ l. l ++ lines_of behind) (flat_map-append line_of front piece)
+    ∙ ap (λ l. l ++ record_lines behind) (flat_map-append line_of front piece)

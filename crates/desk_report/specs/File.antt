@@ -8,7 +8,7 @@ use Rattle.desk_model.specs.declared.row.Row.{Row}
 use Rattle.desk_model.specs.declared.row.Row.TheVariants.{Substance, Member, Material, Part, Line, Product, Exemption, Candidate, Shipment, Ticket}
 use Rattle.desk_records.specs.Records.{record_of, tables_content}
 use Rattle.desk_rows.specs.Rows.{IsByKey}
-use Rattle.desk_report.specs.Lines.{lines_of}
+use Rattle.desk_report.specs.Lines.{record_lines}
 
 -- the records of what a store keeps, all of them, in the order of their keys
 pub record AreAllOf (content : Content) (records : List Record) : Type 0 where
@@ -19,7 +19,7 @@ pub record AreAllOf (content : Content) (records : List Record) : Type 0 where
 pub record IsFileOf (t : Lists) (number : ℕ) (bytes : List ℕ) : Type 0 where
   pub records : List Record
   pub all : AreAllOf (tables_content t) records
-  pub lines : bytes ≡ lines_of records
+  pub lines : bytes ≡ record_lines records
   pub number_of : number ≡ length records
 
 -- the records of the rows of a table, in the order of the rows

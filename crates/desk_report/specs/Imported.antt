@@ -9,7 +9,7 @@ use Rattle.desk_history.specs.Sound.{Sound}
 use Rattle.desk_model.specs.Lists.{Lists}
 use Rattle.desk_records.specs.Records.{tables_content}
 use Rattle.desk_rows.specs.Rows.{IsByKey}
-use Rattle.desk_report.specs.Lines.{lines_of}
+use Rattle.desk_report.specs.Lines.{record_lines}
 use Rattle.desk_report.specs.Reading.{AreInOrder, HasBadLine}
 
 -- the most bytes of an export file that is read
@@ -22,7 +22,7 @@ pub record IsRead (old new : Option (List ℕ)) (records : List Record) : Type 0
   pub given : Consumes old new bytes
   pub at_end : IsAtEnd new
   pub within : length bytes ≤ import_limit
-  pub lines : bytes ≡ lines_of records
+  pub lines : bytes ≡ record_lines records
   pub by_key : IsByKey key_of key_cmp records
 
 -- all lines are good but the last, of this number, which has no LF
@@ -30,7 +30,7 @@ pub record EndsInside (bytes : List ℕ) (line : ℕ) : Type 0 where
   pub records : List Record
   pub before : AreInOrder records
   pub held : List ℕ
-  pub parts : bytes ≡ lines_of records ++ held
+  pub parts : bytes ≡ record_lines records ++ held
   pub some : held ≢ []
   pub one_line : All (λ b. (b == 10) ≡ false) held
   pub number : line ≡ length records + 1
@@ -39,7 +39,7 @@ pub record EndsInside (bytes : List ℕ) (line : ℕ) : Type 0 where
 pub record AreUnsound (bytes : List ℕ) : Type 0 where
   pub records : List Record
   pub before : AreInOrder records
-  pub lines : bytes ≡ lines_of records
+  pub lines : bytes ≡ record_lines records
   pub none : (t : Lists) → Sound t → IsSame (tables_content t) (content_in records) → ⊥
 
 -- the bytes are no export file: the line of this number is the first that isn't a record's, or it is 0, and the records aren't those

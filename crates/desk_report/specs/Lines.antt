@@ -10,8 +10,8 @@ abbrev pub line_of : Record → List ℕ
 line_of kept = decimal kept.kind ++ 9 ∷ kept.code ++ 9 ∷ kept.body ++ 10 ∷ []
 
 -- a line for each record, in order
-abbrev pub lines_of : List Record → List ℕ
-lines_of records = flat_map line_of records
+abbrev pub record_lines : List Record → List ℕ
+record_lines records = flat_map line_of records
 
 -- the records in the order of their keys
 abbrev pub sorted : List Record → List Record

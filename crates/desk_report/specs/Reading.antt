@@ -8,7 +8,7 @@ use Rattle.desk_model.specs.declared.row.Row.{Row}
 use Rattle.desk_records.specs.Records.{IsRecordOf}
 use Rattle.desk_rows.specs.Rows.{IsByKey}
 use Rattle.desk_text.specs.Number.{number_below}
-use Rattle.desk_report.specs.Lines.{line_of, lines_of}
+use Rattle.desk_report.specs.Lines.{line_of, record_lines}
 
 -- the kind that the digits write: a number below 256
 abbrev pub kind_in : List ℕ → Option ℕ
@@ -35,7 +35,7 @@ pub record HasBadLine (bytes : List ℕ) (line : ℕ) : Type 0 where
   pub before : AreInOrder records
   pub bad : List ℕ
   pub rest : List ℕ
-  pub parts : bytes ≡ lines_of records ++ bad ++ 10 ∷ rest
+  pub parts : bytes ≡ record_lines records ++ bad ++ 10 ∷ rest
   pub one_line : All (λ b. (b == 10) ≡ false) bad
   pub number : line ≡ length records + 1
   pub is_bad : (kept : Record) → line_of kept ≡ bad ++ 10 ∷ [] → AreInOrder (records ++ kept ∷ []) → ⊥
@@ -48,4 +48,4 @@ pub record GoodRead : Type 0 where
 
 -- the bytes are these lines, and the beginning of one more
 abbrev pub IsReadTo : List ℕ → GoodRead → Type 0
-IsReadTo bytes good = bytes ≡ lines_of good.records ++ good.held
+IsReadTo bytes good = bytes ≡ record_lines good.records ++ good.held

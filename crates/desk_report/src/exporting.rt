@@ -5,7 +5,7 @@ ghost use Rattle.desk_edge.specs.Faults.{Rose};
 ghost use Rattle.desk_edge.specs.Transfer.{AppendsBeginning};
 ghost use Rattle.desk_history.specs.Sound.{Sound};
 ghost use Rattle.desk_report.specs.File.{IsFileOf, table_at};
-ghost use Rattle.desk_report.specs.Lines.{line_of, lines_of, sorted};
+ghost use Rattle.desk_report.specs.Lines.{line_of, record_lines, sorted};
 
 use crate::line::line;
 use crate::report_fault::ReportFault;
@@ -52,9 +52,9 @@ fn write_table<L: Link>(
     link: &mut L,
 ) -> Result<u64, ReportFault>
     requires { HaveDistinctKeys (table_at tables.now.lists place) }
-    ensures ok { OnOk result (Appends (L.written link.old) (L.written link.new) (lines_of (sorted (table_at tables.now.lists place)))) }
+    ensures ok { OnOk result (Appends (L.written link.old) (L.written link.new) (record_lines (sorted (table_at tables.now.lists place)))) }
     ensures number { IfOk result (λ number. number ≡ length (sorted (table_at tables.now.lists place))) }
-    ensures beginning { OnErr result (AppendsBeginning (L.written link.old) (L.written link.new) (lines_of (sorted (table_at tables.now.lists place)))) }
+    ensures beginning { OnErr result (AppendsBeginning (L.written link.old) (L.written link.new) (record_lines (sorted (table_at tables.now.lists place)))) }
     ensures causes { (result ≢ Err ReportFault.KeeperFault) × (result ≢ Err ReportFault.NotEmpty) × (result ≢ Err ReportFault.TooLong) }
     ensures undamaged { (n : ℕ) → result ≢ Err (ReportFault.Damaged n) }
     ensures input_stays { L.unread link.new ≡ L.unread link.old }
@@ -79,8 +79,8 @@ fn in_order(records: Vec<Record>) -> Vec<Record>
 
 /// Writes the lines of the records. After a fault a beginning of them is written.
 fn write_lines<L: Link>(alloc: Global, records: &[Record], link: &mut L) -> Result<(), ReportFault>
-    ensures ok { OnOk result (Appends (L.written link.old) (L.written link.new) (lines_of records.now)) }
-    ensures beginning { OnErr result (AppendsBeginning (L.written link.old) (L.written link.new) (lines_of records.now)) }
+    ensures ok { OnOk result (Appends (L.written link.old) (L.written link.new) (record_lines records.now)) }
+    ensures beginning { OnErr result (AppendsBeginning (L.written link.old) (L.written link.new) (record_lines records.now)) }
     ensures causes { (result ≢ Err ReportFault.KeeperFault) × (result ≢ Err ReportFault.NotEmpty) × (result ≢ Err ReportFault.TooLong) }
     ensures undamaged { (n : ℕ) → result ≢ Err (ReportFault.Damaged n) }
     ensures input_stays { L.unread link.new ≡ L.unread link.old }

@@ -8,7 +8,7 @@ use Rattle.desk_rollup.specs.declared.mark.Mark.{Mark}
 use Rattle.desk_rollup.specs.declared.hop.Hop.{Hop}
 use Rattle.desk_rollup.specs.declared.load.Load.{Load}
 use Rattle.desk_rollup.specs.Gathered.{all_hops, all_loads, joined_loads, lifted_load, own_hop, with_each}
-use Rattle.desk_rollup.specs.Numbers.{Rises, has, hop_numbers, mark_numbers, number_of, substances}
+use Rattle.desk_rollup.specs.Numbers.{Rises, has, hop_numbers, mark_numbers, mark_number, substances}
 use Rattle.desk_rollup.specs.Step.{IsStepOver, step_load}
 use Rattle.desk_rollup.specs.Values.{OwnValues, RolledValues, amount_of, carried, hop_of, load_of}
 use Rattle.desk_rollup.proofs.Lists.{has_found}
@@ -18,13 +18,13 @@ abbrev left : Hop → Hop → Hop
 left held more = held
 
 abbrev hop_number : Hop → ℕ
-hop_number hop = number_of hop.mark
+hop_number hop = mark_number hop.mark
 
 abbrev lifted_hop : BillLine → Hop → Hop
 lifted_hop line hop = record { mark = hop.mark; next = Some line.node }
 
 abbrev hop_at : List Hop → ℕ → Option Hop
-hop_at hops n = find (λ hop. number_of hop.mark == n) hops
+hop_at hops n = find (λ hop. mark_number hop.mark == n) hops
 
 module _ (n : ℕ) where
   left_some : (held : Hop) (more : Option Hop) → both left (Some held) more ≡ Some held
@@ -38,7 +38,7 @@ module _ (n : ℕ) where
   own_first : (marks : List Mark) → option_map (λ hop. hop.next) (fold (λ o hop. both left o (hop_at (hop ∷ []) n)) None (map own_hop marks)) ≡ cond (has (mark_numbers marks) n) (Some None) None
   own_first [] = refl
   own_first (mark ∷ marks) =
-      elim (number_of mark == n) as (λ b. option_map (λ hop. hop.next) (fold (λ o hop. both left o (hop_at (hop ∷ []) n)) (cond b (Some (own_hop mark)) None) (map own_hop marks)) ≡ cond (b || has (mark_numbers marks) n) (Some None) None) [
+      elim (mark_number mark == n) as (λ b. option_map (λ hop. hop.next) (fold (λ o hop. both left o (hop_at (hop ∷ []) n)) (cond b (Some (own_hop mark)) None) (map own_hop marks)) ≡ cond (b || has (mark_numbers marks) n) (Some None) None) [
         | true ↦ ap (option_map (λ hop. hop.next)) (fold_some (λ hop. hop_at (hop ∷ []) n) (own_hop mark) (map own_hop marks))
         | false ↦ own_first marks
       ]

@@ -8,7 +8,7 @@ use Rattle.std.proofs.lemmas.List.Sums.{sum_by-take-le, sum_by_more}
 use Rattle.desk_graph.specs.declared.line.BillLine.{BillLine}
 use Rattle.desk_graph.specs.Graph.{Graph, lines_of}
 use Rattle.desk_graph.specs.Reaches.{Falls}
-use Rattle.desk_rollup.specs.Numbers.{RisesFrom, has, hop_numbers, mark_numbers, number_of, once}
+use Rattle.desk_rollup.specs.Numbers.{RisesFrom, has, hop_numbers, mark_numbers, mark_number, once}
 use Rattle.desk_rollup.specs.Places.{IsKnown, Placed, known, place_in}
 use Rattle.desk_rollup.specs.Rolled.{IsRolled, gathered, mark_count, marks}
 use Rattle.desk_rollup.specs.Sweep.{AreRolledOf, IsSweep}
@@ -67,7 +67,7 @@ module _ (lines : List (List BillLine)) (rank : ℕ → ℕ) (ranked : Falls lin
   pub hop_count : (node : ℕ) (values : RolledValues) → IsRolled lines own node values → length values.hops ≡ length (marks lines own node)
   hop_count node values right =
       let all = mark_numbers (own node).marks in
-      sym (length-map values.hops (λ hop. number_of hop.mark))
+      sym (length-map values.hops (λ hop. mark_number hop.mark))
       ∙ equally_long (hop_numbers values.hops) (marks lines own node) (λ n. rising_once 0 n (hop_numbers values.hops) right.hops_rise)
       (λ n. subst (λ ns. times n ns ≤ 1) (sym (gathered-step lines rank ranked (λ m. mark_numbers (own m).marks) node)) (once_once n (all ++ flat_map (λ line. gathered lines (λ m. mark_numbers (own m).marks) line.node) (lines_of lines node))))
       (has_marks lines rank ranked own node values right)

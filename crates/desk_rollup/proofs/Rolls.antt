@@ -7,7 +7,7 @@ use Rattle.std.proofs.lemmas.List.Sums.{sum_by-cons}
 use Rattle.desk_graph.specs.declared.line.BillLine.{BillLine}
 use Rattle.desk_graph.specs.Graph.{is_line, lines_of}
 use Rattle.desk_graph.specs.Reaches.{Falls}
-use Rattle.desk_rollup.specs.Numbers.{has, hop_numbers, mark_numbers, number_of, substances}
+use Rattle.desk_rollup.specs.Numbers.{has, hop_numbers, mark_numbers, mark_number, substances}
 use Rattle.desk_rollup.specs.Rolled.{IsRolled, amount, gathered, hop, load, marks, weight}
 use Rattle.desk_rollup.specs.Step.{IsStepOver, step_hop, step_load}
 use Rattle.desk_rollup.specs.Values.{OwnValues, RolledValues, amount_of, carried}
@@ -54,7 +54,7 @@ module _ (lines : List (List BillLine)) (rank : ℕ → ℕ) (ranked : Falls lin
   module _ (node : ℕ) (values : RolledValues) (right : IsRolled lines own node values) where
     pub has_marks : (mark : ℕ) → has (hop_numbers values.hops) mark ≡ has (marks lines own node) mark
     has_marks mark =
-        has_found (λ h. number_of h.mark) values.hops mark ∙ sym (some_map (λ h. h.next) (find (λ h. number_of h.mark == mark) values.hops))
+        has_found (λ h. mark_number h.mark) values.hops mark ∙ sym (some_map (λ h. h.next) (find (λ h. mark_number h.mark == mark) values.hops))
         ∙ ap (λ o. is_some o) (right.hops mark) ∙ hop_there node mark
 
     is_load : (b : Bool) (n : ℕ) → is_some (cond b (Some n) None) ≡ b

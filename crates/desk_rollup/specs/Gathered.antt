@@ -5,7 +5,7 @@ use Rattle.desk_rollup.specs.declared.mark.Mark.{Mark}
 use Rattle.desk_rollup.specs.declared.hop.Hop.{Hop}
 use Rattle.desk_rollup.specs.declared.load.Load.{Load}
 use Rattle.desk_rollup.specs.Merge.{merged}
-use Rattle.desk_rollup.specs.Numbers.{number_of}
+use Rattle.desk_rollup.specs.Numbers.{mark_number}
 use Rattle.desk_rollup.specs.Values.{RolledValues}
 
 -- the list with each of the entries
@@ -25,9 +25,9 @@ own_hop mark = record { mark = mark; next = None }
 -- the hops of a node
 abbrev pub all_hops : (ℕ → RolledValues) → List Mark → List BillLine → List Hop
 all_hops below marks of_node =
-    with_lines (λ hop. number_of hop.mark) (λ held more. held) (λ line hop. record { mark = hop.mark; next = Some line.node })
+    with_lines (λ hop. mark_number hop.mark) (λ held more. held) (λ line hop. record { mark = hop.mark; next = Some line.node })
     (λ values. values.hops) below of_node
-    (with_each (λ hop. number_of hop.mark) (λ held more. held) (map own_hop marks) [])
+    (with_each (λ hop. mark_number hop.mark) (λ held more. held) (map own_hop marks) [])
 
 -- two loads of one substance
 abbrev pub joined_loads : Load → Load → Load

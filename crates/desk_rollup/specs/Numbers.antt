@@ -6,16 +6,16 @@ use Rattle.desk_rollup.specs.declared.hop.Hop.{Hop}
 use Rattle.desk_rollup.specs.declared.load.Load.{Load}
 
 -- the number of a mark: marks are ordered by their nodes, and those of one node by `what`
-abbrev pub number_of : Mark → ℕ
-number_of mark = mark.node * 4294967296 + mark.what
+abbrev pub mark_number : Mark → ℕ
+mark_number mark = mark.node * 4294967296 + mark.what
 
 -- the numbers of the marks
 abbrev pub mark_numbers : List Mark → List ℕ
-mark_numbers marks = map number_of marks
+mark_numbers marks = map mark_number marks
 
 -- the numbers of the marks of hops
 abbrev pub hop_numbers : List Hop → List ℕ
-hop_numbers hops = map (λ hop. number_of hop.mark) hops
+hop_numbers hops = map (λ hop. mark_number hop.mark) hops
 
 -- the substances of loads
 abbrev pub substances : List Load → List ℕ

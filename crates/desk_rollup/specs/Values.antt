@@ -3,7 +3,7 @@ use Rattle.std.specs.Prelude.{ℕ, ◌<◌, ◌^◌, ◌==◌, List, [], Option,
 use Rattle.desk_rollup.specs.declared.mark.Mark.{Mark}
 use Rattle.desk_rollup.specs.declared.hop.Hop.{Hop}
 use Rattle.desk_rollup.specs.declared.load.Load.{Load}
-use Rattle.desk_rollup.specs.Numbers.{number_of}
+use Rattle.desk_rollup.specs.Numbers.{mark_number}
 
 -- what a node has of its own
 pub record OwnValues : Type 0 where
@@ -41,7 +41,7 @@ rolled_at rolled node = slice_index_or rolled node no_values
 
 -- the hop of a mark
 abbrev pub hop_of : List Hop → ℕ → Option (Option ℕ)
-hop_of hops number = option_map (λ hop. hop.next) (find (λ hop. number_of hop.mark == number) hops)
+hop_of hops number = option_map (λ hop. hop.next) (find (λ hop. mark_number hop.mark == number) hops)
 
 -- how much there is of a substance
 abbrev pub amount_of : List Load → ℕ → ℕ

@@ -1,5 +1,5 @@
 ghost use Rattle.std.specs.Prelude.{Some};
-ghost use Rattle.desk_rollup.specs.Numbers.{number_of};
+ghost use Rattle.desk_rollup.specs.Numbers.{mark_number};
 
 use crate::entry::Entry;
 use crate::mark::Mark;
@@ -16,7 +16,7 @@ pub struct Hop {
 }
 
 impl Entry for Hop {
-    ghost number = { λ hop. number_of hop.mark };
+    ghost number = { λ hop. mark_number hop.mark };
 
     ghost joined = { λ held more. held };
 

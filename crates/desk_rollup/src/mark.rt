@@ -1,5 +1,5 @@
 ghost use Rattle.std.specs.Prelude.{◌≡◌};
-ghost use Rattle.desk_rollup.specs.Numbers.{number_of};
+ghost use Rattle.desk_rollup.specs.Numbers.{mark_number};
 
 use desk_graph::NodeId;
 
@@ -15,7 +15,7 @@ pub struct Mark {
 impl Mark {
     /// The number of the mark in the order of marks.
     pub(crate) fn number(&self) -> u64
-        ensures { result ≡ number_of self.now }
+        ensures { result ≡ mark_number self.now }
     {
         u64::from(self.node) * 4_294_967_296 + u64::from(self.what)
     }

@@ -2,7 +2,7 @@ ghost use Rattle.std.specs.Prelude.{◌≡◌, ◌+◌, ◌<◌, ◌≤◌, ℕ,
 ghost use Rattle.desk_graph.specs.Graph.{Graph, lines_of};
 ghost use Rattle.desk_graph.specs.Reaches.{AreAffected, has_node};
 ghost use Rattle.desk_rollup.specs.Chain.{chain, next_to};
-ghost use Rattle.desk_rollup.specs.Numbers.{number_of};
+ghost use Rattle.desk_rollup.specs.Numbers.{mark_number};
 ghost use Rattle.desk_rollup.specs.Plan.{AreDistinct, AreRolledUp, CanPrepare, IsAccepted, IsRefused, IsRollPlan, nodes_of};
 ghost use Rattle.desk_rollup.specs.Values.{DoFit, OwnValues, hop_of, own_at, own_with, rolled_at};
 
@@ -166,7 +166,7 @@ impl Rollups {
         mark: &Mark,
         steps: &mut Steps<L>,
     ) -> Result<Vec<NodeId>, OutOfMemory>
-        ensures nodes { IfOk result (λ nodes. nodes.items ≡ chain self.now.rolled (number_of mark.now) from) }
+        ensures nodes { IfOk result (λ nodes. nodes.items ≡ chain self.now.rolled (mark_number mark.now) from) }
         ensures steps { IfOk result (λ nodes. steps.new + 1 ≡ steps.old + length nodes.items) }
     {
         let mut nodes = Vec::new(alloc);
@@ -185,7 +185,7 @@ impl Rollups {
 
     /// Where the way to a mark goes on from a node, if it does.
     fn next_to(&self, node: NodeId, mark: &Mark) -> Option<NodeId>
-        ensures { result ≡ next_to self.now.rolled (number_of mark.now) node }
+        ensures { result ≡ next_to self.now.rolled (mark_number mark.now) node }
     {
         if node as usize >= self.rolled.len() {
             return None;

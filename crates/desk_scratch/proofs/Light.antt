@@ -18,7 +18,7 @@ use Rattle.desk_findings.specs.Totals.{too_heavy_part}
 use Rattle.desk_findings.proofs.Children.{not_part}
 use Rattle.desk_findings.proofs.Loads.{carried-le}
 use Rattle.desk_history.specs.Sound.{Sound}
-use Rattle.desk_history.proofs.Good.{right_of}
+use Rattle.desk_history.proofs.SoundClauses.{right_of}
 use Rattle.desk_history.proofs.Masses.{none_first}
 use Rattle.desk_tables.proofs.HeldMasses.{within_mass}
 use Rattle.desk_totals.specs.Fit.{fit}

@@ -12,7 +12,7 @@ use Rattle.desk_findings.specs.Tonnage.{shipments_in}
 use Rattle.desk_findings.specs.Totals.{too_heavy_year, year_mass}
 use Rattle.desk_findings.proofs.Loads.{carried-le}
 use Rattle.desk_history.specs.Sound.{Sound}
-use Rattle.desk_history.proofs.Good.{right_of}
+use Rattle.desk_history.proofs.SoundClauses.{right_of}
 use Rattle.desk_history.proofs.Masses.{none_first}
 
 less : (bound a b : ℕ) → a ≤ b → b < bound → a < bound

@@ -8,7 +8,7 @@ ghost use Rattle.desk_scratch.specs.Eval.{eval};
 ghost use Rattle.desk_scratch.specs.Questions.{is_question_in_range};
 
 use crate::ask_fault::AskFault;
-use crate::asked::Asked;
+use crate::kind_on_day::KindOnDay;
 use crate::material::material_text;
 use crate::part::part_text;
 use crate::question::Question;
@@ -82,7 +82,7 @@ fn on_material(
 {
     match tables.material(&code) {
         Some(material) => {
-            let text = material_text(alloc, tables, &Asked { kind, day }, material)?;
+            let text = material_text(alloc, tables, &KindOnDay { kind, day }, material)?;
             Ok(text)
         }
         None => Err(AskFault::NoSuchCode { code }),
@@ -102,7 +102,7 @@ fn on_rohs(alloc: Global, tables: &Tables, code: Code, day: Day) -> Result<Bytes
     match tables.product(&code) {
         Some(product) => {
             let kind = product.kind;
-            let text = rohs_text(alloc, tables, &Asked { kind, day }, product)?;
+            let text = rohs_text(alloc, tables, &KindOnDay { kind, day }, product)?;
             Ok(text)
         }
         None => Err(AskFault::NotAProduct { code }),

@@ -7,9 +7,9 @@ ghost use Rattle.desk_findings.specs.Verdicts.{terms_of, verdict_on};
 ghost use Rattle.desk_scratch.specs.Assessment.{facts_of};
 ghost use Rattle.desk_scratch.specs.Holdings.{holdings_of};
 
-use crate::asked::Asked;
 use crate::facts::Facts;
 use crate::holdings::Holdings;
+use crate::kind_on_day::KindOnDay;
 use desk_law::{Rule, Terms, Verdict, judge};
 use desk_model::SubstanceMass;
 use desk_tables::Tables;
@@ -22,7 +22,7 @@ use std::marker::Model;
 pub(crate) struct Assessment<'a> {
     tables: &'a Tables,
     terms: &'a [Terms],
-    asked: Asked,
+    asked: KindOnDay,
 }
 
 impl<'a> Model for Assessment<'a> {
@@ -40,7 +40,7 @@ impl<'a> Model for Assessment<'a> {
 
 impl<'a> Assessment<'a> {
     /// By these tables, whose exemption rows have these terms.
-    pub(crate) fn new(tables: &'a Tables, terms: &'a [Terms], asked: Asked) -> Assessment<'a>
+    pub(crate) fn new(tables: &'a Tables, terms: &'a [Terms], asked: KindOnDay) -> Assessment<'a>
         requires sound { Sound tables.now.lists }
         requires terms { terms.now ≡ terms_of tables.now.lists }
         ensures { result ≡ record { lists = tables.now.lists; kind = asked.kind; day = asked.day } }

@@ -6,9 +6,9 @@ ghost use Rattle.desk_scratch.specs.Assessment.{facts_of};
 ghost use Rattle.desk_scratch.specs.CheckText.{EndsIn, check_line, check_text, some_breach};
 ghost use Rattle.desk_scratch.specs.MaterialBlock.{material_block};
 
-use crate::asked::Asked;
 use crate::assessment::{Assessment, terms_of};
 use crate::facts::Facts;
+use crate::kind_on_day::KindOnDay;
 use crate::material_block::push_material_block;
 use crate::shared_lines::push_compliance_line;
 use desk_model::{Declaration, MaterialDecl};
@@ -25,7 +25,7 @@ use std::fmt::Write;
 pub fn check_text(
     alloc: Global,
     tables: &Tables,
-    asked: &Asked,
+    asked: &KindOnDay,
     declaration: &Declaration,
 ) -> Result<Bytes, OutOfMemory>
     requires { Sound tables.now.lists }
@@ -52,7 +52,7 @@ pub fn check_text(
 #[tactic(auto, unfolding(crate::specs::CheckText::check_line))]
 fn push_check_line(
     out: &mut String,
-    asked: &Asked,
+    asked: &KindOnDay,
     supplier: &Code,
     number: u64,
 ) -> Result<(), AllocError>

@@ -5,7 +5,6 @@
 
 mod answer;
 mod ask_fault;
-mod asked;
 mod assessment;
 mod bill;
 mod check;
@@ -13,6 +12,7 @@ mod duties;
 pub mod examples;
 mod facts;
 mod holdings;
+mod kind_on_day;
 pub mod laws;
 mod material;
 mod material_block;
@@ -28,6 +28,6 @@ mod verdict_words;
 
 pub use answer::answer_plain;
 pub use ask_fault::AskFault;
-pub use asked::Asked;
 pub use check::check_text;
+pub use kind_on_day::KindOnDay;
 pub use question::Question;

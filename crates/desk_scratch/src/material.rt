@@ -3,9 +3,9 @@ ghost use Rattle.desk_history.specs.Sound.{Sound};
 ghost use Rattle.desk_model.specs.declared.limits.TheConstants.{CONTENT_LIMIT};
 ghost use Rattle.desk_scratch.specs.Material.{material_text};
 
-use crate::asked::Asked;
 use crate::assessment::{Assessment, terms_of};
 use crate::facts::Facts;
+use crate::kind_on_day::KindOnDay;
 use crate::material_block::push_material_block;
 use crate::shared_lines::{push_compliance_line, push_version_line};
 use desk_model::MaterialRow;
@@ -20,7 +20,7 @@ use std::alloc::Global;
 pub(crate) fn material_text(
     alloc: Global,
     tables: &Tables,
-    asked: &Asked,
+    asked: &KindOnDay,
     material: &MaterialRow,
 ) -> Result<Bytes, OutOfMemory>
     requires sound { Sound tables.now.lists }

@@ -13,10 +13,10 @@ ghost use Rattle.desk_scratch.specs.MaterialBlock.{judged_words_with, verdict_wo
 ghost use Rattle.desk_scratch.specs.Rohs.{asked_product_line, over_lines, rohs_text};
 ghost use Rattle.desk_scratch.specs.SharedLines.{chain_line};
 
-use crate::asked::Asked;
 use crate::assessment::{Assessment, terms_of};
 use crate::bill::Bill;
 use crate::facts::Facts;
+use crate::kind_on_day::KindOnDay;
 use crate::material_block::is_breach;
 use crate::shared_lines::{push_chain_line, push_compliance_line, push_version_line};
 use crate::verdict_words::VerdictWords;
@@ -36,7 +36,7 @@ use std::fmt::Write;
 pub(crate) fn rohs_text(
     alloc: Global,
     tables: &Tables,
-    asked: &Asked,
+    asked: &KindOnDay,
     product: &ProductRow,
 ) -> Result<Bytes, OutOfMemory>
     requires sound { Sound tables.now.lists }
@@ -61,7 +61,7 @@ pub(crate) fn rohs_text(
 fn push_asked_product_line(
     out: &mut String,
     bill: &Bill<'_>,
-    asked: &Asked,
+    asked: &KindOnDay,
     product: &ProductRow,
 ) -> Result<(), AllocError>
     requires { is_part bill.now product.now.part ≡ true }

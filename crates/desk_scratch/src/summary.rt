@@ -13,10 +13,10 @@ ghost use Rattle.desk_scratch.specs.Judgement.{breach_count, is_breached};
 ghost use Rattle.desk_scratch.specs.SharedLines.{compliance_word};
 ghost use Rattle.desk_scratch.specs.Summary.{asked_day_line, count_line, count_lines, standing_line, summary_text};
 
-use crate::asked::Asked;
 use crate::assessment::{Assessment, terms_of};
 use crate::bill::Bill;
 use crate::facts::Facts;
+use crate::kind_on_day::KindOnDay;
 use crate::material_block::is_breach;
 use crate::shared_lines::push_version_line;
 use desk_law::{Rule, Terms};
@@ -110,7 +110,7 @@ fn push_standing(
     requires kept { is_part bill.now product.now.part ≡ true }
     ensures { OnOk result (string_bytes out.new ≡ string_bytes out.old ++ standing_line bill.now day product.now) }
 {
-    let asked = Asked {
+    let asked = KindOnDay {
         kind: product.kind,
         day,
     };

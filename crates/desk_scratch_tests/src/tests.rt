@@ -3,7 +3,7 @@ ghost use Rattle.desk_history.specs.Sound.{Sound};
 
 use desk_law::Kind;
 use desk_model::Declaration;
-use desk_scratch::{AskFault, Asked, check_text};
+use desk_scratch::{AskFault, KindOnDay, check_text};
 use desk_tables::Tables;
 use desk_text::{Code, Day, Name};
 use std::alloc::Global;
@@ -54,7 +54,7 @@ fn judges(rt: &impl Abort, alloc: Global, tables: &Tables) -> Result<(), Fail>
 {
     let day = Day::read(b"2024-01-23")?;
     assert!(rt; day.is_askable());
-    let asked = Asked {
+    let asked = KindOnDay {
         kind: Kind::Telecommunications,
         day,
     };

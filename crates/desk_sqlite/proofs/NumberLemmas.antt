@@ -18,7 +18,7 @@ use Rattle.sqlite_rules.proofs.ListLemmas.{all_has}
 use Rattle.sqlite_rules.proofs.ProbeLemmas.{mapped_has}
 use Rattle.sqlite_sql.specs.Term.{Env}
 use Rattle.sqlite_sql.specs.Query.{IsAnswer, Output, output}
-use Rattle.desk_sqlite.specs.Numbers.{AreRising, number_of}
+use Rattle.desk_sqlite.specs.Numbers.{AreRising, row_number}
 use Rattle.desk_sqlite.specs.Rows.{AreNumbered}
 use Rattle.desk_sqlite.proofs.ListLemmas.{has_permuted, matched_has}
 use Rattle.desk_sqlite.proofs.TextLemmas.{numbers_query}
@@ -42,15 +42,15 @@ flips a b = ap is_eq (value_cmp_total.antisymm (column a.1 0) (column b.1 0)) �
 less_not : (m n : ℤ) → int_cmp m n ≡ Less → is_eq (value_cmp (Int m) (Int n)) ≡ false
 less_not m n low = ap is_eq (value_cmp-Int m n ∙ low)
 
-first_apart : (x : Row) (xs : List Row) → column x 0 ≡ Int (number_of x) → ((y : Row) → Has xs y → column y 0 ≡ Int (number_of y)) → AllByRecursion (λ y. int_cmp (number_of x) (number_of y) ≡ Less) xs
+first_apart : (x : Row) (xs : List Row) → column x 0 ≡ Int (row_number x) → ((y : Row) → Has xs y → column y 0 ≡ Int (row_number y)) → AllByRecursion (λ y. int_cmp (row_number x) (row_number y) ≡ Less) xs
     → AllByRecursion (λ y. same_first x y ≡ false) xs
 first_apart x [] own numbers low = tt
 first_apart x (y ∷ ys) own numbers low = (
-  ap (λ v. is_eq (value_cmp v (column y 0))) own ∙ ap (λ v. is_eq (value_cmp (Int (number_of x)) v)) (numbers y (inl refl)) ∙ less_not (number_of x) (number_of y) low.0,
+  ap (λ v. is_eq (value_cmp v (column y 0))) own ∙ ap (λ v. is_eq (value_cmp (Int (row_number x)) v)) (numbers y (inl refl)) ∙ less_not (row_number x) (row_number y) low.0,
   first_apart x ys own (λ z there. numbers z (inr there)) low.1,
 )
 
-rising_distinct : (rows : List Row) → ((y : Row) → Has rows y → column y 0 ≡ Int (number_of y)) → IsAscending (λ a b. int_cmp (number_of a) (number_of b) ≡ Less) rows → IsDistinct same_first rows
+rising_distinct : (rows : List Row) → ((y : Row) → Has rows y → column y 0 ≡ Int (row_number y)) → IsAscending (λ a b. int_cmp (row_number a) (row_number b) ≡ Less) rows → IsDistinct same_first rows
 unfolding IsDistinct
 rising_distinct [] numbers rise = tt
 rising_distinct (x ∷ xs) numbers rise =
@@ -112,7 +112,7 @@ module _ (db : Trees) (shown : List Row) (a : IsAnswer numbers_query db [] shown
       let mine = mapped_has (output numbers_query) (flat_map (λ z. ([] ∷ z ∷ []) ∷ []) (db 0)) ([] ∷ r ∷ []) (matched_has (λ z. true) (λ z. [] ∷ z ∷ []) (db 0) r there refl) in
       let ordered = has_permuted a.kept a.ordered o a.same (subst (λ l. Has l o) (sym kept_is) mine) in
       let listed = subst (λ l. Has l (rowid r ∷ [])) (sym shown_is) (mapped_has (λ (k : Output). k.1) a.ordered o ordered) in
-      (number_of (rowid r ∷ []), rising.numbers (rowid r ∷ []) listed)
+      (row_number (rowid r ∷ []), rising.numbers (rowid r ∷ []) listed)
 
   pub are_numbered : AreNumbered (db 0)
   are_numbered = record { number = number_at; apart = apart_rows (db 0) number_at all_distinct }
@@ -140,43 +140,43 @@ has_pushed (z ∷ xs) y x (inr later) = more (has_pushed xs y x later)
 -- each number of the rows is this one or less, or there is no row
 abbrev pub IsUpTo : List Row → Option ℤ → Type 0
 IsUpTo rows None = rows ≡ []
-IsUpTo rows (Some m) = AllByRecursion (λ r. (int_cmp (number_of r) m ≡ Less) ⊎ (number_of r ≡ m)) rows
+IsUpTo rows (Some m) = AllByRecursion (λ r. (int_cmp (row_number r) m ≡ Less) ⊎ (row_number r ≡ m)) rows
 
-all_less : (m n : ℤ) (rows : List Row) → int_cmp m n ≡ Less → IsUpTo rows (Some m) → AllByRecursion (λ r. int_cmp (number_of r) n ≡ Less) rows
+all_less : (m n : ℤ) (rows : List Row) → int_cmp m n ≡ Less → IsUpTo rows (Some m) → AllByRecursion (λ r. int_cmp (row_number r) n ≡ Less) rows
 all_less m n [] low h = tt
 all_less m n (r ∷ rows) low h = (one h.0, all_less m n rows low h.1)
   where
-    one : (int_cmp (number_of r) m ≡ Less) ⊎ (number_of r ≡ m) → int_cmp (number_of r) n ≡ Less
-    one (inl less) = int_cmp_total.trans (number_of r) m n less low
+    one : (int_cmp (row_number r) m ≡ Less) ⊎ (row_number r ≡ m) → int_cmp (row_number r) n ≡ Less
+    one (inl less) = int_cmp_total.trans (row_number r) m n less low
     one (inr same) = subst (λ k. int_cmp k n ≡ Less) (sym same) low
 
-weaker : (n : ℤ) (rows : List Row) → AllByRecursion (λ r. int_cmp (number_of r) n ≡ Less) rows → AllByRecursion (λ r. (int_cmp (number_of r) n ≡ Less) ⊎ (number_of r ≡ n)) rows
+weaker : (n : ℤ) (rows : List Row) → AllByRecursion (λ r. int_cmp (row_number r) n ≡ Less) rows → AllByRecursion (λ r. (int_cmp (row_number r) n ≡ Less) ⊎ (row_number r ≡ n)) rows
 weaker n [] h = tt
 weaker n (r ∷ rows) h = (inl h.0, weaker n rows h.1)
 
 low_is : (m n : ℤ) → int_lt m n ≡ true → int_cmp m n ≡ Less
 low_is m n low = ap (λ b. cond b Less (cond (int_lt n m) Greater Equal)) low
 
-no_less : (n : ℤ) (last : Option ℤ) (rows : List Row) → IfSome last (λ m. int_lt m n ≡ true) → IsUpTo rows last → AllByRecursion (λ r. int_cmp (number_of r) n ≡ Less) rows
-no_less n None rows low up = subst (AllByRecursion (λ r. int_cmp (number_of r) n ≡ Less)) (sym up) tt
+no_less : (n : ℤ) (last : Option ℤ) (rows : List Row) → IfSome last (λ m. int_lt m n ≡ true) → IsUpTo rows last → AllByRecursion (λ r. int_cmp (row_number r) n ≡ Less) rows
+no_less n None rows low up = subst (AllByRecursion (λ r. int_cmp (row_number r) n ≡ Less)) (sym up) tt
 no_less n (Some m) rows low up = all_less m n rows (low_is m n low) up
 
 -- one more row, whose number is greater than the last
 pub rising_push : (rows : List Row) (row : Row) (n : ℤ) (last : Option ℤ) → AreRising rows → IsUpTo rows last → column row 0 ≡ Int n → IfSome last (λ m. int_lt m n ≡ true)
     → AreRising (rows ++ row ∷ []) × IsUpTo (rows ++ row ∷ []) (Some n)
 rising_push rows row n last rising up is low =
-    let own : number_of row ≡ n = ap id_in is in
+    let own : row_number row ≡ n = ap id_in is in
     let all = no_less n last rows low up in (
       record {
         numbers = λ x there. number_for x (has_pushed rows row x there);
-        rise = ascending_push (λ a b. int_cmp (number_of a) (number_of b) ≡ Less) rows row rising.rise (subst (λ k. AllByRecursion (λ r. int_cmp (number_of r) k ≡ Less) rows) (sym own) all);
+        rise = ascending_push (λ a b. int_cmp (row_number a) (row_number b) ≡ Less) rows row rising.rise (subst (λ k. AllByRecursion (λ r. int_cmp (row_number r) k ≡ Less) rows) (sym own) all);
       },
-      all_push (λ r. (int_cmp (number_of r) n ≡ Less) ⊎ (number_of r ≡ n)) rows row (weaker n rows all) (inr own),
+      all_push (λ r. (int_cmp (row_number r) n ≡ Less) ⊎ (row_number r ≡ n)) rows row (weaker n rows all) (inr own),
     )
   where
-    number_for : (x : Row) → Has rows x ⊎ (x ≡ row) → column x 0 ≡ Int (number_of x)
+    number_for : (x : Row) → Has rows x ⊎ (x ≡ row) → column x 0 ≡ Int (row_number x)
     number_for x (inl there) = rising.numbers x there
-    number_for x (inr same) = subst (λ r. column r 0 ≡ Int (number_of r)) (sym same) (is ∙ ap Int (sym (ap id_in is)))
+    number_for x (inr same) = subst (λ r. column r 0 ≡ Int (row_number r)) (sym same) (is ∙ ap Int (sym (ap id_in is)))
 
 -- the next row of a list
 pub rising_more : (rows : List Row) (i : ℕ) (row : Row) (n : ℤ) (last : Option ℤ) → i < length rows → row ≡ slice_index_or rows i row → AreRising (take i rows) × IsUpTo (take i rows) last

@@ -17,5 +17,7 @@ pub record Keeping (S : Type 0) : Type 0 where
 -- a keeper can be told by the code of its connection, so that a keeper may stand within another value
 abbrev pub keeping_code : {S : Type 0} → Coded S → Coded (Keeping S)
 keeping_code {S} store =
-    code_by (Held S × (Bool × (Bool × ℕ))) (coded× (held_code store) (coded× coded_bool (coded× coded_bool coded_ℕ))) (λ k. (k.connection, (k.is_ready, (k.is_ours, k.faults))))
+    code_by (Held S × (Bool × (Bool × ℕ)))
+    (coded× (held_code store) (coded× coded_bool (coded× coded_bool coded_ℕ)))
+    (λ k. (k.connection, (k.is_ready, (k.is_ours, k.faults))))
     (λ p. record { connection = p.0; is_ready = p.1.0; is_ours = p.1.1.0; faults = p.1.1.1 }) (λ _. refl)

@@ -9,10 +9,10 @@ use Rattle.sqlite_rules.specs.Edit.{id_in}
 use Rattle.sqlite_rules.specs.Lists.{Has}
 
 -- the number in the first column
-abbrev pub number_of : Row → ℤ
-number_of row = id_in (column row 0)
+abbrev pub row_number : Row → ℤ
+row_number row = id_in (column row 0)
 
 -- each row has a number in its first column, which is less than those of the rows after it
 pub record AreRising (rows : List Row) : Type 0 where
-  pub numbers : (row : Row) → Has rows row → column row 0 ≡ Int (number_of row)
-  pub rise : IsAscending (λ a b. int_cmp (number_of a) (number_of b) ≡ Less) rows
+  pub numbers : (row : Row) → Has rows row → column row 0 ≡ Int (row_number row)
+  pub rise : IsAscending (λ a b. int_cmp (row_number a) (row_number b) ≡ Less) rows

@@ -1,6 +1,6 @@
 use Rattle.std.proofs.Common.{◌≡◌, ◌+◌, ◌-◌, ◌∷◌, [], ◌++◌, length, sym, ap, ◌∙◌, arith}
 use Rattle.desk_graph.specs.Planned.{with_next}
-use Rattle.desk_graph.proofs.Changes.{next_step}
+use Rattle.desk_graph.proofs.ChangedLines.{next_step}
 use Rattle.desk_graph.proofs.order_after.push_next.Goals as goal
 
 pub loop-preserved : goal.loop-preserved

@@ -2,7 +2,7 @@ use Rattle.std.proofs.Common.{◌≡◌, true, sym}
 use Rattle.desk_model.specs.Lists.{is_part}
 use Rattle.desk_model.proofs.Elements.{each_from_all}
 use Rattle.desk_model.proofs.Kept.{found_each}
-use Rattle.desk_history.proofs.Sounds.{names_of}
+use Rattle.desk_history.proofs.NamesKept.{names_of}
 use Rattle.desk_scratch.proofs.answer.on_rohs.Goals as goal
 
 pub rohs_text-requires-clause-kept : goal.rohs_text-requires-clause-kept

@@ -2,7 +2,7 @@ use Rattle.std.proofs.Common.{◌≡◌, true, sym, subst}
 use Rattle.std.specs.List.{AllByRecursion}
 use Rattle.desk_model.specs.Lists.{is_part}
 use Rattle.desk_model.proofs.Elements.{each_from_all}
-use Rattle.desk_history.proofs.Sounds.{names_of}
+use Rattle.desk_history.proofs.NamesKept.{names_of}
 use Rattle.desk_tables.proofs.HeavyYears.{at_each}
 use Rattle.desk_scratch.proofs.summary.push_standings.Goals as goal
 

@@ -3,7 +3,7 @@ use Rattle.std.specs.Prelude.{if◌then◌else◌}
 use Rattle.std.specs.List.{flat_map}
 use Rattle.std.proofs.lemmas.List.{length-map}
 use Rattle.desk_findings.specs.Reaches.{is_or_reaches, reaches}
-use Rattle.desk_history.proofs.Good.{bill_of}
+use Rattle.desk_history.proofs.SoundClauses.{bill_of}
 use Rattle.desk_tables.proofs.Taken.{take_whole}
 use Rattle.desk_scratch.specs.Uses.{product_line}
 use Rattle.desk_scratch.proofs.Lines.{flat_map-filter, text-added}

@@ -1,6 +1,6 @@
 -- The lines one after another.
 use Rattle.std.proofs.Common.{◌∙◌, refl, subst}
-use Rattle.desk_history.proofs.Good.{bill_of}
+use Rattle.desk_history.proofs.SoundClauses.{bill_of}
 use Rattle.desk_totals.specs.Linked.{IsBillOf}
 use Rattle.desk_scratch.specs.Uses.{uses_text}
 use Rattle.desk_scratch.proofs.uses.uses_text.Goals as goal

@@ -1,6 +1,6 @@
 use Rattle.std.proofs.Common.{ap, arith, length, subst, sym, ◌∙◌}
 use Rattle.desk_graph.specs.Planned.{IsChange, IsChangeOf}
-use Rattle.desk_graph.proofs.Changes.{ends-changed, in_order-changed}
+use Rattle.desk_graph.proofs.ChangedLines.{ends-changed, in_order-changed}
 use Rattle.desk_graph.proofs.Kept.{bill_swept, count-set, read_list}
 use Rattle.desk_graph.proofs.bill.Bill.commit_change.Goals as goal
 

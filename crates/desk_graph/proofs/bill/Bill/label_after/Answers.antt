@@ -3,7 +3,7 @@ use Rattle.std.proofs.lemmas.List.{get_or-append_right, get_or_append_left, get_
 use Rattle.desk_graph.specs.Graph.{label_of}
 use Rattle.desk_graph.specs.Planned.{planned}
 use Rattle.desk_graph.proofs.AfterPlans.{count_after, labels_are}
-use Rattle.desk_graph.proofs.Changes.{with_labels-is}
+use Rattle.desk_graph.proofs.ChangedLines.{with_labels-is}
 use Rattle.desk_graph.proofs.bill.Bill.label_after.Goals as goal
 
 pub returns-then-id-kept : goal.returns-then-id-kept

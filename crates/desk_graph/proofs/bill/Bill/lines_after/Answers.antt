@@ -1,7 +1,7 @@
 use Rattle.std.proofs.Common.{Some, None, sym, ap, ◌∙◌, subst}
 use Rattle.desk_graph.specs.Graph.{IsByLabel, lines_of}
 use Rattle.desk_graph.specs.Planned.{IsBillPlan, changed_lines, planned}
-use Rattle.desk_graph.proofs.Changes.{planned_by_label, planned_lines_of}
+use Rattle.desk_graph.proofs.ChangedLines.{planned_by_label, planned_lines_of}
 use Rattle.desk_graph.proofs.bill.Bill.lines_after.Goals as goal
 
 pub returns-in-Some-clause-lines : goal.returns-in-Some-clause-lines

@@ -2,7 +2,7 @@ use Rattle.std.proofs.Common.{◌≡◌, ◌<◌, true, false, [], Some, None, l
 use Rattle.desk_graph.specs.Edits.{without_line, without_line_in}
 use Rattle.desk_graph.specs.Graph.{has_line, is_line, lines_of}
 use Rattle.desk_graph.specs.Planned.{BillEdit, IsBillPlan, planned}
-use Rattle.desk_graph.proofs.Changes.{dropped_change, nothing_dropped}
+use Rattle.desk_graph.proofs.ChangedLines.{dropped_change, nothing_dropped}
 use Rattle.desk_graph.proofs.Kept.{bill_falls, read_list}
 use Rattle.desk_graph.proofs.Ordered.{rank}
 use Rattle.desk_graph.proofs.bill.Bill.plan_drop.Goals as goal

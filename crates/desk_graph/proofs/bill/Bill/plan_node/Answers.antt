@@ -3,7 +3,7 @@ use Rattle.std.proofs.lemmas.List.{length_push}
 use Rattle.desk_graph.specs.Edits.{is_taken}
 use Rattle.desk_graph.specs.Planned.{IsBillPlan, changed_lines, planned}
 use Rattle.desk_graph.proofs.AfterPlans.{answer_full, answer_ok, answer_taken, taken_after}
-use Rattle.desk_graph.proofs.Changes.{free-push, with_labels-is, with_nodes-push}
+use Rattle.desk_graph.proofs.ChangedLines.{free-push, with_labels-is, with_nodes-push}
 use Rattle.desk_graph.proofs.bill.Bill.plan_node.Goals as goal
 
 pub returns-then-is_taken-clause-answer : goal.returns-then-is_taken-clause-answer

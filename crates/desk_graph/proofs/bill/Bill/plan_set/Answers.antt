@@ -1,7 +1,7 @@
 use Rattle.std.proofs.Common.{[], Some, sym, subst, arith}
 use Rattle.desk_graph.specs.Plan.{IsLinePlan, Planned}
 use Rattle.desk_graph.specs.Planned.{BillEdit, IsBillPlan}
-use Rattle.desk_graph.proofs.Changes.{planned_change}
+use Rattle.desk_graph.proofs.ChangedLines.{planned_change}
 use Rattle.desk_graph.proofs.Kept.{ends-with}
 use Rattle.desk_graph.proofs.bill.Bill.plan_set.Goals as goal
 

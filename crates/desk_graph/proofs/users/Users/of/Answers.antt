@@ -2,7 +2,7 @@ use Rattle.std.proofs.Common.{sym, ap, ◌∙◌}
 use Rattle.std.specs.Prelude.{option_copied}
 use Rattle.desk_graph.specs.Graph.{lines_of}
 use Rattle.desk_graph.specs.Planned.{changed_users}
-use Rattle.desk_graph.proofs.Changes.{lines_of-empty}
+use Rattle.desk_graph.proofs.ChangedLines.{lines_of-empty}
 use Rattle.desk_graph.proofs.users.Users.of.Goals as goal
 
 pub returns-in-Some : goal.returns-in-Some

@@ -2,7 +2,7 @@
 use Rattle.std.proofs.Common.{◌∙◌, ◌+◌, ◌++◌, Err, ap, append-nil, inl, inr, subst, sym}
 use Rattle.std.proofs.lemmas.Bool.{false≢true}
 use Rattle.desk_clerk.proofs.Unsound.{gathered_same, gathered_sound}
-use Rattle.desk_report.specs.Lines.{lines_of}
+use Rattle.desk_report.specs.Lines.{record_lines}
 use Rattle.desk_report.specs.Reading.{IsReadTo}
 use Rattle.desk_report.proofs.BadLines.{in_order}
 use Rattle.desk_report.proofs.Readings.{same_line}
@@ -34,7 +34,7 @@ pub returns-in-Err-Unsound-clause-damaged : goal.returns-in-Err-Unsound-clause-d
 returns-in-Err-Unsound-clause-damaged c = λ line e bytes read.
     let (by_key, is, forms, one_line) = c.self.invariant in
     let inside = c.self.inside in
-    let front = lines_of inside.records.items in
+    let front = record_lines inside.records.items in
     inr
     (inr (
       sym (same_line 0 line e),

@@ -1,7 +1,7 @@
 use Rattle.std.proofs.Common.{◌≡◌, subst}
 use Rattle.std.specs.Prelude.{IfOk}
 use Rattle.desk_findings.specs.Chain.{chain}
-use Rattle.desk_history.proofs.Good.{bill_of}
+use Rattle.desk_history.proofs.SoundClauses.{bill_of}
 use Rattle.desk_scratch.proofs.bill.Bill.chain.Goals as goal
 
 pub returns : goal.returns

@@ -4,7 +4,7 @@ use Rattle.std.proofs.lemmas.Bool.{both_ways}
 use Rattle.std.proofs.lemmas.Result.{IfOk-weaker}
 use Rattle.desk_model.specs.Lists.{is_part}
 use Rattle.desk_findings.specs.Reaches.{is_or_reaches}
-use Rattle.desk_history.proofs.Good.{bill_of}
+use Rattle.desk_history.proofs.SoundClauses.{bill_of}
 use Rattle.desk_history.specs.Sound.{Sound}
 use Rattle.desk_tables.proofs.FindingSums.{range_push}
 use Rattle.desk_totals.specs.Linked.{IsBillOf}

@@ -6,7 +6,7 @@ use desk_text::Day;
 
 /// For which kind of equipment and on which day a material is judged.
 #[derive(Clone, Copy, Debug)]
-pub struct Asked {
+pub struct KindOnDay {
     /// The kind of equipment.
     pub kind: Kind,
     /// The day, 2014-07-22 or later.

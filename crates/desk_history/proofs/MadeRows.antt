@@ -28,9 +28,9 @@ use Rattle.desk_model.specs.Lists.{Lists, is_part, is_product, is_substance, mem
 use Rattle.desk_history.specs.Refused.{outside_annex, exemption_span, refuse_if, units_too_large, unknown_part, unknown_product, unknown_substance}
 use Rattle.desk_model.specs.Terms.{breaks_annex, breaks_span}
 use Rattle.desk_model.specs.declared.limits.TheConstants.{UNITS_LIMIT, WHOLE_FACTOR}
-use Rattle.desk_history.proofs.Changes.{good-candidates, good-exemptions, good-members, good-products, good-shipments, good-substances}
+use Rattle.desk_history.proofs.ChangedTables.{good-candidates, good-exemptions, good-members, good-products, good-shipments, good-substances}
 use Rattle.desk_model.proofs.Elements.{all_from_each, each_from_all}
-use Rattle.desk_history.proofs.Good.{IsGood}
+use Rattle.desk_history.proofs.SoundClauses.{IsGood}
 use Rattle.desk_model.proofs.Kept.{code_cmp_total, member_key_cmp_total, shipment_key_cmp_total}
 use Rattle.desk_history.proofs.Rules.{IsUnrefused}
 

@@ -18,7 +18,7 @@ use Rattle.desk_model.specs.Lists.{Lists, is_material, is_part, is_product, is_s
 use Rattle.desk_findings.specs.Reaches.{reaches}
 use Rattle.desk_findings.specs.Bill.{has_right_child}
 use Rattle.desk_model.specs.Terms.{breaks_annex, breaks_span}
-use Rattle.desk_history.proofs.Good.{Grows, IsGood, names_grow}
+use Rattle.desk_history.proofs.SoundClauses.{Grows, IsGood, names_grow}
 
 pub good-substances : (t : Lists) (rows : List SubstanceRow) → IsGood t → IsByKey (λ row. row.code) code_cmp rows → list_all is_substance_row rows ≡ true → Grows t (record t { substances = rows }) → IsGood (record t { substances = rows })
 good-substances t rows g by_key forms grows =

@@ -14,7 +14,7 @@ use Rattle.desk_findings.proofs.Children.{parents_kept, right_child_cases}
 use Rattle.desk_history.specs.Sound.{IsConsistent, are_names_kept, are_rows_in_form}
 use Rattle.desk_model.specs.Terms.{breaks_annex, breaks_span}
 use Rattle.desk_model.proofs.Elements.{all_from_each, each_from_all, each_map}
-use Rattle.desk_history.proofs.Sounds.{NamesKept, names_of}
+use Rattle.desk_history.proofs.NamesKept.{NamesKept, names_of}
 
 -- rows of their form
 pub record FormsKept (t : Lists) : Type 0 where
