@@ -1,5 +1,5 @@
 -- What becomes of an edit: how a refusal is told, which plan an edit that is kept has, and what a plan that was carried out leaves.
-use Rattle.std.proofs.Common.{◌≡◌, ◌≢◌, ℕ, Some, None, Err, refl, sym, ap, ◌∙◌}
+use Rattle.std.proofs.Common.{◌≡◌, ◌≢◌, ℕ, Option, Some, None, Ok, Err, is_ok, true, refl, sym, ap, ◌∙◌}
 use Rattle.std.specs.Prelude.{Result}
 use Rattle.desk_text.specs.Code.{code_cmp}
 use Rattle.desk_rows.specs.Rows.{row_of, with_row}
@@ -11,7 +11,7 @@ use Rattle.desk_model.proofs.Kept.{code_cmp_total}
 use Rattle.desk_history.specs.Step.{kept_number, step, step_from}
 use Rattle.desk_tables.specs.Desk.{Desk}
 use Rattle.desk_tables.specs.Judged.{IsRefusal}
-use Rattle.desk_tables.specs.Plan.{CanCommit, IsPlan, planned}
+use Rattle.desk_tables.specs.Plan.{CanCommit, IsPlan, plan_number, planned}
 use Rattle.desk_tables.specs.declared.edit_fault.EditFault.{EditFault}
 use Rattle.desk_tables.specs.declared.edit_fault.EditFault.TheVariants as edit_fault
 use Rattle.desk_tables.specs.declared.plan.TablesPlan.{TablesPlan}
@@ -30,7 +30,7 @@ same_number first fault m n e = cc
 not_memory : (fault : RuleFault) (n : ℕ) {G : Type 0} → submit_fault.OutOfMemory ≡ submit_fault.Rule fault n → G
 not_memory fault n e = cc
 
-handed : {T : Type 0} (fault other : SubmitFault) → ◌≡◌ {A = Result T SubmitFault} (Err fault) (Err other) → fault ≡ other
+pub handed : {T : Type 0} (fault other : SubmitFault) → ◌≡◌ {A = Result T SubmitFault} (Err fault) (Err other) → fault ≡ other
 handed fault other e = cc
 
 -- the rule that is told is the one that the edit breaks
@@ -61,3 +61,21 @@ kept_plan desk edit (plan.New change ticket room) n is kept =
     let tickets : desk.lists.tickets ≡ with_row (λ row. row.code) code_cmp ticket desk.lists.tickets = ap (λ t. t.tickets) (sym (kept_step desk.lists edit n kept) ∙ ap (λ done. done.1) is.0) in
     none_some {x = ticket}
     (sym is.1.ticket_is_new ∙ ap (row_of (λ row. row.code) code_cmp ticket.code) tickets ∙ row_of-with_row (λ row. row.code) code_cmp code_cmp_total ticket desk.lists.tickets)
+
+ok_err : (n : ℕ) (fault : RuleFault) {G : Type 0} → ◌≡◌ {A = Result ℕ RuleFault} (Ok n) (Err fault) → G
+ok_err n fault e = cc
+
+-- an edit that has a plan breaks no rule
+pub not_refused : (desk : Desk) (edit : Edit) (made : TablesPlan) (fault : RuleFault) {G : Type 0} → IsPlan desk edit made → (step desk.lists edit).0 ≡ Err fault → G
+not_refused desk edit made fault is refused = ok_err (plan_number made) fault (sym (ap (λ done. done.0) is.0) ∙ refused)
+
+-- an edit whose plan changes something is new, and breaks no rule
+module _ (desk : Desk) (edit : Edit) (made : TablesPlan) (is : IsPlan desk edit made) (changes : (n : ℕ) → made ≡ plan.Kept n → ⊥) where
+  is_new : (found : Option ℕ) → kept_number desk.lists edit ≡ found → kept_number desk.lists edit ≡ None
+  is_new None e = e
+  is_new (Some n) e =
+      let kept = kept_plan desk edit made n is e in
+      absurd (changes kept.0 kept.1)
+
+  pub asked_only : (kept_number desk.lists edit ≡ None) × (is_ok (step desk.lists edit).0 ≡ true)
+  asked_only = (is_new (kept_number desk.lists edit) refl, ap (λ done. is_ok done.0) is.0)

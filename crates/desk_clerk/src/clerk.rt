@@ -1,4 +1,4 @@
-ghost use Rattle.std.specs.Prelude.{◌≡◌, ◌≢◌, ◌≤◌, ◌⊎◌, ℕ, List, Ok, Err, Some, IfOk, IfErr, OnOk, OnErr, IsErrOf};
+ghost use Rattle.std.specs.Prelude.{◌≡◌, ◌≢◌, ◌≤◌, ◌⊎◌, ℕ, List, Ok, Err, None, Some, is_ok, true, IfOk, IfErr, OnOk, OnErr, IsErrOf};
 ghost use Rattle.desk_clerk.specs.Clerk.{keeper_of, number_at, whole};
 ghost use Rattle.desk_clerk.specs.Opening.{IsDamagedAt, IsOpenedAs};
 ghost use Rattle.desk_edge.specs.Content.{IsSame};
@@ -76,10 +76,10 @@ impl<K: Keeper> Clerk<K> {
     }
 
     /// Takes an edit: judges it, keeps what it changes in the store, in one commit, and then makes it in the tables. An edit that was
-    /// accepted before is told by its kept number, and the store isn't asked.
+    /// accepted before is told by its kept number, and the store isn't asked; nor is it for an edit that breaks a rule.
     ///
-    /// `Rule`: the first rule that it breaks. `KeeperFault`: the keeper refused the commit. `OutOfMemory`: none was left to judge it or
-    /// to keep it. After a refusal the tables and what the store keeps are as they were.
+    /// `Rule`: the first rule that it breaks. `KeeperFault`: it is new and breaks no rule, and the keeper refused the commit.
+    /// `OutOfMemory`: none was left to judge it or to keep it. After a refusal the tables and what the store keeps are as they were.
     pub fn submit<R: Wait + Sync>(
         &mut self,
         _rt: &R,
@@ -95,10 +95,15 @@ impl<K: Keeper> Clerk<K> {
 
         // An edit that is kept already doesn't touch the store.
         ensures again { (n : ℕ) → kept_number (whole self.old) edit ≡ Some n → keeper_of self.new ≡ keeper_of self.old }
+
+        // Nor does an edit that a rule refuses.
+        ensures refused { (fault : Fault) → (step (whole self.old) edit).0 ≡ Err fault → keeper_of self.new ≡ keeper_of self.old }
         ensures told { K.Tells (keeper_of self.new) → K.Tells (keeper_of self.old) }
         ensures never_falls { K.faults (keeper_of self.old) ≤ K.faults (keeper_of self.new) }
         ensures steady { result ≢ Err SubmitFault.KeeperFault → K.faults (keeper_of self.new) ≡ K.faults (keeper_of self.old) }
         ensures failed { IsErrOf result SubmitFault.KeeperFault → Rose (K.faults (keeper_of self.old)) (K.faults (keeper_of self.new)) }
+        ensures asked { IsErrOf result SubmitFault.KeeperFault
+            → (kept_number (whole self.old) edit ≡ None) × (is_ok (step (whole self.old) edit).0 ≡ true) }
     {
         edit.in_form();
         let plan = match self.tables.prepare(alloc, &edit) {

@@ -29,6 +29,7 @@ pub(crate) fn keep<K: Keeper>(
         → IsSame (tables_content (step desk.lists edit).1) (K.content keeper.new)) }
     ensures err { OnErr result (K.Tells keeper.new → IsSame (K.content keeper.old) (K.content keeper.new)) }
     ensures again { (n : ℕ) → plan.now ≡ TablesPlan.Kept n → keeper.new ≡ keeper.old }
+    ensures asked { (n : ℕ) → plan.now ≡ TablesPlan.Kept n → result ≢ Err SubmitFault.KeeperFault }
     ensures no_rule { (fault : RuleFault) (n : ℕ) → result ≢ Err (SubmitFault.Rule fault n) }
     ensures told { K.Tells keeper.new → K.Tells keeper.old }
     ensures never_falls { K.faults keeper.old ≤ K.faults keeper.new }

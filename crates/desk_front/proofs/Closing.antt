@@ -26,9 +26,7 @@ serves_weaker P Q served.Cut bytes left before after weaker x = whole_weaker P Q
 serves_weaker P Q served.TooLong bytes left before after weaker x = whole_weaker P Q served.TooLong bytes left before after weaker x
 serves_weaker P Q served.LinkFault bytes left before after weaker x = record {
   requests = x.requests;
-  last = x.last;
   said = x.said;
-  first = x.first;
   answered = weaker x.requests x.said x.answered;
   written = x.written;
 }

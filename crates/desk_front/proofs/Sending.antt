@@ -1,11 +1,11 @@
 -- Bytes that are said one after another.
-use Rattle.std.proofs.Common.{◌≡◌, ℕ, suc, ◌+◌, ◌≤◌, List, [], ◌∷◌, ◌++◌, Result, Ok, Err, OnErr, OnOk, Option, None, Some, take, drop, length, refl, sym, ap, ◌∙◌, subst, append_assoc, append-nil, arith}
+use Rattle.std.proofs.Common.{◌≡◌, ℕ, suc, ◌+◌, ◌<◌, ◌≤◌, List, [], ◌∷◌, ◌++◌, Result, Ok, Err, OnErr, OnOk, Option, None, Some, take, drop, length, refl, sym, ap, ◌∙◌, subst, append_assoc, append-nil, arith}
 use Rattle.std.proofs.Math.Seq.{take-append_seam}
-use Rattle.std.proofs.lemmas.List.{take-append-drop}
+use Rattle.std.proofs.lemmas.List.{length-append, length-take-le, take-append-drop}
 use Rattle.std.specs.Io.KnownBytes.{Appends}
 use Rattle.std.proofs.KnownBytes.{Appends-nil, Appends-trans}
 use Rattle.desk_edge.specs.Faults.{Rose}
-use Rattle.desk_edge.specs.Transfer.{AppendsBeginning}
+use Rattle.desk_edge.specs.Transfer.{AppendsPart}
 use Rattle.desk_front.specs.Service.{BreaksOff, Outgoing, Sends}
 
 pub sends_nothing : (out : Outgoing) → Sends out [] out
@@ -34,28 +34,30 @@ pub breaks_onward : (old mid new : Outgoing) (said more : List ℕ) → Sends ol
 breaks_onward old mid new said more x y = (
   (
     length x.0 + y.0.0,
+    omega (arith, y.0.1, ap length (regrouped old.waiting said more x.0 mid.waiting x.1), length-append x.0 (mid.waiting ++ more)),
     subst (λ l. Appends old.written new.written (take (length x.0 + y.0.0) l)) (sym (regrouped old.waiting said more x.0 mid.waiting x.1))
         (subst (Appends old.written new.written) (sym (beginning_behind x.0 (mid.waiting ++ more) y.0.0))
-        (Appends-trans old.written mid.written new.written x.0 (take y.0.0 (mid.waiting ++ more)) x.2 y.0.1)),
+        (Appends-trans old.written mid.written new.written x.0 (take y.0.0 (mid.waiting ++ more)) x.2 y.0.2)),
   ),
   subst (λ n. n ≤ new.faults) x.3 y.1,
   subst (λ n. Rose n new.faults) x.3 y.2,
 )
 
--- a beginning of bytes is one of longer bytes
-longer_beginning : (old new : Option (List ℕ)) (bytes more : List ℕ) → AppendsBeginning old new bytes → AppendsBeginning old new (bytes ++ more)
-longer_beginning old new bytes more x =
+-- a part of bytes is one of longer bytes
+longer_part : (old new : Option (List ℕ)) (bytes more : List ℕ) → AppendsPart old new bytes → AppendsPart old new (bytes ++ more)
+longer_part old new bytes more x =
     let whole : (bytes ++ more ≡ take x.0 bytes ++ (drop x.0 bytes ++ more)) =
     ap (λ l. l ++ more) (sym (take-append-drop x.0 bytes)) ∙ append_assoc (take x.0 bytes) (drop x.0 bytes) more
     in (
       length (take x.0 bytes),
-      subst (Appends old new) (sym (ap (take (length (take x.0 bytes))) whole ∙ take-append_seam (take x.0 bytes) (drop x.0 bytes ++ more))) x.1,
+      omega (arith, x.1, length-take-le x.0 bytes (omega (arith, x.1)), length-append bytes more),
+      subst (Appends old new) (sym (ap (take (length (take x.0 bytes))) whole ∙ take-append_seam (take x.0 bytes) (drop x.0 bytes ++ more))) x.2,
     )
 
 pub breaks_sooner : (old new : Outgoing) (said more : List ℕ) → BreaksOff old said new → BreaksOff old (said ++ more) new
 breaks_sooner old new said more x = (
-  subst (AppendsBeginning old.written new.written) (append_assoc old.waiting said more)
-      (longer_beginning old.written new.written (old.waiting ++ said) more x.0),
+  subst (AppendsPart old.written new.written) (append_assoc old.waiting said more)
+      (longer_part old.written new.written (old.waiting ++ said) more x.0),
   x.1,
   x.2,
 )
@@ -65,10 +67,10 @@ pub sends_written : (old new : Outgoing) (said : List ℕ) → old.waiting ≡ [
 sends_written old new said none left written steady =
     (said, ap (λ l. l ++ said) none ∙ sym (append-nil said) ∙ ap (λ l. said ++ l) (sym left), written, steady)
 
-pub breaks_writing : (old new : Outgoing) (said : List ℕ) → old.waiting ≡ [] → AppendsBeginning old.written new.written said → old.faults ≤ new.faults
+pub breaks_writing : (old new : Outgoing) (said : List ℕ) → old.waiting ≡ [] → AppendsPart old.written new.written said → old.faults ≤ new.faults
     → Rose old.faults new.faults → BreaksOff old said new
 breaks_writing old new said none written falls rose =
-    (subst (AppendsBeginning old.written new.written) (ap (λ l. l ++ said) (sym none)) written, falls, rose)
+    (subst (AppendsPart old.written new.written) (ap (λ l. l ++ said) (sym none)) written, falls, rose)
 
 -- what holds anyway holds of an error
 pub on_error : {T E P : Type 0} (r : Result T E) → P → OnErr r P
@@ -78,3 +80,7 @@ on_error (Err error) holds = holds
 pub on_ok_both : {T E P Q S : Type 0} (r : Result T E) → OnOk r P → OnOk r Q → (P → Q → S) → OnOk r S
 on_ok_both (Ok value) p q both = both p q
 on_ok_both (Err error) p q both = tt
+
+pub on_err_both : {T E P Q S : Type 0} (r : Result T E) → OnErr r P → OnErr r Q → (P → Q → S) → OnErr r S
+on_err_both (Ok value) p q both = tt
+on_err_both (Err error) p q both = both p q

@@ -3,7 +3,7 @@ use Rattle.std.proofs.Common.{◌≡◌, ℕ, lit<, zero-add, ◌+◌, ◌-◌, 
 use Rattle.std.specs.Io.KnownBytes.{Appends, Consumes, IsAtEnd, Keeps}
 use Rattle.std.proofs.KnownBytes.{Consumes-kept, Consumes-nil, Consumes-trans}
 use Rattle.std.proofs.lemmas.List.{take_at}
-use Rattle.desk_edge.specs.Transfer.{AppendsBeginning}
+use Rattle.desk_edge.specs.Transfer.{AppendsBeginning, AppendsPart}
 use Rattle.desk_http.specs.Front.{LeadsTo, last_reply, open_end}
 use Rattle.desk_http.specs.Rest.{IsNotYet, Message}
 use Rattle.desk_http.specs.Stream.{End, EndsAs, IsStream, is_ended, is_refusal}
@@ -11,8 +11,8 @@ use Rattle.desk_http.specs.Stream as stream
 use Rattle.desk_http.proofs.AnswerLemmas.{not_yet_len}
 use Rattle.desk_http.proofs.FrontLemmas.{ends_open, leads_stream}
 use Rattle.desk_front.specs.Held.{ReadMore, held_limit}
-use Rattle.desk_front.specs.Served.{EndsAsServed, Serves, ServedInPart, ServedWhole, end_served, stream_limit}
-use Rattle.desk_front.specs.Service.{BreaksOff, GoesOn, IsBroken, IsOver, LeavesSo, Outgoing, Replies, Sends, Service, service}
+use Rattle.desk_front.specs.Served.{EndsAsServed, IsWrittenInPart, Serves, ServedInPart, ServedWhole, end_served, stream_limit}
+use Rattle.desk_front.specs.Service.{AreFirst, BreaksOff, GoesOn, IsBroken, IsOver, LeavesSo, Outgoing, Replies, Sends, Service, service}
 use Rattle.desk_front.specs.declared.round.Round.TheVariants as round
 use Rattle.desk_front.specs.declared.served.Served.{Served}
 use Rattle.desk_front.specs.declared.served.Served.TheVariants as served
@@ -49,8 +49,19 @@ whole_written old new said none left x =
     subst (Appends old.written new.written)
     (sym (append-nil x.0) ∙ ap (λ l. x.0 ++ l) (sym left) ∙ sym x.1 ∙ ap (λ l. l ++ said) none) x.2
 
-part_written : (old new : Outgoing) (said : List ℕ) → old.waiting ≡ [] → BreaksOff old said new → AppendsBeginning old.written new.written said
-part_written old new said none x = subst (AppendsBeginning old.written new.written) (ap (λ l. l ++ said) none) x.0
+part_written : (old new : Outgoing) (said : List ℕ) → old.waiting ≡ [] → BreaksOff old said new → AppendsPart old.written new.written said
+part_written old new said none x = subst (AppendsPart old.written new.written) (ap (λ l. l ++ said) none) x.0
+
+beginning_of : (old new : Option (List ℕ)) (said : List ℕ) → AppendsPart old new said → AppendsBeginning old new said
+beginning_of old new said x = (x.0, x.2)
+
+-- the two ways in which a beginning of the replies was written
+in_part : (bytes : List ℕ) (requests : List Message) (said last : List ℕ) (before after : Option (List ℕ)) → AreFirst bytes requests last
+    → AppendsPart before after (said ++ last) → IsWrittenInPart bytes requests said before after
+in_part bytes requests said last before after (inl (rest, leads, none)) x =
+    inl (rest, leads, subst (AppendsBeginning before after) (ap (λ l. said ++ l) none ∙ append-nil said) (beginning_of before after (said ++ last) x))
+in_part bytes requests said last before after (inr (end, stream, ended, is)) x =
+    inr (end, stream, ended, subst (AppendsPart before after) (ap (λ l. said ++ l) is) x)
 
 all_of : (old new : Option (List ℕ)) (said : List ℕ) → Appends old new said → AppendsBeginning old new said
 all_of old new said x = (length said, subst (Appends old new) (sym (ap (take (length said)) (sym (append-nil said)) ∙ take_at said [] (length said) refl)) x)
@@ -75,11 +86,9 @@ pub broken_served : {A : Type 0} (R : A → Message → List ℕ → A → Type 
     → Serves (λ requests said. Replies R old.who requests said new.who) served.LinkFault bytes left old.out.written new.out.written
 broken_served R bytes left old new none x = record {
   requests = x.requests;
-  last = x.last;
   said = x.said;
-  first = x.are_first;
   answered = x.replies;
-  written = part_written old.out new.out (x.said ++ x.last) none x.sent;
+  written = in_part bytes x.requests x.said x.last old.out.written new.out.written x.are_first (part_written old.out new.out (x.said ++ x.last) none x.sent);
 }
 
 -- a read failed
@@ -88,12 +97,9 @@ pub unread_served : {A : Type 0} (R : A → Message → List ℕ → A → Type 
     → Serves (λ requests said. Replies R old.who requests said new.who) served.LinkFault bytes left old.out.written new.out.written
 unread_served R bytes held left old new none waits x = record {
   requests = x.requests;
-  last = [];
   said = x.said;
-  first = inl (held, x.front, refl);
   answered = x.replies;
-  written = all_of old.out.written new.out.written (x.said ++ [])
-      (subst (Appends old.out.written new.out.written) (sym (append-nil x.said)) (whole_written old.out new.out x.said none waits x.sent));
+  written = inl (held, x.front, all_of old.out.written new.out.written x.said (whole_written old.out new.out x.said none waits x.sent));
 }
 
 not_ended : (bytes rest : List ℕ) (ms : List Message) (end : End) → LeadsTo bytes ms rest → is_refusal end ≡ false → is_ended ms end ≡ false

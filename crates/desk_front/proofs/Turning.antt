@@ -1,5 +1,5 @@
 -- What a turn is, from what the calls that make it say.
-use Rattle.std.proofs.Common.{◌≡◌, ◌≢◌, ◌⊎◌, ℕ, ◌≤◌, Bool, true, false, cond, IfErr, OnOk, List, [], ◌∷◌, ◌++◌, Option, None, Some, Result, Ok, Err, refl, sym, ap, ◌∙◌, subst, inl, inr}
+use Rattle.std.proofs.Common.{◌≡◌, ◌≢◌, ◌⊎◌, ℕ, ◌≤◌, Bool, true, false, cond, IfErr, OnOk, List, [], ◌∷◌, ◌++◌, Option, None, Some, Result, Ok, Err, is_ok, refl, sym, ap, ◌∙◌, subst, inl, inr}
 use Rattle.std.specs.List.{find}
 use Rattle.std.specs.List.{AllByRecursion}
 use Rattle.std.specs.Option.{option_and_then, option_map_or}
@@ -9,7 +9,7 @@ use Rattle.desk_text.specs.Day.{Date}
 use Rattle.desk_law.specs.declared.kind.Kind.{Kind}
 use Rattle.desk_clerk.specs.Clerk.{number_at}
 use Rattle.desk_http.specs.Query.{Pair, day_in, kind_in, pairs_of}
-use Rattle.desk_http.specs.Routes.{FromQuery, RouteRow, are_named, asked_by, asked_with, asks, behind_word, day, kind, path_of, path_taken, query_of, route_of, routes, row_of, same_method, taken_from_path, word_of}
+use Rattle.desk_http.specs.Routes.{FromQuery, RouteRow, are_named, asked_by, asked_with, asks, behind_word, day, kind, path_of, path_taken, query_of, route_of, routes, route_row, same_method, taken_from_path, path_word}
 use Rattle.desk_http.specs.declared.ask.Ask.{Ask}
 use Rattle.desk_http.specs.declared.http_fault.HttpFault.{HttpFault}
 use Rattle.desk_http.specs.declared.http_fault.HttpFault.TheVariants as cause
@@ -17,7 +17,7 @@ use Rattle.desk_http.specs.declared.http_fault.QueryKey.{QueryKey}
 use Rattle.desk_http.specs.declared.http_fault.QueryKey.TheVariants as key
 use Rattle.desk_http.specs.declared.method.Method.{Method}
 use Rattle.desk_edge.specs.Faults.{Rose}
-use Rattle.desk_history.specs.Step.{step}
+use Rattle.desk_history.specs.Step.{kept_number, step}
 use Rattle.desk_http.specs.Reply.{allow_of, fixed_reply}
 use Rattle.desk_http.specs.declared.fixed.Fixed.{Fixed}
 use Rattle.desk_http.specs.declared.fixed.Fixed.TheVariants as refusal
@@ -111,13 +111,13 @@ says_unmade old new asked close refused e left met steady =
       fixed_bytes refusal.Memory close,
     )
 
--- the store failed to keep an edit
+-- the store failed to keep an edit that is new and that no rule refuses
 pub says_failed : (old new : Standing) (made : Edit) (close : Bool) → new.whole ≡ old.whole → new.met ≡ old.met → old.faults ≤ new.faults → Rose old.faults new.faults
-    → Says old (edit made) close (fixed_reply refusal.StoreFault close) new
-says_failed old new made close left met falls rose = (
+    → (kept_number old.whole made ≡ None) × (is_ok (step old.whole made).0 ≡ true) → Says old (edit made) close (fixed_reply refusal.StoreFault close) new
+says_failed old new made close left met falls rose asked = (
   fixed refusal.StoreFault,
   [],
-  inr (inr (made, refl, refl, refl, falls, rose, (λ i. record { whole = left i; met = met i; faults = new.faults }))),
+  inr (inr (made, refl, refl, refl, falls, rose, (λ i. record { whole = left i; met = met i; faults = new.faults }), asked.0, asked.1)),
   fixed_bytes refusal.StoreFault close,
 )
 
@@ -191,14 +191,14 @@ known_at path (Some row) taken known e = at (taken_from_path row.path (behind_wo
         inside : (a b : Method × FromQuery) → Some a ≡ Some b → a ≡ b
         inside a b f = cc
 
-known_in_table : (word : List ℕ) (found : RouteRow) → row_of word ≡ Some found → found.method ≢ method.Other
-unfolding row_of
+known_in_table : (word : List ℕ) (found : RouteRow) → route_row word ≡ Some found → found.method ≢ method.Other
+unfolding route_row
 known_in_table word found e = rows_known word routes found table_known e
 
 pub allows_known : (sent : Method) (target : List ℕ) (allowed : Method) → route_of sent target ≡ Err (cause.WrongMethod allowed) → allowed ≢ method.Other
 unfolding route_of
 allows_known sent target allowed e =
-    at (path_taken (path_of target)) e (λ taken f. known_at (path_of target) (row_of (word_of (path_of target))) taken (known_in_table (word_of (path_of target))) f)
+    at (path_taken (path_of target)) e (λ taken f. known_at (path_of target) (route_row (path_word (path_of target))) taken (known_in_table (path_word (path_of target))) f)
   where
     at : (taken : Option (Method × FromQuery)) → option_map_or (asked_with sent (pairs_of (query_of target))) taken (Err cause.NoRoute) ≡ Err (cause.WrongMethod allowed)
         → ((t : Method × FromQuery) → taken ≡ Some t → t.0 ≢ method.Other) → allowed ≢ method.Other

@@ -1,11 +1,10 @@
 -- How the serving of a stream ends, and what was written then.
 use Rattle.std.specs.Prelude.{◌≡◌, ◌≢◌, ℕ, ◌<◌, ◌^◌, ◌⊎◌, false, List, [], ◌∷◌, ◌++◌, IsTrue, Option, length}
 use Rattle.std.specs.Io.KnownBytes.{Appends, IsAtEnd}
-use Rattle.desk_edge.specs.Transfer.{AppendsBeginning}
-use Rattle.desk_http.specs.Front.{last_reply}
+use Rattle.desk_edge.specs.Transfer.{AppendsBeginning, AppendsPart}
+use Rattle.desk_http.specs.Front.{LeadsTo, last_reply}
 use Rattle.desk_http.specs.Rest.{Message}
 use Rattle.desk_http.specs.Stream.{End, IsStream, clean, cut, is_ended}
-use Rattle.desk_front.specs.Service.{AreFirst}
 use Rattle.desk_front.specs.declared.served.Served.{Served}
 use Rattle.desk_front.specs.declared.served.Served.TheVariants.{Ended, Cut, TooLong, LinkFault, OutOfMemory}
 
@@ -38,14 +37,19 @@ pub record ServedWhole (Answered : List Message → List ℕ → Type 0) (served
   pub written : Appends before after (said ++ last_reply end)
   pub ends : EndsAsServed served bytes requests end left
 
+-- the requests are the first of every stream that begins with these bytes, and none of them closes: a beginning of their replies was
+-- written; or they are all of it, and its end closes: then a part was written of their replies and of what is said last, not all
+abbrev pub IsWrittenInPart : List ℕ → List Message → List ℕ → Option (List ℕ) → Option (List ℕ) → Type 0
+IsWrittenInPart bytes requests said before after =
+    ((rest : List ℕ) × LeadsTo bytes requests rest × AppendsBeginning before after said)
+    ⊎ ((end : End) × IsStream bytes requests end × IsTrue (is_ended requests end) × AppendsPart before after (said ++ last_reply end))
+
 -- The link failed. The first requests of the stream are answered, and what was written is a beginning of their replies.
 pub record ServedInPart (Answered : List Message → List ℕ → Type 0) (bytes : List ℕ) (before after : Option (List ℕ)) : Type 0 where
   pub requests : List Message
-  pub last : List ℕ
   pub said : List ℕ
-  pub first : AreFirst bytes requests last
   pub answered : Answered requests said
-  pub written : AppendsBeginning before after (said ++ last)
+  pub written : IsWrittenInPart bytes requests said before after
 
 -- what came of serving a stream
 abbrev pub Serves : (List Message → List ℕ → Type 0) → Served → List ℕ → Option (List ℕ) → Option (List ℕ) → Option (List ℕ) → Type 0

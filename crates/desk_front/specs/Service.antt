@@ -3,7 +3,7 @@
 use Rattle.std.specs.Prelude.{◌≡◌, ℕ, ◌<◌, ◌≤◌, ◌⊎◌, List, [], ◌∷◌, ◌++◌, IsTrue, Option, drop, length}
 use Rattle.std.specs.Io.KnownBytes.{Appends}
 use Rattle.desk_edge.specs.Faults.{Rose}
-use Rattle.desk_edge.specs.Transfer.{AppendsBeginning}
+use Rattle.desk_edge.specs.Transfer.{AppendsPart}
 use Rattle.desk_http.specs.Front.{LeadsTo, last_reply}
 use Rattle.desk_http.specs.Rest.{IsNotYet, Message}
 use Rattle.desk_http.specs.Stream.{End, IsStream, is_ended}
@@ -23,10 +23,10 @@ abbrev pub Sends : Outgoing → List ℕ → Outgoing → Type 0
 Sends old said new =
     (sent : List ℕ) × (old.waiting ++ said ≡ sent ++ new.waiting) × Appends old.written new.written sent × (new.faults ≡ old.faults)
 
--- the link counted a fault before all of these bytes were written
+-- the link counted a fault before all of these bytes were written: a part of them was, and not all
 abbrev pub BreaksOff : Outgoing → List ℕ → Outgoing → Type 0
 BreaksOff old said new =
-    AppendsBeginning old.written new.written (old.waiting ++ said) × (old.faults ≤ new.faults) × Rose old.faults new.faults
+    AppendsPart old.written new.written (old.waiting ++ said) × (old.faults ≤ new.faults) × Rose old.faults new.faults
 
 -- the requests are answered in order by these bytes
 abbrev pub Replies : {A : Type 0} → (A → Message → List ℕ → A → Type 0) → A → List Message → List ℕ → A → Type 0
@@ -67,7 +67,7 @@ AreFirst bytes requests last =
     ((rest : List ℕ) × LeadsTo bytes requests rest × (last ≡ []))
     ⊎ ((end : End) × IsStream bytes requests end × IsTrue (is_ended requests end) × (last ≡ last_reply end))
 
--- the link failed: the first requests are answered, and what was written is a beginning of the replies
+-- the link failed: the first requests are answered, and what was written is a part of the replies, not all
 pub record IsBroken {A : Type 0} (R : A → Message → List ℕ → A → Type 0) (bytes : List ℕ) (old new : Service A) : Type 0 where
   pub requests : List Message
   pub last : List ℕ

@@ -1,5 +1,5 @@
 -- One connection that has a clerk to itself, turn by turn: each answer is at the whole list of its moment.
-use Rattle.std.specs.Prelude.{◌≡◌, ◌≢◌, ℕ, ◌≤◌, ◌⊎◌, true, List, [], ◌∷◌, ◌++◌, Option, None, Some, Bool}
+use Rattle.std.specs.Prelude.{◌≡◌, ◌≢◌, ℕ, ◌≤◌, ◌⊎◌, is_ok, true, List, [], ◌∷◌, ◌++◌, Option, None, Some, Bool}
 use Rattle.std.specs.List.{AllByRecursion}
 use Rattle.desk_clerk.specs.Clerk.{number_at}
 use Rattle.desk_edge.specs.Faults.{Rose}
@@ -51,11 +51,12 @@ LacksMemory old asked reply added new =
     ⊎ ((made : Edit) × (asked ≡ edit made) × (is_edit_in_form made ≡ true) × (added ≡ added_at old.whole made)
     × (new ≡ record old { whole = (step old.whole made).1 })))
 
--- the store failed to keep an edit: its count rose in this turn, and nothing else has changed
+-- the store failed to keep an edit that is new and that no rule refuses: its count rose in this turn, and nothing else has changed
 abbrev pub FailsToKeep : Standing → Asked → Reply → List Edit → Standing → Type 0
 FailsToKeep old asked reply added new =
     (made : Edit) × (asked ≡ edit made) × (reply ≡ fixed refusal.StoreFault) × (added ≡ [])
     × (old.faults ≤ new.faults) × Rose old.faults new.faults × (new ≡ record old { faults = new.faults })
+    × (kept_number old.whole made ≡ None) × (is_ok (step old.whole made).0 ≡ true)
 
 -- a turn: what is asked gets this reply, and these edits are added to the list
 abbrev pub Turn : Standing → Asked → Reply → List Edit → Standing → Type 0

@@ -64,6 +64,7 @@ returns-in-Err-KeeperFault-clause-fixed g c =
     let new : Standing = record { whole = whole c.submit.new.self; met = c.args.met.now; faults = g.K.Keeper.faults (keeper_of c.submit.new.self) } in
     says_failed old new c.args.edit c.args.close c.in-Err-KeeperFault.ensures.err refl c.submit.ensures.never_falls
     (c.in-Err-KeeperFault.ensures.failed (sym_fault c.in-Err-KeeperFault.field-0 c.in-Err-KeeperFault.field-0-is))
+    (c.in-Err-KeeperFault.ensures.asked (sym_fault c.in-Err-KeeperFault.field-0 c.in-Err-KeeperFault.field-0-is))
 
 pub returns-clause-fixed : goal.returns-clause-fixed
 returns-clause-fixed g c =
