@@ -6,7 +6,7 @@ use Rattle.desk_edge.specs.Content.{Content, IsSame}
 use Rattle.desk_edge.specs.Faults.{Rose}
 use Rattle.desk_edge.specs.Transfer.{AppendsBeginning}
 use Rattle.desk_records.specs.Records.{tables_content}
-use Rattle.desk_top.specs.Answer.{Answer, Answers, answer_to_store_fault, answer_without_memory, status_code}
+use Rattle.desk_top.specs.Answer.{Answer, Answers, answer_to_failed_reading, answer_to_store_fault, answer_without_memory, status_code}
 use Rattle.desk_top.specs.Console.{Console}
 use Rattle.desk_top.specs.Import.{EndsImport, IsRefusal}
 use Rattle.desk_top.specs.declared.status.Status.{Status}
@@ -23,7 +23,9 @@ refusal_as Told Tells a b faults console answer tells same (inr (inl (is, none, 
 refusal_as Told Tells a b faults console answer tells same (inr (inr (inl (line, is, none, bytes, read, damaged)))) =
     inr (inr (inl (line, is, (λ told key. sym (same told key) ∙ none (tells told) key), bytes, read, damaged)))
 refusal_as Told Tells a b faults console answer tells same (inr (inr (inr (inl failed)))) = inr (inr (inr (inl failed)))
-refusal_as Told Tells a b faults console answer tells same (inr (inr (inr (inr memory)))) = inr (inr (inr (inr memory)))
+refusal_as Told Tells a b faults console answer tells same (inr (inr (inr (inr (inl memory))))) = inr (inr (inr (inr (inl memory))))
+refusal_as Told Tells a b faults console answer tells same (inr (inr (inr (inr (inr (is, none)))))) =
+    inr (inr (inr (inr (inr (is, λ told key. sym (same told key) ∙ none (tells told) key)))))
 
 pub import_as : (Told Tells : Type 0) (a b c d : Content) (faults ended : ℕ) (console : Console) (rose : Type 0)
     → (Told → Tells) → (Told → IsSame a b) → (Told → IsSame c d)
@@ -38,10 +40,12 @@ import_as Told Tells a b c d faults ended console rose tells same given (inl was
   empty = λ told key. sym (same told key) ∙ was.empty (tells told) key;
   closed = λ told. same_trans (tables_content was.tables) c d (was.closed (tells told)) (given told);
   told = was.told;
+  status = was.status;
 }
 import_as Told Tells a b c d faults ended console rose tells same given (inr was) = inr record {
   answer = was.answer;
   cause = refusal_as Told Tells a b faults console was.answer tells same was.cause;
+  status = was.status;
   told = was.told;
   closed = λ told. same_trans a c d (same_trans a b c (same told) (was.closed (tells told))) (given told);
 }
@@ -58,6 +62,7 @@ not_lent Told Tells lost kept keeps ended console rose (inl is) failed store_lin
   inr record {
     answer = answer_to_store_fault;
     cause = inr (inr (inr (inl (refl, search (arith)))));
+    status = ap status_code is;
     told = store_line is;
     closed = λ tells. (others tells).1;
   },
@@ -68,7 +73,8 @@ not_lent Told Tells lost kept keeps ended console rose (inr is) failed store_lin
   0,
   inr record {
     answer = answer_without_memory;
-    cause = inr (inr (inr (inr refl)));
+    cause = inr (inr (inr (inr (inl refl))));
+    status = ap status_code is;
     told = memory_line is;
     closed = λ tells. (others tells).1;
   },
@@ -94,9 +100,9 @@ refused_line answer ended old new rose is told steady beginning = rw told record
 }
 
 -- where the console failed while it was read, nothing was written
-pub unwritten : (old new : Option (List ℕ)) (rose : Type 0) → new ≡ old → rose → Answers answer_without_memory (status_code status.ConsoleFault) old new rose
+pub unwritten : (old new : Option (List ℕ)) (rose : Type 0) → new ≡ old → rose → Answers answer_to_failed_reading (status_code status.ConsoleFault) old new rose
 unwritten old new rose stays rise = record {
-  status = inr (inl refl);
+  status = inl refl;
   whole = λ other. cc other;
   steady = λ none. absurd (none rise);
   beginning = (0, subst (λ (o : Option (List ℕ)). Appends old o []) (sym stays) (Appends-nil old));

@@ -58,7 +58,8 @@ module _ (console : Console) (rose : Type 0) (stays : console.left ≡ console.u
     0,
     inr record {
       answer = answer_without_memory;
-      cause = inr (inr (inr (inr refl)));
+      cause = inr (inr (inr (inr (inl refl))));
+      status = refl;
       told = told;
       closed = λ tells key. refl;
     },

@@ -1,5 +1,5 @@
 -- What the program answers: how it ends, and all that it writes.
-use Rattle.std.specs.Prelude.{◌≡◌, ℕ, ◌⊎◌, if◌then◌else◌, ◌==◌, List, ◌++◌, codes, decimal, Option, None, Some, Result, Ok, Err}
+use Rattle.std.specs.Prelude.{◌≡◌, ℕ, ◌⊎◌, if◌then◌else◌, ◌==◌, List, [], ◌++◌, codes, decimal, Option, None, Some, Result, Ok, Err}
 use Rattle.std.specs.Io.KnownBytes.{Appends, Keeps}
 use Rattle.desk_edge.specs.Transfer.{AppendsBeginning, AppendsPart}
 use Rattle.desk_text.specs.Day.{Date}
@@ -75,6 +75,10 @@ answer_to_damaged_line line = record { status = Refused; text = codes "refused d
 -- the answer where there was no memory
 abbrev pub answer_without_memory : Answer
 answer_without_memory = record { status = OutOfMemory; text = codes "desk: memory\n" }
+
+-- the answer where the console failed while it was read: nothing is written
+abbrev pub answer_to_failed_reading : Answer
+answer_to_failed_reading = record { status = ConsoleFault; text = [] }
 
 -- the answer where the store refused a call
 abbrev pub answer_to_store_fault : Answer

@@ -1,7 +1,8 @@
 -- What the program does for each command.
-use Rattle.std.specs.Prelude.{◌≡◌, ℕ, ◌+◌, ◌≤◌, List, length, Option, None, Some}
+use Rattle.std.specs.Prelude.{◌≡◌, ◌≢◌, ℕ, ◌+◌, ◌≤◌, List, length, Option, None, Some}
 use Rattle.std.specs.Io.KnownBytes.{Consumes, IsAtEnd}
-use Rattle.desk_edge.specs.Content.{Content}
+use Rattle.std.specs.Option.{option_and_then}
+use Rattle.desk_edge.specs.Content.{Content, IsSame}
 use Rattle.desk_top.specs.Answer.{Answers, IsInput, answer_to_check, status_code}
 use Rattle.desk_top.specs.Check.{input_limit}
 use Rattle.desk_top.specs.Console.{Console}
@@ -11,6 +12,7 @@ use Rattle.desk_top.specs.Sample.{answer_to_sample}
 use Rattle.desk_top.specs.Session.{EndsSession, nothing_kept}
 use Rattle.desk_top.specs.Store.{OnStore}
 use Rattle.desk_top.specs.declared.status.Status.TheVariants.{Done, ConsoleFault}
+use Rattle.desk_words.specs.Commands.{command_of}
 use Rattle.desk_words.specs.declared.command.Check.{Check}
 use Rattle.desk_words.specs.declared.command.Command.{Command}
 use Rattle.desk_words.specs.declared.command.Command.TheVariants as asked
@@ -44,3 +46,19 @@ Does Told Tells kept keeps lost (asked.Import import) ended c rose = OnStore Tol
 Does Told Tells kept keeps lost (asked.Audit audit) ended c rose = OnStore Told Tells kept keeps lost (EndsAudit audit.day) audit.store ended c rose
 Does Told Tells kept keeps lost (asked.Sample sample) ended c rose =
     IsWritten (λ c. Answers (answer_to_sample sample.size) ended c.before c.after rose) c
+
+-- the name of the store that a command is for, if it is for one
+abbrev pub store_of : Command → Option (List ℕ)
+store_of (asked.Session session) = session.store
+store_of (asked.Export export) = Some export.store
+store_of (asked.Import import) = Some import.store
+store_of (asked.Audit audit) = Some audit.store
+store_of _ = None
+
+-- the name of the store that these words are for, if they are a command that is for one
+abbrev pub store_in : List (List ℕ) → Option (List ℕ)
+store_in words = option_and_then store_of (command_of words)
+
+-- No store but the one of this name changes: of which the shelf tells what they keep after, it told before, and they keep the same.
+abbrev pub OthersStay : Option (List ℕ) → (Told Tells : List ℕ → Type 0) → (kept keeps : List ℕ → Content) → Type 0
+OthersStay named Told Tells kept keeps = (other : List ℕ) → named ≢ Some other → Tells other → Told other × IsSame (kept other) (keeps other)

@@ -13,7 +13,7 @@ use crate::tell::{answer_no_memory, tell, write_text};
 use desk_declare::{DeclareFault, read_declaration};
 use desk_edge::{Link, ReadFault, read_up_to};
 use desk_model::Edit;
-use desk_scratch::{Asked, check_text};
+use desk_scratch::{KindOnDay, check_text};
 use desk_tables::Tables;
 use desk_text::{Bytes, OutOfMemory};
 use desk_words::Check;
@@ -158,7 +158,7 @@ fn check_edit(alloc: Global, check: &Check, edit: &Edit) -> Result<Bytes, CheckF
         unreachable!()
     };
     let tables = Tables::start(alloc)?;
-    let asked = Asked {
+    let asked = KindOnDay {
         kind: check.kind,
         day: check.day,
     };

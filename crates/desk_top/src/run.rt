@@ -2,7 +2,7 @@ ghost use Rattle.std.specs.Prelude.{◌≡◌, ◌≢◌, ◌⊎◌, ◌≤◌, 
 ghost use Rattle.desk_edge.specs.Faults.{Rose};
 ghost use Rattle.desk_top.specs.Answer.{Answers, answer_to_other_words, answer_to_unread_words, status_code};
 ghost use Rattle.desk_top.specs.Console.{console_of};
-ghost use Rattle.desk_top.specs.Run.{Does};
+ghost use Rattle.desk_top.specs.Run.{Does, OthersStay, store_in, store_of};
 ghost use Rattle.desk_words.specs.Commands.{HasBounds, command_of};
 
 use crate::audit::answer_audit;
@@ -45,6 +45,10 @@ pub fn run<R: Wait + Sync + Threads, L: Link, S: Shelf>(
         command result
         (console_of (L.unread console.old) (L.unread console.new) (L.written console.old) (L.written console.new)) (Rose (L.faults console.old) (L.faults console.new)) }
     ensures known { (status : Status) × (result ≡ status_code status) }
+
+    // No store but the one that the words name is changed, and where they name none the shelf stays as it is.
+    ensures others { OthersStay (store_in (map string_bytes words.now.items)) (S.Tells shelf.old) (S.Tells shelf.new) (S.content shelf.old) (S.content shelf.new) }
+    ensures shelf_stays { store_in (map string_bytes words.now.items) ≡ None → shelf.new ≡ shelf.old }
     ensures console_fault { result ≡ status_code Status.ConsoleFault → Rose (L.faults console.old) (L.faults console.new) }
     ensures no_fault { result ≡ status_code Status.Done → L.faults console.new ≡ L.faults console.old }
     ensures never_falls { L.faults console.old ≤ L.faults console.new }
@@ -68,6 +72,8 @@ fn follow<R: Wait + Sync, L: Link, S: Shelf>(
     ensures command { Does (S.Tells shelf.old) (S.Tells shelf.new) (S.content shelf.old) (S.content shelf.new) (Rose (S.faults shelf.old) (S.faults shelf.new))
         command.now (status_code result)
         (console_of (L.unread console.old) (L.unread console.new) (L.written console.old) (L.written console.new)) (Rose (L.faults console.old) (L.faults console.new)) }
+    ensures others { OthersStay (store_of command.now) (S.Tells shelf.old) (S.Tells shelf.new) (S.content shelf.old) (S.content shelf.new) }
+    ensures shelf_stays { store_of command.now ≡ None → shelf.new ≡ shelf.old }
     ensures words { result ≢ Status.BadWords }
     ensures console_fault { result ≡ Status.ConsoleFault → Rose (L.faults console.old) (L.faults console.new) }
     ensures no_fault { result ≡ Status.Done → L.faults console.new ≡ L.faults console.old }
@@ -96,6 +102,7 @@ pub fn launch<R: Wait + Sync + Threads, L: Link, S: Shelf>(
     ensures unread_answer { IfErr words (λ fault. Answers (answer_to_unread_words fault) result
         (L.written console.old) (L.written console.new) (Rose (L.faults console.old) (L.faults console.new))) }
     ensures unread_input { IfErr words (λ fault. L.unread console.new ≡ L.unread console.old) }
+    ensures unread_shelf { IfErr words (λ fault. shelf.new ≡ shelf.old) }
 
     // Words that were read are answered as `run` does.
     ensures bad_words { IfOk words (λ words. result ≡ status_code Status.BadWords → command_of (map string_bytes words.items) ≡ None) }
@@ -107,6 +114,8 @@ pub fn launch<R: Wait + Sync + Threads, L: Link, S: Shelf>(
         → Does (S.Tells shelf.old) (S.Tells shelf.new) (S.content shelf.old) (S.content shelf.new) (Rose (S.faults shelf.old) (S.faults shelf.new))
         command result
         (console_of (L.unread console.old) (L.unread console.new) (L.written console.old) (L.written console.new)) (Rose (L.faults console.old) (L.faults console.new))) }
+    ensures others { IfOk words (λ words. OthersStay (store_in (map string_bytes words.items)) (S.Tells shelf.old) (S.Tells shelf.new) (S.content shelf.old) (S.content shelf.new)) }
+    ensures shelf_stays { IfOk words (λ words. store_in (map string_bytes words.items) ≡ None → shelf.new ≡ shelf.old) }
     ensures known { (status : Status) × (result ≡ status_code status) }
     ensures console_fault { result ≡ status_code Status.ConsoleFault → Rose (L.faults console.old) (L.faults console.new) }
     ensures no_fault { result ≡ status_code Status.Done → L.faults console.new ≡ L.faults console.old }

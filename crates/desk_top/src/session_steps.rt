@@ -3,7 +3,7 @@
 ghost use Rattle.std.specs.Prelude.{◌≤◌};
 
 use crate::run::run;
-use desk_edge::{MapShelf, MemoryLink};
+use desk_edge::{Link, MapShelf, MemoryLink, Shelf};
 use desk_text::Bytes;
 use std::alloc::Global;
 use std::fmt::Write;
@@ -78,6 +78,18 @@ pub(crate) fn outcome<R: Wait + Sync + Threads>(
     outcome_over(rt, alloc, words, console, shelf)
 }
 
+/// The status of a command. It has no clause, and is written for any console and shelf, so that the proof of a test doesn't
+/// carry what a command does.
+pub(crate) fn status_of<R: Wait + Sync + Threads, L: Link, S: Shelf>(
+    rt: &R,
+    alloc: Global,
+    words: &Vec<String>,
+    console: &mut L,
+    shelf: &mut S,
+) -> u8 {
+    run(rt, alloc, words, console, shelf)
+}
+
 /// The status of a command over this console, and what it writes.
 pub(crate) fn outcome_over<R: Wait + Sync + Threads>(
     rt: &R,
@@ -90,7 +102,7 @@ pub(crate) fn outcome_over<R: Wait + Sync + Threads>(
     for word in words {
         list.push(word.to_string(alloc)?)?;
     }
-    let status = run(rt, alloc, &list, &mut console, shelf);
+    let status = status_of(rt, alloc, &list, &mut console, shelf);
     Ok((status, console.written().to_vec(alloc)?))
 }
 
