@@ -114,14 +114,26 @@ fn is_damaged_at<R: Wait + Sync>(
     key: (u8, &str),
 ) -> Result<bool, Fail> {
     let keeper = store(alloc, records, Vec::new(alloc))?;
-    let Err(refused) = Clerk::open(rt, alloc, keeper) else {
+    let Some(refused) = refusal(rt, alloc, keeper) else {
         return Ok(false);
     };
-    match &refused.fault {
+    match &refused.0 {
         OpenFault::Damaged { kind, code } => {
             Ok(*kind == key.0 && code.as_slice() == key.1.as_bytes())
         }
         _ => Ok(false),
+    }
+}
+
+/// Why the keeper's desk isn't opened, and the keeper.
+fn refusal<R: Wait + Sync, K: Keeper + Drop>(
+    rt: &R,
+    alloc: Global,
+    keeper: K,
+) -> Option<(OpenFault, K)> {
+    match Clerk::open(rt, alloc, keeper) {
+        Ok(_) => None,
+        Err(refused) => Some((refused.fault, refused.keeper)),
     }
 }
 
@@ -135,20 +147,24 @@ fn a_damaged_store_is_told_by_a_key(rt: HostRuntime) -> Result<(), Fail> {
 }
 
 /// A clerk over this store.
-fn opened<R: Wait + Sync>(
+fn opened<R: Wait + Sync, K: Keeper + Drop>(
     rt: &R,
     alloc: Global,
-    keeper: MapKeeper,
-) -> Result<Clerk<MapKeeper>, Fail> {
+    keeper: K,
+) -> Result<Clerk<K>, Fail> {
     match Clerk::open(rt, alloc, keeper) {
         Ok(clerk) => Ok(clerk),
         Err(_) => Err(Fail::new("not opened")),
     }
 }
 
-/// The count of the first line of a store whose order isn't that of the tables.
-fn first_count<R: Wait + Sync>(rt: &R, alloc: Global) -> Result<Option<u32>, Fail> {
-    let clerk = opened(rt, alloc, store(alloc, &REORDERED, Vec::new(alloc))?)?;
+/// The count of the first line of the keeper's desk.
+fn first_count<R: Wait + Sync, K: Keeper + Drop>(
+    rt: &R,
+    alloc: Global,
+    keeper: K,
+) -> Result<Option<u32>, Fail> {
+    let clerk = opened(rt, alloc, keeper)?;
     match clerk.tables().lines().first() {
         Some(line) => Ok(Some(line.count)),
         None => Ok(None),
@@ -157,15 +173,16 @@ fn first_count<R: Wait + Sync>(rt: &R, alloc: Global) -> Result<Option<u32>, Fai
 
 #[test]
 fn a_store_in_another_order_is_opened(rt: HostRuntime) -> Result<(), Fail> {
-    assert_eq!(rt; first_count(&rt, rt.alloc())?, Some(1));
+    let keeper = store(rt.alloc(), &REORDERED, Vec::new(rt.alloc()))?;
+    assert_eq!(rt; first_count(&rt, rt.alloc(), keeper)?, Some(1));
     Ok(())
 }
 
 /// The number that the edit gets, or none where the keeper failed.
-fn submitted<R: Wait + Sync>(
+fn submitted<R: Wait + Sync, K: Keeper>(
     rt: &R,
     alloc: Global,
-    clerk: &mut Clerk<MapKeeper>,
+    clerk: &mut Clerk<K>,
     code: &str,
     text: &str,
 ) -> Result<Option<u64>, Fail> {
@@ -179,10 +196,10 @@ fn submitted<R: Wait + Sync>(
 }
 
 /// Whether each edit gets its number.
-fn are_numbered<R: Wait + Sync>(
+fn are_numbered<R: Wait + Sync, K: Keeper>(
     rt: &R,
     alloc: Global,
-    clerk: &mut Clerk<MapKeeper>,
+    clerk: &mut Clerk<K>,
 ) -> Result<bool, Fail> {
     for (number, code, text) in EDITS {
         if submitted(rt, alloc, clerk, code, text)? != Some(number) {
@@ -193,10 +210,10 @@ fn are_numbered<R: Wait + Sync>(
 }
 
 /// Whether each edit fails at first, without being entered, and gets its number when it is sent again.
-fn are_entered_once<R: Wait + Sync>(
+fn are_entered_once<R: Wait + Sync, K: Keeper>(
     rt: &R,
     alloc: Global,
-    clerk: &mut Clerk<MapKeeper>,
+    clerk: &mut Clerk<K>,
 ) -> Result<bool, Fail> {
     for (number, code, text) in EDITS {
         let failed = submitted(rt, alloc, clerk, code, text)?.is_none();
@@ -210,14 +227,14 @@ fn are_entered_once<R: Wait + Sync>(
     Ok(true)
 }
 
-/// How many records a store has at each edit of which the keeper failed once, where each edit gets its number once it is
-/// kept, and the same number after the store was closed and opened again. The first two calls open it.
-fn records_after_faults<R: Wait + Sync>(rt: &R, alloc: Global) -> Result<Option<usize>, Fail> {
-    let mut failing = Vec::new(alloc);
-    for call in (3..41).step_by(2) {
-        failing.push(call)?;
-    }
-    let mut clerk = opened(rt, alloc, MapKeeper::new(Vec::new(alloc), failing))?;
+/// The keeper where each edit got its number once it was kept, and the same number after the store was closed and opened
+/// again.
+fn kept_after_faults<R: Wait + Sync, K: Keeper + Drop>(
+    rt: &R,
+    alloc: Global,
+    keeper: K,
+) -> Result<Option<K>, Fail> {
+    let mut clerk = opened(rt, alloc, keeper)?;
     if !are_entered_once(rt, alloc, &mut clerk)? {
         return Ok(None);
     }
@@ -226,8 +243,20 @@ fn records_after_faults<R: Wait + Sync>(rt: &R, alloc: Global) -> Result<Option<
     if !are_numbered(rt, alloc, &mut again)? || again.number() != 19 {
         return Ok(None);
     }
-    let keeper = again.close(rt);
-    Ok(Some(keeper.records().len()))
+    Ok(Some(again.close(rt)))
+}
+
+/// How many records a store has at each edit of which the keeper failed once. The first two calls open it.
+fn records_after_faults<R: Wait + Sync>(rt: &R, alloc: Global) -> Result<Option<usize>, Fail> {
+    let mut failing = Vec::new(alloc);
+    for call in (3..41).step_by(2) {
+        failing.push(call)?;
+    }
+    let keeper = MapKeeper::new(Vec::new(alloc), failing);
+    match kept_after_faults(rt, alloc, keeper)? {
+        Some(kept) => Ok(Some(kept.records().len())),
+        None => Ok(None),
+    }
 }
 
 #[test]
@@ -243,11 +272,12 @@ fn an_edit_whose_commit_fails_leaves_no_trace_and_is_kept_then(
 fn fails_at<R: Wait + Sync>(rt: &R, alloc: Global, call: u64) -> Result<bool, Fail> {
     let records = [(4, "A", "1|assembly|Frame"), (4, "B", "1|assembly|Cover")];
     let failing = Vec::from_array(alloc, [call])?;
-    let Err(refused) = Clerk::open(rt, alloc, store(alloc, &records, failing)?) else {
-        return Ok(false);
-    };
-    let is_failed = matches!(&refused.fault, OpenFault::KeeperFault);
-    Ok(is_failed && refused.keeper.faults() == 1 && refused.keeper.records().len() == 2)
+    match refusal(rt, alloc, store(alloc, &records, failing)?) {
+        Some((OpenFault::KeeperFault, keeper)) => {
+            Ok(keeper.faults() == 1 && keeper.records().len() == 2)
+        }
+        _ => Ok(false),
+    }
 }
 
 #[test]

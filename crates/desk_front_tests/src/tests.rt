@@ -1,5 +1,5 @@
 use desk_clerk::Clerk;
-use desk_edge::{MapKeeper, MemoryLink};
+use desk_edge::{Keeper, Link, MapKeeper, MemoryLink};
 use desk_front::{Served, serve_alone};
 use desk_text::Bytes;
 use std::alloc::Global;
@@ -98,11 +98,15 @@ fn talk(alloc: Global, rows: &[Row]) -> Result<(String, String), Fail> {
     Ok((stream, replies))
 }
 
-/// An empty desk.
-fn desk<R: Wait + Sync>(rt: &R, alloc: Global) -> Result<Clerk<MapKeeper>, Fail> {
-    let keeper = MapKeeper::new(Vec::new(alloc), Vec::new(alloc));
+/// How a desk over the keeper serves the link.
+fn served<R: Wait + Sync, K: Keeper + Drop, L: Link>(
+    rt: &R,
+    alloc: Global,
+    keeper: K,
+    link: &mut L,
+) -> Result<Served, Fail> {
     match Clerk::open(rt, alloc, keeper) {
-        Ok(clerk) => Ok(clerk),
+        Ok(mut clerk) => Ok(serve_alone(rt, alloc, &mut clerk, link)),
         Err(_) => Err(Fail::new("not opened")),
     }
 }
@@ -117,11 +121,11 @@ fn failing_at<R: Wait + Sync>(
     call: u64,
 ) -> Result<(Served, Bytes, String), Fail> {
     let (stream, replies) = talk(alloc, &MIXED)?;
-    let mut clerk = desk(rt, alloc)?;
+    let keeper = MapKeeper::new(Vec::new(alloc), Vec::new(alloc));
     let failing = Vec::from_array(alloc, [call])?;
     let input = Bytes::from(stream.as_bytes().to_vec(alloc)?);
     let mut link = MemoryLink::new(alloc, input, 40, 100_000, failing)?;
-    let served = serve_alone(rt, alloc, &mut clerk, &mut link);
+    let served = served(rt, alloc, keeper, &mut link)?;
     let written = Bytes::from(link.written().to_vec(alloc)?);
     Ok((served, written, replies))
 }

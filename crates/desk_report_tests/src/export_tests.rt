@@ -1,7 +1,7 @@
-use crate::outside::{DESK, bytes, link, store};
+use crate::outside::{DESK, answer_to_export, answer_to_import, bytes, link, store};
 use desk_clerk::Clerk;
-use desk_edge::MemoryLink;
-use desk_report::{ReportFault, export, import};
+use desk_edge::{Keeper, MapKeeper, MemoryLink};
+use desk_report::ReportFault;
 use desk_tables::Tables;
 use desk_text::Bytes;
 use std::alloc::Global;
@@ -24,23 +24,29 @@ fn exported_start(
 ) -> Result<(Result<u64, ReportFault>, Bytes), Fail> {
     let tables = Tables::start(alloc)?;
     let mut link = link(alloc, "", room, failing)?;
-    let answer = export(alloc, &tables, &mut link);
+    let answer = answer_to_export(alloc, &tables, &mut link);
     Ok((answer, written(alloc, &link)?))
 }
 
-/// What an export of the imported desk answers and writes.
-fn exported_again<R: Wait + Sync>(
-    rt: &R,
-    alloc: Global,
-) -> Result<(Result<u64, ReportFault>, Bytes), Fail> {
+/// A store with the small desk in it.
+fn imported(alloc: Global) -> Result<MapKeeper, Fail> {
     let mut keeper = store(alloc, &[], &[])?;
     let mut input = link(alloc, DESK, 0, &[])?;
-    import(alloc, &mut keeper, &mut input)?;
+    answer_to_import(alloc, &mut keeper, &mut input)?;
+    Ok(keeper)
+}
+
+/// What an export of the keeper's desk answers and writes.
+fn exported<R: Wait + Sync, K: Keeper + Drop>(
+    rt: &R,
+    alloc: Global,
+    keeper: K,
+) -> Result<(Result<u64, ReportFault>, Bytes), Fail> {
     let Ok(clerk) = Clerk::open(rt, alloc, keeper) else {
         return Err(Fail::new("not opened"));
     };
     let mut output = link(alloc, "", AMPLE, &[])?;
-    let answer = export(alloc, clerk.tables(), &mut output);
+    let answer = answer_to_export(alloc, clerk.tables(), &mut output);
     Ok((answer, written(alloc, &output)?))
 }
 
@@ -60,7 +66,7 @@ fn the_start_tables_are_twenty_lines(rt: HostRuntime) -> Result<(), Fail> {
 #[test]
 fn a_desk_that_was_imported_is_exported_as_it_was(rt: HostRuntime) -> Result<(), Fail> {
     let alloc = rt.alloc();
-    let (answer, written) = exported_again(&rt, alloc)?;
+    let (answer, written) = exported(&rt, alloc, imported(alloc)?)?;
     assert_eq!(rt; answer, Ok(16));
     assert_eq!(rt; written, bytes(alloc, DESK)?);
     Ok(())

@@ -2,9 +2,9 @@ ghost use Rattle.std.specs.Prelude.{◌≡◌, ◌≤◌, ℕ, List, None, IfOk,
 ghost use Rattle.std.specs.Io.KnownBytes.{ReadConsumes, WriteAppends};
 ghost use Rattle.desk_edge.specs.Faults.{Rose};
 
-use crate::outside::{DESK, Told, link, store};
+use crate::outside::{DESK, Told, answer_to_import, link, store};
 use desk_edge::{Failed, Link, MapKeeper};
-use desk_report::{ReportFault, import};
+use desk_report::ReportFault;
 use std::alloc::Global;
 use std::test::Fail;
 
@@ -59,7 +59,7 @@ fn imported(
 ) -> Result<(Result<u64, ReportFault>, MapKeeper), Fail> {
     let mut keeper = store(alloc, &[], failing.0)?;
     let mut link = link(alloc, input, 0, failing.1)?;
-    let answer = import(alloc, &mut keeper, &mut link);
+    let answer = answer_to_import(alloc, &mut keeper, &mut link);
     Ok((answer, keeper))
 }
 
@@ -87,7 +87,7 @@ fn a_store_that_has_a_record_takes_no_others(rt: HostRuntime) -> Result<(), Fail
     let mut keeper = store(alloc, &some, &[])?;
     // The link would fail at its first call.
     let mut link = link(alloc, "x", 0, &[1])?;
-    let answer = import(alloc, &mut keeper, &mut link);
+    let answer = answer_to_import(alloc, &mut keeper, &mut link);
     assert_eq!(rt; answer, Err(ReportFault::NotEmpty));
     assert_eq!(rt; keeper.records().len(), 1);
     Ok(())
@@ -139,7 +139,7 @@ impl Link for Maker {
 fn import_made(alloc: Global, len: usize) -> Result<(Result<u64, ReportFault>, usize), Fail> {
     let mut keeper = store(alloc, &[], &[])?;
     let mut maker = Maker { left: len };
-    let answer = import(alloc, &mut keeper, &mut maker);
+    let answer = answer_to_import(alloc, &mut keeper, &mut maker);
     Ok((answer, maker.left))
 }
 

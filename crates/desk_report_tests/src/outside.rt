@@ -1,4 +1,8 @@
-use desk_edge::{Change, Keeper, MapKeeper, MemoryLink, Record};
+ghost use Rattle.desk_history.specs.Sound.{Sound};
+
+use desk_edge::{Change, Keeper, Link, MapKeeper, MemoryLink, Record};
+use desk_report::{ReportFault, export, import};
+use desk_tables::Tables;
 use desk_text::{Bytes, OutOfMemory};
 use std::alloc::Global;
 use std::test::Fail;
@@ -47,4 +51,24 @@ pub(crate) fn link(
 ) -> Result<MemoryLink, Fail> {
     let input = bytes(alloc, input)?;
     Ok(MemoryLink::new(alloc, input, 7, room, failing.to_vec(alloc)?)?)
+}
+
+/// What an import from the link into the keeper answers.
+pub(crate) fn answer_to_import<K: Keeper, L: Link>(
+    alloc: Global,
+    keeper: &mut K,
+    link: &mut L,
+) -> Result<u64, ReportFault> {
+    import(alloc, keeper, link)
+}
+
+/// What an export of sound tables to the link answers.
+pub(crate) fn answer_to_export<L: Link>(
+    alloc: Global,
+    tables: &Tables,
+    link: &mut L,
+) -> Result<u64, ReportFault>
+    requires { Sound tables.now.lists }
+{
+    export(alloc, tables, link)
 }
