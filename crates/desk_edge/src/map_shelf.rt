@@ -1,7 +1,7 @@
 ghost use Rattle.std.specs.Prelude.{◌≡◌, ◌≢◌, ◌+◌, ◌<◌, ◌≤◌, ◌∷◌, [], ℕ, List, false, true, Err, IfOk, Ok, Some, IsErrOf, is_some, if◌then◌else◌, vec_capacity, vec_len};
 ghost use Rattle.std.specs.Option.{option_map_or};
 ghost use Rattle.desk_edge.specs.Content.{IsSame};
-ghost use Rattle.desk_edge.specs.Faults.{Rose};
+ghost use Rattle.desk_edge.specs.Faults.{Rose, counted};
 ghost use Rattle.desk_edge.specs.Shelves.{Shelved, content_in, is_lent, name_cmp, opened, refuses};
 ghost use Rattle.desk_edge.specs.Stores.{blank, content_of};
 ghost use Rattle.desk_rows.specs.Rows.{row_of, without_row};
@@ -63,6 +63,7 @@ impl MapShelf {
     fn count_opening(&mut self, name: &[u8]) -> Result<(), KeepFault>
         ensures answer { result ≡ (if refuses self.old name.now then Err KeepFault.Failed else Ok tt) }
         ensures stores { (self.new.stores ≡ self.old.stores) × (self.new.lent ≡ self.old.lent) }
+        ensures after { (self.new.calls ≡ counted self.old.calls) × (self.new.failing ≡ self.old.failing) }
         ensures never_falls { self.old.faults ≤ self.new.faults }
         ensures steady { refuses self.old name.now ≡ false → self.new.faults ≡ self.old.faults }
         ensures failed { refuses self.old name.now ≡ true → Rose self.old.faults self.new.faults }
@@ -155,6 +156,8 @@ impl Shelf for MapShelf {
         ensures failed { IsErrOf result KeepFault.Failed → Rose self.old.faults self.new.faults }
         ensures answer { IfOk result (λ store. store ≡ opened self.old name.now) }
         ensures refused { IsErrOf result KeepFault.Failed → refuses self.old name.now ≡ true }
+        ensures listed { refuses self.old name.now ≡ true → result ≡ Err KeepFault.Failed }
+        ensures after { (self.new.calls ≡ counted self.old.calls) × (self.new.failing ≡ self.old.failing) }
     {
         self.count_opening(name)?;
         let mut own = Bytes::start(alloc);
@@ -173,6 +176,7 @@ impl Shelf for MapShelf {
         ensures never_falls { self.old.faults ≤ self.new.faults }
         ensures steady { store.faults ≡ 0 → self.new.faults ≡ self.old.faults }
         ensures rises { 0 < store.faults → Rose self.old.faults self.new.faults }
+        ensures after { (self.new.calls ≡ self.old.calls) × (self.new.failing ≡ self.old.failing) }
     {
         self.faults = self.faults.saturating_add(u64::from(store.faults() > 0));
         let own = take_name(&mut self.lent, name);
