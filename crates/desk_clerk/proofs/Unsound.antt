@@ -14,7 +14,7 @@ use Rattle.desk_fields.specs.RowTexts.{IsRowInForm}
 use Rattle.desk_history.specs.Breaches.{IsBrokenAt}
 use Rattle.desk_history.specs.Sound.{Sound}
 use Rattle.desk_tables.specs.Gathered.{gathered}
-use Rattle.desk_tables.specs.Soundness.{IsTold}
+use Rattle.desk_tables.specs.Soundness.{NamesBreach}
 use Rattle.desk_tables.specs.declared.sound_fault.SoundFault.{SoundFault}
 use Rattle.desk_tables.specs.declared.sound_fault.SoundFault.TheVariants as sound_fault
 use Rattle.desk_records.specs.Records.{record_of, tables_content}
@@ -39,7 +39,7 @@ not_memory : (kind : ℕ) (code : List ℕ) {G : Type 0} → open_fault.OutOfMem
 not_memory kind code e = cc
 
 -- the key breaks a clause of soundness
-pub told_key : (fault : SoundFault) (kind : ℕ) (code : List ℕ) (t : Lists) → sound_as_open fault ≡ open_fault.Damaged kind code → IsTold t fault → IsBrokenAt t kind code
+pub told_key : (fault : SoundFault) (kind : ℕ) (code : List ℕ) (t : Lists) → sound_as_open fault ≡ open_fault.Damaged kind code → NamesBreach t fault → IsBrokenAt t kind code
 told_key (sound_fault.Unsound table key) kind code t e told =
     let kinds = same_table table kind key code e in
     let codes = same_key table kind key code e in
@@ -52,7 +52,7 @@ pub told_unsound : (result : Result (Unit {0}) SoundFault) (fault : SoundFault) 
 told_unsound result (sound_fault.Unsound table key) kind code t e is unsound = unsound table key is
 told_unsound result sound_fault.OutOfMemory kind code t e is unsound = not_memory kind code e
 
-form_of : (t : Lists) → AllByRecursion IsRowInForm (rows_of t) → AreInForm t
+pub form_of : (t : Lists) → AllByRecursion IsRowInForm (rows_of t) → AreInForm t
 unfolding rows_of
 form_of t all =
     let a10 = each_split IsRowInForm _ (map Ticket t.tickets) all in

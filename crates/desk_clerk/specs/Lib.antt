@@ -1,4 +1,5 @@
 pub mod Clerk
 pub mod Faults
+pub mod Laws
 pub mod Opening
 pub mod Reading

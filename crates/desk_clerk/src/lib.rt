@@ -4,6 +4,7 @@
 mod accepted;
 mod clerk;
 mod keeping;
+pub mod laws;
 mod open_fault;
 mod open_refused;
 mod opening;

@@ -96,3 +96,13 @@ kept-step t kept other number k = step_keeps t kept other number (kept_number t 
 pub kept-tables_after : (t : Lists) (kept : Edit) (number : ℕ) (edits : List Edit) → kept_number t kept ≡ Some number → kept_number (tables_after t edits) kept ≡ Some number
 kept-tables_after t kept number [] k = k
 kept-tables_after t kept number (edit ∷ edits) k = kept-tables_after (step t edit).1 kept number edits (kept-step t kept edit number k)
+
+-- an edit of accepted ones is accepted at the tables that those before it leave
+pub accepted-at : (t : Lists) (before rest : List Edit) (edit : Edit) → AreAccepted t (before ++ edit ∷ rest) → IsAccepted (tables_after t before) edit
+accepted-at t [] rest edit a = a.0
+accepted-at t (first ∷ before) rest edit a = accepted-at (step t first).1 before rest edit a.1
+
+-- the tables after all of them are those after the ones behind it
+pub after-at : (t : Lists) (before rest : List Edit) (edit : Edit) → tables_after t (before ++ edit ∷ rest) ≡ tables_after (step (tables_after t before) edit).1 rest
+after-at t [] rest edit = refl
+after-at t (first ∷ before) rest edit = after-at (step t first).1 before rest edit

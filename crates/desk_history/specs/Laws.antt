@@ -1,5 +1,5 @@
 -- Laws of the definitions. Each is the contract of a function without a body in `src/laws.rt`, so that the check proves it.
-use Rattle.std.specs.Prelude.{◌≡◌, ℕ, ◌+◌, ◌*◌, ◌≤◌, true, false, not, ◌&&◌, ◌==◌, ◌⊎◌, List, Some, None, Ok, Err, count_by, length, if◌then◌else◌}
+use Rattle.std.specs.Prelude.{◌≡◌, ℕ, ◌+◌, ◌*◌, ◌≤◌, true, false, not, ◌&&◌, ◌==◌, ◌⊎◌, List, ◌∷◌, ◌++◌, Some, None, Ok, Err, count_by, length, if◌then◌else◌}
 use Rattle.std.specs.List.{AllByRecursion, list_all}
 use Rattle.desk_text.specs.Code.{same_code}
 use Rattle.desk_law.specs.declared.rule.Rule.{Rule}
@@ -7,9 +7,10 @@ use Rattle.desk_model.specs.declared.edit.Edit.{Edit}
 use Rattle.desk_model.specs.declared.edit.Edit.TheVariants.{Ship, Unship}
 use Rattle.desk_model.specs.declared.rows.material.MaterialRow.{MaterialRow}
 use Rattle.desk_model.specs.declared.rule_fault.RuleFault.{RuleFault}
+use Rattle.desk_model.specs.EditText.{ticket_code}
 use Rattle.desk_model.specs.Effect.{entered, next_number}
 use Rattle.desk_model.specs.Forms.{is_edit_in_form}
-use Rattle.desk_model.specs.Lists.{IsOrdered, Lists, is_kept, material_row}
+use Rattle.desk_model.specs.Lists.{IsOrdered, Lists, is_kept, material_row, ticket_row}
 use Rattle.desk_model.specs.Start.{start}
 use Rattle.desk_findings.specs.Carried.{carried}
 use Rattle.desk_findings.specs.Chain.{chain}
@@ -21,7 +22,7 @@ use Rattle.desk_findings.specs.Tonnage.{shipments_in}
 use Rattle.desk_findings.specs.Totals.{year_mass}
 use Rattle.desk_history.specs.Affected.{affected, is_affected}
 use Rattle.desk_history.specs.Breaches.{IsBrokenAt, IsDecided}
-use Rattle.desk_history.specs.History.{Begins, History, IsAccepted, IsHistory, PassesRows, after, number_of, up_to}
+use Rattle.desk_history.specs.History.{Begins, History, IsAccepted, IsHistory, PassesRows, after, number_of, tables_after, up_to}
 use Rattle.desk_history.specs.Refused.{findings_full, refused, total_too_large, year_too_large}
 use Rattle.desk_history.specs.Rising.{changes_shipments, may_add_findings, may_raise_masses, may_raise_years}
 use Rattle.desk_history.specs.Sound.{IsConsistent, KeepsLimits, KeepsSums, Sound, are_numbers}
@@ -44,6 +45,14 @@ pub record AcceptedEditsAreKept : Type 0 where
   pub kept : (t : Lists) (edit : Edit) → kept_number (entered t edit) edit ≡ Some (next_number t)
   pub one_ticket : (t : Lists) (edit : Edit) → IsAccepted t edit → length (entered t edit).tickets ≡ length t.tickets + 1
   pub stays : (t : Lists) (kept other : Edit) (number : ℕ) → kept_number t kept ≡ Some number → kept_number (step t other).1 kept ≡ Some number
+
+-- each edit of a history is entered once: the tables that the edits before it leave have no ticket of its code, and those at the end keep
+-- it with the number that it got
+pub record EditsAreEnteredOnce : Type 0 where
+  pub fresh : (history : History) (before rest : List Edit) (edit : Edit) → IsHistory history → history.edits ≡ before ++ edit ∷ rest
+      → ticket_row (tables_after history.opening before) (ticket_code edit) ≡ None
+  pub kept : (history : History) (before rest : List Edit) (edit : Edit) → IsHistory history → history.edits ≡ before ++ edit ∷ rest
+      → kept_number (after history) edit ≡ Some (next_number (tables_after history.opening before))
 
 -- ticket numbers stay 1 to n, each once
 abbrev pub NumbersStayWhole : Type 0

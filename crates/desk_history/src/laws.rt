@@ -1,6 +1,6 @@
 //! Laws of the definitions in `specs/`, each proved as the contract of a function that does nothing.
 
-ghost use Rattle.desk_history.specs.Laws.{AcceptedEditsAreKept, AffectedAreListed, NumbersNamePrefixes, NumbersStayWhole, OnlyNewEditsChange, OnlySomeSumsRise, OthersStay, RefusalsAreTold, SumsDecideTheRest, TablesStayConsistent, TablesStaySound, UnsoundIsTold, YearsChangeByTheirOwn};
+ghost use Rattle.desk_history.specs.Laws.{AcceptedEditsAreKept, AffectedAreListed, EditsAreEnteredOnce, NumbersNamePrefixes, NumbersStayWhole, OnlyNewEditsChange, OnlySomeSumsRise, OthersStay, RefusalsAreTold, SumsDecideTheRest, TablesStayConsistent, TablesStaySound, UnsoundIsTold, YearsChangeByTheirOwn};
 
 /// A refused edit changes nothing, and neither does a repeated one, which gets its kept number.
 pub fn only_new_edits_change()
@@ -15,6 +15,11 @@ pub fn refusals_are_told()
 /// An accepted edit gets the next number, is kept with it from then on, and adds one ticket.
 pub fn accepted_edits_are_kept()
     ensures { AcceptedEditsAreKept }
+{}
+
+/// Each edit of a history is entered once: its ticket isn't there before it, and is kept with its number to the end.
+pub fn edits_are_entered_once()
+    ensures { EditsAreEnteredOnce }
 {}
 
 /// Ticket numbers stay 1 to n, each once, through every step.
