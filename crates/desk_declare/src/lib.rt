@@ -11,6 +11,3 @@ mod text;
 
 pub use declare_fault::DeclareFault;
 pub use read::read_declaration;
-
-#[cfg(test)]
-mod tests;

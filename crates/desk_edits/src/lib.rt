@@ -2,7 +2,6 @@
 #![tactic(auto)]
 
 mod edit_key;
-mod edit_word;
 mod from_json;
 mod json_fault;
 mod kinds;
@@ -17,6 +16,3 @@ pub use edit_key::EditKey;
 pub use json_fault::JsonFault;
 use ppm::Ppm;
 pub use read::read_edit;
-
-#[cfg(test)]
-mod tests;

@@ -6,10 +6,9 @@ mod plan_records;
 mod row_record;
 mod table_records;
 mod table_row;
-#[cfg(test)]
-mod tests;
 
 pub use desk_fields::RowFault as RecordFault;
 pub use plan_records::changes;
 pub use row_record::{read_record, write_record};
-pub use table_records::records_of;
+pub use table_records::{record_of_row, records_of};
+pub use table_row::TableRow;

@@ -1,8 +1,8 @@
 ghost use Rattle.desk_history.specs.Sound.{Sound};
 
-use crate::{RecordFault, changes, read_record, records_of, write_record};
 use desk_edge::{Change, Record};
 use desk_fields::read_edit_text;
+use desk_records::{RecordFault, changes, read_record, records_of, write_record};
 use desk_tables::Tables;
 use desk_text::{Bytes, OutOfMemory};
 use std::alloc::Global;

@@ -1,4 +1,4 @@
-use crate::read_declaration;
+use desk_declare::read_declaration;
 use desk_law::Rule;
 use desk_model::{Declaration, Edit};
 use desk_text::Bytes;

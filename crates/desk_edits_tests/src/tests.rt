@@ -1,4 +1,4 @@
-use crate::{JsonFault, read_edit};
+use desk_edits::{JsonFault, read_edit};
 use desk_model::Edit;
 use desk_text::Bytes;
 use std::alloc::{AllocError, Global};
