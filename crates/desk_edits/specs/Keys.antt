@@ -1,10 +1,7 @@
--- The words of edits and the keys of their objects, as JSON spells them.
-use Rattle.std.specs.Prelude.{ℕ, List, [], ◌∷◌, Option, find, codes}
-use Rattle.std.specs.Str.{bytes_eq}
+-- The keys of edits, as JSON spells them.
+use Rattle.std.specs.Prelude.{ℕ, List, codes}
 use Rattle.desk_edits.specs.declared.edit_key.EditKey.{EditKey}
 use Rattle.desk_edits.specs.declared.edit_key.EditKey.TheVariants as key
-use Rattle.desk_edits.specs.declared.edit_word.EditWord.{EditWord}
-use Rattle.desk_edits.specs.declared.edit_word.EditWord.TheVariants as word
 
 -- the key whose value is the edit's word
 abbrev pub word_key : List ℕ
@@ -37,27 +34,3 @@ key_name key.Day = codes "day"
 key_name key.Product = codes "product"
 key_name key.Year = codes "year"
 key_name key.Units = codes "units"
-
--- a word as an object spells it
-unfoldable pub word_name : EditWord → List ℕ
-word_name word.Substance = codes "substance"
-word_name word.Member = codes "member"
-word_name word.Part = codes "part"
-word_name word.Line = codes "line"
-word_name word.Unline = codes "unline"
-word_name word.Product = codes "product"
-word_name word.Exemption = codes "exemption"
-word_name word.Unexempt = codes "unexempt"
-word_name word.Candidate = codes "candidate"
-word_name word.Ship = codes "ship"
-word_name word.Unship = codes "unship"
-
--- each word once
-abbrev pub all_words : List EditWord
-all_words =
-    word.Substance ∷ word.Member ∷ word.Part ∷ word.Line ∷ word.Unline ∷ word.Product ∷ word.Exemption ∷ word.Unexempt
-    ∷ word.Candidate ∷ word.Ship ∷ word.Unship ∷ []
-
--- the word that a text is, if it is one
-unfoldable pub word_of : List ℕ → Option EditWord
-word_of text = find (λ w. bytes_eq (word_name w) text) all_words

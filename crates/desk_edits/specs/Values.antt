@@ -1,8 +1,7 @@
 -- What the value of an edit's key may be: a text of a form, a whole number of a range, or the kinds of equipment.
-use Rattle.std.specs.Prelude.{ℕ, Bool, true, not, ◌&&◌, ◌==◌, if◌then◌else◌, List, [], ◌∷◌, length, find, nat_lt, Option, Some, None}
+use Rattle.std.specs.Prelude.{ℕ, Bool, true, not, ◌&&◌, if◌then◌else◌, List, [], ◌∷◌, length, nat_lt, Option, Some, None}
 use Rattle.std.specs.Prelude.{option_map, option_and_then}
 use Rattle.std.specs.Result.{result_ok}
-use Rattle.std.specs.Str.{bytes_eq}
 use Rattle.serde_json.specs.Data.{Data, Items, no_items, item}
 use Rattle.serde_json.specs.Find.{as_array, as_number, as_str, as_u64}
 use Rattle.desk_text.specs.Cas.{cas_of}
@@ -10,16 +9,14 @@ use Rattle.desk_text.specs.Code.{code_of, exemption_number_of}
 use Rattle.desk_text.specs.Day.{Date, day_of}
 use Rattle.desk_text.specs.Name.{name_of}
 use Rattle.desk_law.specs.declared.annex.Annex.{Annex}
-use Rattle.desk_law.specs.declared.annex.Annex.TheVariants.{Three, Four}
 use Rattle.desk_law.specs.declared.kind.Kind.{Kind}
 use Rattle.desk_law.specs.declared.rule.Rule.{Rule}
-use Rattle.desk_law.specs.Annex.{annex_number}
+use Rattle.desk_law.specs.Annex.{annex_of}
 use Rattle.desk_law.specs.Kind.{kind_of}
 use Rattle.desk_law.specs.KindSet.{has_kind, set_of}
 use Rattle.desk_law.specs.Rule.{rule_of}
 use Rattle.desk_model.specs.declared.part_sort.PartSort.{PartSort}
-use Rattle.desk_model.specs.declared.part_sort.PartSort.TheVariants.{Article, Assembly}
-use Rattle.desk_model.specs.EditText.{sort_word}
+use Rattle.desk_model.specs.EditText.{sort_of}
 use Rattle.desk_model.specs.Forms.{are_units, is_count, is_factor, is_year}
 use Rattle.desk_model.specs.Terms.{is_ppm}
 
@@ -50,10 +47,6 @@ a_rule d = option_and_then rule_of (as_str d)
 -- a kind of equipment, by its code
 unfoldable pub a_kind : Data → Option Kind
 a_kind d = option_and_then kind_of (as_str d)
-
--- the sort of part that a text is the word of
-abbrev pub sort_of : List ℕ → Option PartSort
-sort_of text = find (λ sort. bytes_eq (sort_word sort) text) (Article ∷ Assembly ∷ [])
 
 -- the sort of a part, by its word
 unfoldable pub a_sort : Data → Option PartSort
@@ -86,10 +79,6 @@ some_units = a_number are_units
 -- a floor or a cap in ppm
 unfoldable pub a_ppm : Data → Option ℕ
 a_ppm = a_number (λ n. is_ppm (Some n))
-
--- the annex that has a number
-abbrev pub annex_of : ℕ → Option Annex
-annex_of n = find (λ annex. annex_number annex == n) (Three ∷ Four ∷ [])
 
 -- an annex, by its number
 unfoldable pub an_annex : Data → Option Annex

@@ -3,6 +3,9 @@ ghost use Rattle.desk_edits.specs.Keys.{key_name};
 
 use std::fmt;
 
+/// The key whose value is the edit's word.
+pub(crate) const WORD_KEY: &str = "edit";
+
 /// A key of an edit's object, besides `edit`, whose value is the edit's word.
 #[derive(Clone, Copy, Debug, PartialEq, Eq)]
 pub enum EditKey {

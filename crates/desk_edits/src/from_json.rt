@@ -1,6 +1,6 @@
 ghost use Rattle.std.specs.Prelude.{◌≡◌, Some, None, if◌then◌else◌};
 ghost use Rattle.serde_json.specs.View.{view};
-ghost use Rattle.desk_edits.specs.Values.{a_whole_number, annex_of, sort_of};
+ghost use Rattle.desk_edits.specs.Values.{a_whole_number};
 
 use crate::Ppm;
 use desk_law::{Annex, Kind, Rule};
@@ -95,7 +95,7 @@ impl FromJson for PartSort {
 
     #[tactic(auto, unfolding(crate::specs::Values::a_sort))]
     fn from_json(value: &Value) -> Option<PartSort> {
-        sort_of(value.as_str()?)
+        PartSort::read(value.as_str()?.as_bytes())
     }
 }
 
@@ -106,7 +106,7 @@ impl FromJson for Annex {
 
     #[tactic(auto, unfolding(crate::specs::Values::an_annex))]
     fn from_json(value: &Value) -> Option<Annex> {
-        annex_of(value.as_u64()?)
+        Annex::with_number(value.as_u64()?)
     }
 }
 
@@ -163,28 +163,4 @@ impl FromJson for Ppm {
     fn from_json(value: &Value) -> Option<Ppm> {
         Ppm::new(value.as_u64()?)
     }
-}
-
-/// The sort of part that a text is the word of.
-#[tactic(auto, unfolding(desk_model::specs::EditText::sort_word))]
-fn sort_of(text: &str) -> Option<PartSort>
-    ensures { result ≡ sort_of text.now }
-{
-    if text == "article" {
-        return Some(PartSort::Article);
-    }
-    if text == "assembly" {
-        return Some(PartSort::Assembly);
-    }
-    None
-}
-
-/// The annex that has a number.
-fn annex_of(number: u64) -> Option<Annex>
-    ensures { result ≡ annex_of number }
-{
-    [Annex::Three, Annex::Four]
-        .iter()
-        .copied()
-        .find(|annex| u64::from(annex.number()) == number)
 }

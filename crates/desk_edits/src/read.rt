@@ -1,11 +1,10 @@
 ghost use Rattle.std.specs.Prelude.{◌≡◌, ◌≢◌, ◌<◌, length, Some, None, Err, IfOk, IfErr};
 ghost use Rattle.serde_json.specs.View.{view};
-ghost use Rattle.desk_edits.specs.Edit.{edit_by, edit_of, json_of, shape_of, word_in};
-ghost use Rattle.desk_edits.specs.Shape.{made_by};
+ghost use Rattle.desk_edits.specs.Edit.{edit_by, edit_of, edit_of_word, json_of, word_in};
 
-use crate::edit_word::{EditWord, WORD_KEY};
+use crate::edit_key::WORD_KEY;
 use crate::{JsonFault, rows};
-use desk_model::Edit;
+use desk_model::{Edit, EditWord};
 use serde_json::Value;
 use std::alloc::Global;
 
@@ -19,7 +18,7 @@ pub fn read_edit(alloc: Global, bytes: &[u8]) -> Result<Edit, JsonFault>
     ensures memory { result ≡ Err JsonFault.OutOfMemory → 0 < length bytes.now }
 {
     let value = value_of(alloc, bytes)?;
-    match word_of(&value) {
+    match word_in(&value) {
         Some(word) => edit_of_word(alloc, word, &value),
         None => Err(JsonFault::NotAnEdit),
     }
@@ -42,19 +41,21 @@ fn value_of(alloc: Global, bytes: &[u8]) -> Result<Value, JsonFault>
 
 /// The word of an object's key `edit`.
 #[tactic(auto, unfolding(crate::specs::Edit::word_in))]
-fn word_of(object: &Value) -> Option<EditWord>
+fn word_in(object: &Value) -> Option<EditWord>
     ensures { result ≡ word_in (view object.now) }
 {
-    EditWord::read(object.get(WORD_KEY)?.as_str()?)
+    EditWord::read(object.get(WORD_KEY)?.as_str()?.as_bytes())
 }
 
-/// The edit of a word that an object is.
+/// The edit of a word that an object is. A declaration is none, as it comes in CSV.
+#[tactic(auto, unfolding(crate::specs::Edit::edit_of_word))]
 fn edit_of_word(alloc: Global, word: EditWord, object: &Value) -> Result<Edit, JsonFault>
-    ensures { result ≢ Err JsonFault.OutOfMemory → result ≡ made_by (shape_of word) (view object.now) }
+    ensures { result ≢ Err JsonFault.OutOfMemory → result ≡ edit_of_word word (view object.now) }
 {
     match word {
         EditWord::Substance => rows::substance(alloc, object),
         EditWord::Member => rows::member(object),
+        EditWord::Declare => Err(JsonFault::NotAnEdit),
         EditWord::Part => rows::part(alloc, object),
         EditWord::Line => rows::line(object),
         EditWord::Unline => rows::unline(object),

@@ -1,9 +1,8 @@
 ghost use Rattle.std.specs.Prelude.{◌≡◌, ◌≢◌, true, Err};
 ghost use Rattle.desk_model.specs.Terms.{are_kinds, is_ppm};
 ghost use Rattle.serde_json.specs.View.{view};
-ghost use Rattle.desk_edits.specs.Edit.{shape_of};
-ghost use Rattle.desk_edits.specs.Shape.{made_by};
-ghost use Rattle.desk_edits.specs.declared.edit_word.EditWord.TheVariants as word;
+ghost use Rattle.desk_edits.specs.Edit.{edit_of_word};
+ghost use Rattle.desk_model.specs.declared.edit_word.EditWord.TheVariants as word;
 
 use crate::shape_key::check_keys;
 use crate::value_at::{needed, needed_kinds, needed_name, optional, optional_ppm};
@@ -15,9 +14,9 @@ use serde_json::Value;
 use std::alloc::Global;
 
 /// The edit that an object of the word `substance` is.
-#[tactic(auto, unfolding(crate::specs::Edit::shape_of))]
+#[tactic(auto, unfolding(crate::specs::Edit::edit_of_word))]
 pub(crate) fn substance(alloc: Global, object: &Value) -> Result<Edit, JsonFault>
-    ensures { result ≢ Err JsonFault.OutOfMemory → result ≡ made_by (shape_of word.Substance) (view object.now) }
+    ensures { result ≢ Err JsonFault.OutOfMemory → result ≡ edit_of_word word.Substance (view object.now) }
 {
     check_keys(object, &shapes::SUBSTANCE)?;
     Ok(Edit::Substance {
@@ -29,9 +28,9 @@ pub(crate) fn substance(alloc: Global, object: &Value) -> Result<Edit, JsonFault
 }
 
 /// The edit that an object of the word `member` is.
-#[tactic(auto, unfolding(crate::specs::Edit::shape_of))]
+#[tactic(auto, unfolding(crate::specs::Edit::edit_of_word))]
 pub(crate) fn member(object: &Value) -> Result<Edit, JsonFault>
-    ensures { result ≡ made_by (shape_of word.Member) (view object.now) }
+    ensures { result ≡ edit_of_word word.Member (view object.now) }
 {
     check_keys(object, &shapes::MEMBER)?;
     Ok(Edit::Member {
@@ -43,9 +42,9 @@ pub(crate) fn member(object: &Value) -> Result<Edit, JsonFault>
 }
 
 /// The edit that an object of the word `part` is.
-#[tactic(auto, unfolding(crate::specs::Edit::shape_of))]
+#[tactic(auto, unfolding(crate::specs::Edit::edit_of_word))]
 pub(crate) fn part(alloc: Global, object: &Value) -> Result<Edit, JsonFault>
-    ensures { result ≢ Err JsonFault.OutOfMemory → result ≡ made_by (shape_of word.Part) (view object.now) }
+    ensures { result ≢ Err JsonFault.OutOfMemory → result ≡ edit_of_word word.Part (view object.now) }
 {
     check_keys(object, &shapes::PART)?;
     Ok(Edit::Part {
@@ -57,9 +56,9 @@ pub(crate) fn part(alloc: Global, object: &Value) -> Result<Edit, JsonFault>
 }
 
 /// The edit that an object of the word `line` is.
-#[tactic(auto, unfolding(crate::specs::Edit::shape_of))]
+#[tactic(auto, unfolding(crate::specs::Edit::edit_of_word))]
 pub(crate) fn line(object: &Value) -> Result<Edit, JsonFault>
-    ensures { result ≡ made_by (shape_of word.Line) (view object.now) }
+    ensures { result ≡ edit_of_word word.Line (view object.now) }
 {
     check_keys(object, &shapes::LINE)?;
     Ok(Edit::Line {
@@ -71,9 +70,9 @@ pub(crate) fn line(object: &Value) -> Result<Edit, JsonFault>
 }
 
 /// The edit that an object of the word `unline` is.
-#[tactic(auto, unfolding(crate::specs::Edit::shape_of))]
+#[tactic(auto, unfolding(crate::specs::Edit::edit_of_word))]
 pub(crate) fn unline(object: &Value) -> Result<Edit, JsonFault>
-    ensures { result ≡ made_by (shape_of word.Unline) (view object.now) }
+    ensures { result ≡ edit_of_word word.Unline (view object.now) }
 {
     check_keys(object, &shapes::UNLINE)?;
     Ok(Edit::Unline {
@@ -84,9 +83,9 @@ pub(crate) fn unline(object: &Value) -> Result<Edit, JsonFault>
 }
 
 /// The edit that an object of the word `product` is.
-#[tactic(auto, unfolding(crate::specs::Edit::shape_of))]
+#[tactic(auto, unfolding(crate::specs::Edit::edit_of_word))]
 pub(crate) fn product(object: &Value) -> Result<Edit, JsonFault>
-    ensures { result ≡ made_by (shape_of word.Product) (view object.now) }
+    ensures { result ≡ edit_of_word word.Product (view object.now) }
 {
     check_keys(object, &shapes::PRODUCT)?;
     Ok(Edit::Product {
@@ -97,9 +96,9 @@ pub(crate) fn product(object: &Value) -> Result<Edit, JsonFault>
 }
 
 /// The edit that an object of the word `unexempt` is.
-#[tactic(auto, unfolding(crate::specs::Edit::shape_of))]
+#[tactic(auto, unfolding(crate::specs::Edit::edit_of_word))]
 pub(crate) fn unexempt(object: &Value) -> Result<Edit, JsonFault>
-    ensures { result ≡ made_by (shape_of word.Unexempt) (view object.now) }
+    ensures { result ≡ edit_of_word word.Unexempt (view object.now) }
 {
     check_keys(object, &shapes::UNEXEMPT)?;
     Ok(Edit::Unexempt {
@@ -109,9 +108,9 @@ pub(crate) fn unexempt(object: &Value) -> Result<Edit, JsonFault>
 }
 
 /// The edit that an object of the word `candidate` is.
-#[tactic(auto, unfolding(crate::specs::Edit::shape_of))]
+#[tactic(auto, unfolding(crate::specs::Edit::edit_of_word))]
 pub(crate) fn candidate(object: &Value) -> Result<Edit, JsonFault>
-    ensures { result ≡ made_by (shape_of word.Candidate) (view object.now) }
+    ensures { result ≡ edit_of_word word.Candidate (view object.now) }
 {
     check_keys(object, &shapes::CANDIDATE)?;
     Ok(Edit::Candidate {
@@ -122,9 +121,9 @@ pub(crate) fn candidate(object: &Value) -> Result<Edit, JsonFault>
 }
 
 /// The edit that an object of the word `ship` is.
-#[tactic(auto, unfolding(crate::specs::Edit::shape_of))]
+#[tactic(auto, unfolding(crate::specs::Edit::edit_of_word))]
 pub(crate) fn ship(object: &Value) -> Result<Edit, JsonFault>
-    ensures { result ≡ made_by (shape_of word.Ship) (view object.now) }
+    ensures { result ≡ edit_of_word word.Ship (view object.now) }
 {
     check_keys(object, &shapes::SHIPMENT)?;
     Ok(Edit::Ship {
@@ -136,9 +135,9 @@ pub(crate) fn ship(object: &Value) -> Result<Edit, JsonFault>
 }
 
 /// The edit that an object of the word `unship` is.
-#[tactic(auto, unfolding(crate::specs::Edit::shape_of))]
+#[tactic(auto, unfolding(crate::specs::Edit::edit_of_word))]
 pub(crate) fn unship(object: &Value) -> Result<Edit, JsonFault>
-    ensures { result ≡ made_by (shape_of word.Unship) (view object.now) }
+    ensures { result ≡ edit_of_word word.Unship (view object.now) }
 {
     check_keys(object, &shapes::SHIPMENT)?;
     Ok(Edit::Unship {
@@ -150,9 +149,9 @@ pub(crate) fn unship(object: &Value) -> Result<Edit, JsonFault>
 }
 
 /// The edit that an object of the word `exemption` is.
-#[tactic(auto, unfolding(crate::specs::Edit::shape_of))]
+#[tactic(auto, unfolding(crate::specs::Edit::edit_of_word))]
 pub(crate) fn exemption(alloc: Global, object: &Value) -> Result<Edit, JsonFault>
-    ensures { result ≢ Err JsonFault.OutOfMemory → result ≡ made_by (shape_of word.Exemption) (view object.now) }
+    ensures { result ≢ Err JsonFault.OutOfMemory → result ≡ edit_of_word word.Exemption (view object.now) }
 {
     check_keys(object, &shapes::EXEMPTION)?;
     let ticket = needed(object, EditKey::Ticket)?;

@@ -7,7 +7,7 @@ ghost use Rattle.serde_json.specs.View.{view};
 ghost use Rattle.desk_edits.specs.Keys.{key_name};
 ghost use Rattle.desk_edits.specs.Shape.{by_keys, has_extra_key, is_known, is_missing, key_of, missing_key};
 
-use crate::edit_word::WORD_KEY;
+use crate::edit_key::WORD_KEY;
 use crate::value_at::value_at;
 use crate::{EditKey, JsonFault};
 use serde_json::{Map, Value};

@@ -12,14 +12,15 @@ use Rattle.desk_law.specs.Rule.{rule_code, rule_of}
 use Rattle.desk_model.specs.declared.edit.Edit.{Edit}
 use Rattle.desk_model.specs.declared.edit.Edit.TheVariants.{Substance, Member, Declare, Part, Line, Unline, Product, Exemption, Unexempt, Candidate, Ship, Unship}
 use Rattle.desk_model.specs.declared.limits.TheConstants.{COUNT_LIMIT, FIRST_SHIPMENT_YEAR, LAST_SHIPMENT_YEAR, UNITS_LIMIT, WHOLE_FACTOR}
-use Rattle.desk_model.specs.EditText.{edit_fields, edit_text, optional_field, sort_word}
+use Rattle.desk_model.specs.EditText.{edit_fields, edit_text, optional_field, sort_of, sort_word}
+use Rattle.desk_model.specs.EditWords.{edit_word_of, word_text}
 use Rattle.desk_model.specs.Forms.{are_units, is_count, is_edit_in_form, is_exemption_row, is_factor, is_optional_cas, is_year}
 use Rattle.desk_model.specs.Values.{is_code, is_name}
 use Rattle.desk_model.proofs.EditTold.{four_parts, three_parts}
-use Rattle.desk_fields.specs.declared.edit_word.EditWord.{EditWord}
-use Rattle.desk_fields.specs.declared.edit_word.EditWord.TheVariants as word
-use Rattle.desk_fields.specs.EditReading.{edit_by, edit_in, edit_of, word_of, word_text}
-use Rattle.desk_fields.specs.Forms.{a_cas, a_code, a_day, a_name, a_number, a_sort, maybe}
+use Rattle.desk_model.specs.declared.edit_word.EditWord.{EditWord}
+use Rattle.desk_model.specs.declared.edit_word.EditWord.TheVariants as word
+use Rattle.desk_fields.specs.EditReading.{edit_by, edit_in, edit_of}
+use Rattle.desk_fields.specs.Forms.{a_cas, a_code, a_day, a_name, a_number, maybe}
 use Rattle.desk_fields.specs.Reading.{Reader, both, ended, fields_of, made, one, three, two, whole}
 use Rattle.desk_fields.proofs.Codec.{IsCodec, both_codec, made_of, making, none_some, one_codec, some_same, with_rest}
 use Rattle.desk_fields.proofs.Declared.{Within, code_codec, day_codec, declared_codec, exemption_codec, name_codec, number_codec, rule_codec}
@@ -46,7 +47,7 @@ substance_codec = both_codec _ _ _ _ _ _ code_codec (both_codec _ _ _ _ _ _ name
 abbrev member_codec : IsCodec (both (one a_code) (both (one rule_of) (one (a_number 0 WHOLE_FACTOR)))) (λ x. (x.0 ∷ []) ++ ((rule_code x.1.0 ∷ []) ++ (decimal x.1.1 ∷ []))) (λ x. (is_code x.0 ≡ true) × (Unit {0} × Within 0 WHOLE_FACTOR x.1.1))
 member_codec = both_codec _ _ _ _ _ _ code_codec (both_codec _ _ _ _ _ _ rule_codec (number_codec 0 WHOLE_FACTOR (omega arith)))
 
-abbrev pub part_codec : IsCodec (both (one a_code) (both (one a_sort) (one a_name))) (λ x. (x.0 ∷ []) ++ ((sort_word x.1.0 ∷ []) ++ (x.1.1 ∷ []))) (λ x. (is_code x.0 ≡ true) × (Unit {0} × (is_name x.1.1 ≡ true)))
+abbrev pub part_codec : IsCodec (both (one a_code) (both (one sort_of) (one a_name))) (λ x. (x.0 ∷ []) ++ ((sort_word x.1.0 ∷ []) ++ (x.1.1 ∷ []))) (λ x. (is_code x.0 ≡ true) × (Unit {0} × (is_name x.1.1 ≡ true)))
 part_codec = both_codec _ _ _ _ _ _ code_codec (both_codec _ _ _ _ _ _ (one_codec _ _ _ sort_form) name_codec)
 
 abbrev pub line_codec : IsCodec (both (one a_code) (both (one a_code) (one (a_number 1 COUNT_LIMIT)))) (λ x. (x.0 ∷ []) ++ ((x.1.0 ∷ []) ++ (decimal x.1.1 ∷ []))) (λ x. (is_code x.0 ≡ true) × ((is_code x.1.0 ≡ true) × Within 1 COUNT_LIMIT x.1.1))
@@ -79,7 +80,7 @@ made_read {read = read} c make all rest b h =
 
 module _ (t : List ℕ) (good : is_code t ≡ true) (all rest : List (List ℕ)) where
   pub by_word : (w : EditWord) (e : Edit) → edit_by t w all ≡ Some (e, rest) → IsRead t w all rest e
-  unfolding edit_by word_text is_edit_in_form
+  unfolding edit_by is_edit_in_form
   by_word word.Substance e h =
       let r = made_read substance_codec (three (Substance t)) all rest e h in
       subst (IsRead t word.Substance all rest) r.3 (and_from _ _ (and_from _ _ (and_from _ _ good r.1.0) r.1.1.0) r.1.1.1, ap (λ fields. codes "substance" ∷ fields) r.2)
@@ -136,7 +137,7 @@ found {f = f} c t word_ make e a rest is same is_made by = record {
 }
 
 pub to_word : (t : List ℕ) (rest : List (List ℕ)) (e : Edit) → is_edit_in_form e ≡ true → Found t rest e
-unfolding edit_by word_text is_edit_in_form with_ticket
+unfolding edit_by is_edit_in_form with_ticket
 to_word t rest (Substance ticket code name cas) good =
     let f = four_parts (is_code ticket) (is_code code) (is_name name) (is_optional_cas cas) good in
     found substance_codec t word.Substance (three (Substance t)) (Substance ticket code name cas) (code, (name, cas)) rest (f.1, (f.2, f.3)) refl refl (λ all. refl)
@@ -202,12 +203,12 @@ ended_so (Some (a, field ∷ fields)) e h = none_some e h
 pub read_exact : (t text : List ℕ) (e : Edit) → is_code t ≡ true → edit_of t text ≡ Some e → (is_edit_in_form e ≡ true) × (text ≡ edit_text e)
 unfolding edit_of edit_in edit_text fields_of
 read_exact t text e good h =
-    let told = then_ (one word_of (fields_of text)) refl (ended_so (edit_in t (fields_of text)) e h) in
+    let told = then_ (one edit_word_of (fields_of text)) refl (ended_so (edit_in t (fields_of text)) e h) in
     (told.0, sym (join_with_byte-slice_split 9 text) ∙ ap (join_with_byte 9) told.1)
   where
-    then_ : (w : Option (EditWord × List (List ℕ))) → one word_of (fields_of text) ≡ w → option_and_then (λ w. edit_by t w.0 w.1) w ≡ Some (e, []) → (is_edit_in_form e ≡ true) × (fields_of text ≡ edit_fields e)
+    then_ : (w : Option (EditWord × List (List ℕ))) → one edit_word_of (fields_of text) ≡ w → option_and_then (λ w. edit_by t w.0 w.1) w ≡ Some (e, []) → (is_edit_in_form e ≡ true) × (fields_of text ≡ edit_fields e)
     then_ None is read = none_some (e, []) read
     then_ (Some w) is read =
-        let told = (one_codec word_of word_text (λ _. Unit {0}) word_form).exact (fields_of text) w.1 w.0 is in
+        let told = (one_codec edit_word_of word_text (λ _. Unit {0}) word_form).exact (fields_of text) w.1 w.0 is in
         let edit = by_word t good w.1 [] w.0 e read in
         (edit.0, told.1 ∙ edit.1 ∙ append-nil (edit_fields e))

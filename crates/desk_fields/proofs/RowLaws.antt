@@ -13,6 +13,7 @@ use Rattle.desk_model.specs.declared.row.Row.TheVariants.{Substance, Member, Mat
 use Rattle.desk_model.specs.declared.rows.ticket.TicketRow.{TicketRow}
 use Rattle.desk_model.specs.Declaration.{is_declaration_number}
 use Rattle.desk_model.specs.EditText.{joined}
+use Rattle.desk_model.specs.EditWords.{edit_word_of}
 use Rattle.desk_model.specs.Rows.{record_code, table_number}
 use Rattle.desk_model.proofs.EditTold.{number_small}
 use Rattle.std.specs.Result.{IsErrAnd}
@@ -21,7 +22,7 @@ use Rattle.desk_fields.specs.declared.field_fault.FieldFault.TheVariants.{Shape,
 use Rattle.desk_fields.specs.declared.row_fault.RowFault.{RowFault}
 use Rattle.desk_fields.specs.declared.row_fault.RowFault.TheVariants as row
 use Rattle.desk_fields.specs.Faults.{row_fault_of}
-use Rattle.desk_fields.specs.EditReading.{edit_in, edit_of, word_of, word_text}
+use Rattle.desk_fields.specs.EditReading.{edit_in, edit_of}
 use Rattle.desk_fields.specs.EditTexts.{IsEditText}
 use Rattle.desk_fields.specs.Forms.{a_number}
 use Rattle.desk_fields.specs.Reading.{fields_of, one}
@@ -40,7 +41,7 @@ mapped_so make None b h = none_some b h
 mapped_so make (Some a) b h = (a, refl, some_same (make a) b h)
 
 no_edit : is_some (edit_of (codes "D") []) ≡ false
-unfolding edit_of edit_in fields_of word_of word_text
+unfolding edit_of edit_in fields_of edit_word_of
 no_edit = refl
 
 -- the table's number decides

@@ -14,7 +14,7 @@ use Rattle.desk_text.specs.Number.{number_below}
 use Rattle.desk_text.proofs.Fields.{cas_reader, code_reader, day_reader, exemption_number_reader, name_reader, number_reader}
 use Rattle.desk_law.specs.declared.annex.Annex.{Annex}
 use Rattle.desk_law.specs.declared.annex.Annex.TheVariants.{Three, Four}
-use Rattle.desk_law.specs.Annex.{annex_number}
+use Rattle.desk_law.specs.Annex.{annex_number, annex_of}
 use Rattle.desk_law.specs.Kind.{kind_code, kind_of}
 use Rattle.desk_law.specs.Rule.{rule_code, rule_of}
 use Rattle.desk_law.proofs.Codes.{kind_is_spelled, kind_of-kind_code, rule_is_spelled, rule_of-rule_code}
@@ -22,15 +22,15 @@ use Rattle.desk_law.proofs.Told.{annex_told, kind_told, rule_told}
 use Rattle.desk_model.specs.declared.limits.TheConstants.{PPM_LIMIT}
 use Rattle.desk_model.specs.declared.part_sort.PartSort.{PartSort}
 use Rattle.desk_model.specs.declared.part_sort.PartSort.TheVariants.{Article, Assembly}
-use Rattle.desk_model.specs.EditText.{optional_field, optional_number, sort_word}
+use Rattle.desk_model.specs.EditText.{optional_field, optional_number, sort_of, sort_word}
 use Rattle.desk_model.specs.Forms.{is_optional_cas}
 use Rattle.desk_model.specs.Terms.{is_ppm}
 use Rattle.desk_model.specs.Values.{is_code, is_exemption_number, is_name}
 use Rattle.desk_model.proofs.EditTold.{sort_told}
-use Rattle.desk_fields.specs.declared.edit_word.EditWord.{EditWord}
-use Rattle.desk_fields.specs.declared.edit_word.EditWord.TheVariants as word
-use Rattle.desk_fields.specs.EditReading.{all_words, word_of, word_text}
-use Rattle.desk_fields.specs.Forms.{a_cas, a_code, a_day, a_name, a_number, a_sort, an_annex, an_exemption_number, annex_of, maybe}
+use Rattle.desk_model.specs.declared.edit_word.EditWord.{EditWord}
+use Rattle.desk_model.specs.declared.edit_word.EditWord.TheVariants as word
+use Rattle.desk_model.specs.EditWords.{all_words, edit_word_of, word_text}
+use Rattle.desk_fields.specs.Forms.{a_cas, a_code, a_day, a_name, a_number, an_annex, an_exemption_number, maybe}
 use Rattle.desk_fields.proofs.Codec.{IsForm, maybe_form, number_form, ok_of_some, reader_form}
 
 pub code_form : IsForm a_code (λ code. code) (λ code. is_code code ≡ true)
@@ -76,20 +76,20 @@ find_passes : {A : Type 0} (p : A → Bool) (xs : List A) (x : A) → find p xs 
 find_passes p [] x h = cc
 find_passes p (y ∷ ys) x h = passes_here p y x (p y) (find p ys) refl (find_passes p ys x) h
 
-sort_back : (sort : PartSort) → a_sort (sort_word sort) ≡ Some sort
-unfolding a_sort
+sort_back : (sort : PartSort) → sort_of (sort_word sort) ≡ Some sort
+unfolding sort_of
 sort_back Article = refl
 sort_back Assembly = refl
 
-sort_exact : (field : List ℕ) (sort : PartSort) → a_sort field ≡ Some sort → sort_word sort ≡ field
-unfolding a_sort
+sort_exact : (field : List ℕ) (sort : PartSort) → sort_of field ≡ Some sort → sort_word sort ≡ field
+unfolding sort_of
 sort_exact field sort e = (bytes_eq-Decides (sort_word sort) field).0 (find_passes (λ s. bytes_eq (sort_word s) field) (Article ∷ Assembly ∷ []) sort e)
 
-pub sort_form : IsForm a_sort sort_word (λ _. Unit {0})
+pub sort_form : IsForm sort_of sort_word (λ _. Unit {0})
 sort_form = record { back = λ sort _. sort_back sort; exact = λ field sort e. (tt, sort_exact field sort e); field = sort_told.field }
 
-word_back : (w : EditWord) → word_of (word_text w) ≡ Some w
-unfolding word_of word_text
+word_back : (w : EditWord) → edit_word_of (word_text w) ≡ Some w
+unfolding edit_word_of
 word_back word.Substance = refl
 word_back word.Member = refl
 word_back word.Declare = refl
@@ -104,7 +104,7 @@ word_back word.Ship = refl
 word_back word.Unship = refl
 
 word_is_code : (w : EditWord) → is_code (word_text w) ≡ true
-unfolding word_text code_of
+unfolding code_of
 word_is_code word.Substance = refl
 word_is_code word.Member = refl
 word_is_code word.Declare = refl
@@ -118,11 +118,11 @@ word_is_code word.Candidate = refl
 word_is_code word.Ship = refl
 word_is_code word.Unship = refl
 
-word_exact : (field : List ℕ) (w : EditWord) → word_of field ≡ Some w → word_text w ≡ field
-unfolding word_of
+word_exact : (field : List ℕ) (w : EditWord) → edit_word_of field ≡ Some w → word_text w ≡ field
+unfolding edit_word_of
 word_exact field w e = (bytes_eq-Decides (word_text w) field).0 (find_passes (λ v. bytes_eq (word_text v) field) all_words w e)
 
-pub word_form : IsForm word_of word_text (λ _. Unit {0})
+pub word_form : IsForm edit_word_of word_text (λ _. Unit {0})
 word_form = record { back = λ w _. word_back w; exact = λ field w e. (tt, word_exact field w e); field = λ w _. code_reader.field (word_text w) (word_is_code w) }
 
 -- an annex is read from its number

@@ -1,8 +1,7 @@
 -- How an edit is read from its fields. No clause of a public call speaks of these words.
-use Rattle.std.specs.Prelude.{ℕ, ◌^◌, ◌-◌, List, [], ◌∷◌, codes, drop, find, Option, option_and_then}
+use Rattle.std.specs.Prelude.{ℕ, ◌^◌, ◌-◌, List, [], ◌∷◌, codes, drop, Option, option_and_then}
 use Rattle.std.specs.Option.{unwrap_or}
 use Rattle.std.specs.Ordering.{on}
-use Rattle.std.specs.Str.{bytes_eq}
 use Rattle.std.specs.declared.cmp.Ordering.{Ordering}
 use Rattle.desk_text.specs.Code.{code_cmp}
 use Rattle.desk_law.specs.declared.claim.Claim.{Claim}
@@ -11,15 +10,17 @@ use Rattle.desk_law.specs.Kind.{kind_of}
 use Rattle.desk_law.specs.Rule.{rule_of}
 use Rattle.desk_model.specs.declared.edit.Edit.{Edit}
 use Rattle.desk_model.specs.declared.edit.Edit.TheVariants as edit
+use Rattle.desk_model.specs.declared.edit_word.EditWord.{EditWord}
+use Rattle.desk_model.specs.declared.edit_word.EditWord.TheVariants as word
 use Rattle.desk_model.specs.declared.limits.TheConstants.{CLAIM_LIMIT, CONTENT_LIMIT, COUNT_LIMIT, DECLARED_LIMIT, FIRST_SHIPMENT_YEAR}
 use Rattle.desk_model.specs.declared.limits.TheConstants.{LAST_SHIPMENT_YEAR, MASS_LIMIT, PPM_LIMIT, UNITS_LIMIT, WHOLE_FACTOR}
 use Rattle.desk_model.specs.declared.material_decl.MaterialDecl.{MaterialDecl}
 use Rattle.desk_model.specs.declared.rows.exemption.ExemptionRow.{ExemptionRow}
 use Rattle.desk_model.specs.declared.substance_mass.SubstanceMass.{SubstanceMass}
 use Rattle.desk_model.specs.Declaration.{Declared}
-use Rattle.desk_fields.specs.declared.edit_word.EditWord.{EditWord}
-use Rattle.desk_fields.specs.declared.edit_word.EditWord.TheVariants as word
-use Rattle.desk_fields.specs.Forms.{a_cas, a_code, a_day, a_name, a_number, a_sort, an_annex, an_exemption_number, maybe, some_kinds}
+use Rattle.desk_model.specs.EditText.{sort_of}
+use Rattle.desk_model.specs.EditWords.{edit_word_of}
+use Rattle.desk_fields.specs.Forms.{a_cas, a_code, a_day, a_name, a_number, an_annex, an_exemption_number, maybe, some_kinds}
 use Rattle.desk_fields.specs.Reading.{Reader, both, fields_of, five, four, made, one, nine, rising, three, two, whole}
 
 -- a substance that a material holds
@@ -73,37 +74,12 @@ exemption_behind row =
 unfoldable pub exemption_in : Reader ExemptionRow
 exemption_in fields = option_and_then (λ row. exemption_behind row.0 row.1) (one a_code fields)
 
--- the word of an edit's text
-unfoldable pub word_text : EditWord → List ℕ
-word_text word.Substance = codes "substance"
-word_text word.Member = codes "member"
-word_text word.Declare = codes "declare"
-word_text word.Part = codes "part"
-word_text word.Line = codes "line"
-word_text word.Unline = codes "unline"
-word_text word.Product = codes "product"
-word_text word.Exemption = codes "exemption"
-word_text word.Unexempt = codes "unexempt"
-word_text word.Candidate = codes "candidate"
-word_text word.Ship = codes "ship"
-word_text word.Unship = codes "unship"
-
--- each word once
-abbrev pub all_words : List EditWord
-all_words =
-    word.Substance ∷ word.Member ∷ word.Declare ∷ word.Part ∷ word.Line ∷ word.Unline ∷ word.Product ∷ word.Exemption ∷ word.Unexempt
-    ∷ word.Candidate ∷ word.Ship ∷ word.Unship ∷ []
-
--- the word that a field is
-unfoldable pub word_of : List ℕ → Option EditWord
-word_of field = find (λ w. bytes_eq (word_text w) field) all_words
-
 -- the edit of a word, under a sender's ticket
 unfoldable pub edit_by : List ℕ → EditWord → Reader Edit
 edit_by ticket word.Substance = made (three (edit.Substance ticket)) (both (one a_code) (both (one a_name) (one (maybe a_cas))))
 edit_by ticket word.Member = made (three (edit.Member ticket)) (both (one a_code) (both (one rule_of) (one (a_number 0 WHOLE_FACTOR))))
 edit_by ticket word.Declare = made edit.Declare declared_in
-edit_by ticket word.Part = made (three (edit.Part ticket)) (both (one a_code) (both (one a_sort) (one a_name)))
+edit_by ticket word.Part = made (three (edit.Part ticket)) (both (one a_code) (both (one sort_of) (one a_name)))
 edit_by ticket word.Line = made (three (edit.Line ticket)) (both (one a_code) (both (one a_code) (one (a_number 1 COUNT_LIMIT))))
 edit_by ticket word.Unline = made (two (edit.Unline ticket)) (both (one a_code) (one a_code))
 edit_by ticket word.Product = made (two (edit.Product ticket)) (both (one a_code) (one kind_of))
@@ -117,7 +93,7 @@ edit_by ticket word.Unship =
 
 -- an edit, behind its word
 unfoldable pub edit_in : List ℕ → Reader Edit
-edit_in ticket fields = option_and_then (λ w. edit_by ticket w.0 w.1) (one word_of fields)
+edit_in ticket fields = option_and_then (λ w. edit_by ticket w.0 w.1) (one edit_word_of fields)
 
 -- the edit whose text the bytes are, under a sender's ticket
 unfoldable pub edit_of : List ℕ → List ℕ → Option Edit

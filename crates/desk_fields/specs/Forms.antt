@@ -1,5 +1,5 @@
 -- What a field is read as. No clause of a public call speaks of these words.
-use Rattle.std.specs.Prelude.{ℕ, ◌^◌, ◌&&◌, ◌==◌, if◌then◌else◌, List, [], ◌∷◌, find, nat_le, Option, Some, None, option_map, option_and_then}
+use Rattle.std.specs.Prelude.{ℕ, ◌^◌, ◌&&◌, ◌==◌, if◌then◌else◌, List, [], ◌∷◌, nat_le, Option, Some, None, option_map, option_and_then}
 use Rattle.std.specs.List.{slice_split}
 use Rattle.std.specs.Result.{result_ok}
 use Rattle.std.specs.Str.{bytes_eq}
@@ -9,14 +9,10 @@ use Rattle.desk_text.specs.Day.{Date, day_of}
 use Rattle.desk_text.specs.Name.{name_of}
 use Rattle.desk_text.specs.Number.{number_below}
 use Rattle.desk_law.specs.declared.annex.Annex.{Annex}
-use Rattle.desk_law.specs.declared.annex.Annex.TheVariants.{Three, Four}
 use Rattle.desk_law.specs.declared.kind.Kind.{Kind}
-use Rattle.desk_law.specs.Annex.{annex_number}
+use Rattle.desk_law.specs.Annex.{annex_of}
 use Rattle.desk_law.specs.Kind.{kind_of}
 use Rattle.desk_law.specs.KindSet.{kinds_text, set_of}
-use Rattle.desk_model.specs.declared.part_sort.PartSort.{PartSort}
-use Rattle.desk_model.specs.declared.part_sort.PartSort.TheVariants.{Article, Assembly}
-use Rattle.desk_model.specs.EditText.{sort_word}
 use Rattle.desk_model.specs.Terms.{are_kinds}
 
 -- a code
@@ -39,18 +35,10 @@ an_exemption_number field = result_ok (exemption_number_of field)
 unfoldable pub a_day : List ℕ → Option Date
 a_day field = result_ok (day_of field)
 
--- the sort of a part, by its word
-unfoldable pub a_sort : List ℕ → Option PartSort
-a_sort field = find (λ sort. bytes_eq (sort_word sort) field) (Article ∷ Assembly ∷ [])
-
 -- a number of a range, in decimal digits
 unfoldable pub a_number : ℕ → ℕ → List ℕ → Option ℕ
 a_number least greatest field =
     option_and_then (λ n. if nat_le least n && nat_le n greatest then Some n else None) (result_ok (number_below (2 ^ 64) field))
-
--- the annex that has a number
-abbrev pub annex_of : ℕ → Option Annex
-annex_of n = find (λ annex. annex_number annex == n) (Three ∷ Four ∷ [])
 
 -- an annex, by its number
 unfoldable pub an_annex : List ℕ → Option Annex

@@ -17,9 +17,9 @@ use Rattle.desk_model.specs.declared.rows.product.ProductRow.{ProductRow}
 use Rattle.desk_model.specs.declared.rows.shipment.ShipmentRow.{ShipmentRow}
 use Rattle.desk_model.specs.declared.rows.substance.SubstanceRow.{SubstanceRow}
 use Rattle.desk_model.specs.declared.rows.ticket.TicketRow.{TicketRow}
-use Rattle.desk_model.specs.EditText.{joined}
+use Rattle.desk_model.specs.EditText.{joined, sort_of}
 use Rattle.desk_fields.specs.EditReading.{claims_in, edit_of, exemption_in, substances_in}
-use Rattle.desk_fields.specs.Forms.{a_cas, a_code, a_day, a_name, a_number, a_sort, maybe}
+use Rattle.desk_fields.specs.Forms.{a_cas, a_code, a_day, a_name, a_number, maybe}
 use Rattle.desk_fields.specs.Reading.{Reader, both, eight, made, one, three, two, whole}
 
 -- a substance, of its code and its fields
@@ -51,7 +51,7 @@ material_row_in =
 
 -- a part, of its code and its fields
 unfoldable pub part_row_in : Reader PartRow
-part_row_in = made (three (λ code sort name. record { code = code; sort = sort; name = name })) (both (one a_code) (both (one a_sort) (one a_name)))
+part_row_in = made (three (λ code sort name. record { code = code; sort = sort; name = name })) (both (one a_code) (both (one sort_of) (one a_name)))
 
 -- a line, of its parent, its child and its field
 unfoldable pub line_row_in : Reader LineRow

@@ -1,13 +1,12 @@
 ghost use Rattle.std.specs.Prelude.{◌≡◌, Err, IfOk, None, Some};
 ghost use Rattle.desk_fields.specs.EditReading.{edit_by, edit_in, edit_of};
-ghost use Rattle.desk_fields.specs.declared.edit_word.EditWord.TheVariants as word;
+ghost use Rattle.desk_model.specs.declared.edit_word.EditWord.TheVariants as word;
 
 use crate::declaration::read_declaration;
-use crate::edit_word::EditWord;
 use crate::exemption::read_exemption;
 use crate::field_fault::FieldFault;
 use crate::fields::Fields;
-use desk_model::Edit;
+use desk_model::{Edit, EditWord};
 use desk_text::Code;
 use std::alloc::Global;
 

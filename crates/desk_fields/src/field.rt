@@ -1,9 +1,9 @@
 ghost use Rattle.std.specs.Prelude.{◌≡◌};
-ghost use Rattle.desk_model.specs.EditText.{sort_word};
-ghost use Rattle.desk_fields.specs.Forms.{annex_of};
 
 use desk_law::{Annex, Kind, Rule};
-use desk_model::{Count, Factor, PartSort, Units, Year, count_of, factor_of, units_of, year_of};
+use desk_model::{
+    Count, EditWord, Factor, PartSort, Units, Year, count_of, factor_of, units_of, year_of,
+};
 use desk_text::{Cas, Code, Day, ExemptionNumber, read_u64};
 
 /// A value that one field spells, in one way, and that takes no memory.
@@ -72,27 +72,22 @@ impl Field for Kind {
 }
 
 impl Field for PartSort {
-    ghost use Rattle.desk_fields.specs.Forms.{a_sort};
+    ghost use Rattle.desk_model.specs.EditText.{sort_of};
 
-    ghost form = { a_sort };
+    ghost form = { sort_of };
 
-    #[tactic(auto, unfolding(crate::specs::Forms::a_sort))]
     fn from_field(field: &[u8]) -> Option<PartSort> {
-        [PartSort::Article, PartSort::Assembly]
-            .iter()
-            .copied()
-            .find(|sort| sort_word(*sort).as_bytes() == field)
+        PartSort::read(field)
     }
 }
 
-/// The word of a sort of part.
-#[tactic(auto, unfolding(desk_model::specs::EditText::sort_word))]
-fn sort_word(sort: PartSort) -> &'static str
-    ensures { result.now ≡ sort_word sort }
-{
-    match sort {
-        PartSort::Article => "article",
-        PartSort::Assembly => "assembly",
+impl Field for EditWord {
+    ghost use Rattle.desk_model.specs.EditWords.{edit_word_of};
+
+    ghost form = { edit_word_of };
+
+    fn from_field(field: &[u8]) -> Option<EditWord> {
+        EditWord::read(field)
     }
 }
 
@@ -103,18 +98,8 @@ impl Field for Annex {
 
     #[tactic(auto, unfolding(crate::specs::Forms::an_annex))]
     fn from_field(field: &[u8]) -> Option<Annex> {
-        annex_of(read_u64(field).ok()?)
+        Annex::with_number(read_u64(field).ok()?)
     }
-}
-
-/// The annex that has a number.
-fn annex_of(number: u64) -> Option<Annex>
-    ensures { result ≡ annex_of number }
-{
-    [Annex::Three, Annex::Four]
-        .iter()
-        .copied()
-        .find(|annex| u64::from(annex.number()) == number)
 }
 
 impl Field for Option<Cas> {

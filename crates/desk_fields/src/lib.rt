@@ -3,7 +3,6 @@
 
 mod declaration;
 mod edit_text;
-mod edit_word;
 mod edits;
 pub mod examples;
 mod exemption;

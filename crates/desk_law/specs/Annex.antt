@@ -1,5 +1,5 @@
 -- The annexes of exemptions to Directive 2011/65/EU.
-use Rattle.std.specs.Prelude.{ℕ, List, [], ◌∷◌}
+use Rattle.std.specs.Prelude.{ℕ, ◌==◌, List, [], ◌∷◌, Option, find}
 use Rattle.desk_law.specs.declared.annex.Annex.{Annex}
 use Rattle.desk_law.specs.declared.annex.Annex.TheVariants.{Three, Four}
 use Rattle.desk_law.specs.declared.kind.Kind.{Kind}
@@ -10,6 +10,10 @@ use Rattle.desk_law.specs.Kind.{all_kinds}
 unfoldable pub annex_number : Annex → ℕ
 annex_number Three = 3
 annex_number Four = 4
+
+-- the annex that has this number, if one does
+abbrev pub annex_of : ℕ → Option Annex
+annex_of n = find (λ annex. annex_number annex == n) (Three ∷ Four ∷ [])
 
 -- the kinds that an exemption of the annex may name: Annex IV is "specific to medical devices and monitoring and control
 -- instruments"

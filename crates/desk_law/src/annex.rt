@@ -1,6 +1,6 @@
 ghost use Rattle.std.specs.Prelude.{◌≡◌, Some};
 ghost use Rattle.std.specs.Fmt.{decimal};
-ghost use Rattle.desk_law.specs.Annex.{annex_kinds, annex_number};
+ghost use Rattle.desk_law.specs.Annex.{annex_kinds, annex_number, annex_of};
 
 use crate::{Kind, KindSet};
 use std::fmt;
@@ -15,6 +15,9 @@ pub enum Annex {
 }
 
 impl Annex {
+    /// Each annex once.
+    pub const ALL: [Annex; 2] = [Annex::Three, Annex::Four];
+
     /// The annex's number, 3 or 4.
     #[tactic(auto, unfolding(crate::specs::Annex::annex_number))]
     pub fn number(self) -> u8
@@ -24,6 +27,16 @@ impl Annex {
             Annex::Three => 3,
             Annex::Four => 4,
         }
+    }
+
+    /// The annex that has this number, `None` exactly where none has it.
+    pub fn with_number(number: u64) -> Option<Annex>
+        ensures { result ≡ annex_of number }
+    {
+        Annex::ALL
+            .iter()
+            .copied()
+            .find(|annex| u64::from(annex.number()) == number)
     }
 
     /// The kinds of equipment that an exemption of the annex may name.

@@ -1,9 +1,10 @@
 -- The text of an edit, by which two edits are the same, and the code of its ticket.
-use Rattle.std.specs.Prelude.{ℕ, Bool, List, [], ◌∷◌, ◌++◌, Option, Some, None, codes, decimal, length}
+use Rattle.std.specs.Prelude.{ℕ, Bool, List, [], ◌∷◌, ◌++◌, Option, Some, None, codes, decimal, find, length}
 use Rattle.std.specs.Cmp.Lexicographic.{slice_cmp}
 use Rattle.std.specs.List.{flat_map, join_with_byte}
 use Rattle.std.specs.Option.{unwrap_or}
 use Rattle.std.specs.Ordering.{eq_by_cmp, nat_cmp}
+use Rattle.std.specs.Str.{bytes_eq}
 use Rattle.desk_text.specs.Day.{date_text}
 use Rattle.desk_law.specs.declared.claim.Claim.{Claim}
 use Rattle.desk_law.specs.Annex.{annex_number}
@@ -13,12 +14,14 @@ use Rattle.desk_law.specs.Rule.{rule_code}
 use Rattle.desk_model.specs.declared.edit.Edit.{Edit}
 use Rattle.desk_model.specs.declared.edit.Edit.TheVariants.{Substance, Member, Declare, Part, Line, Unline, Product}
 use Rattle.desk_model.specs.declared.edit.Edit.TheVariants.{Exemption, Unexempt, Candidate, Ship, Unship}
+use Rattle.desk_model.specs.declared.edit_word.EditWord.TheVariants as word
 use Rattle.desk_model.specs.declared.material_decl.MaterialDecl.{MaterialDecl}
 use Rattle.desk_model.specs.declared.part_sort.PartSort.{PartSort}
 use Rattle.desk_model.specs.declared.part_sort.PartSort.TheVariants.{Article, Assembly}
 use Rattle.desk_model.specs.declared.rows.exemption.ExemptionRow.{ExemptionRow}
 use Rattle.desk_model.specs.declared.substance_mass.SubstanceMass.{SubstanceMass}
 use Rattle.desk_model.specs.Declaration.{Declared}
+use Rattle.desk_model.specs.EditWords.{word_text}
 
 -- fields joined by TAB
 abbrev pub joined : List (List ℕ) → List ℕ
@@ -41,6 +44,10 @@ optional_number (Some n) = decimal n
 abbrev pub sort_word : PartSort → List ℕ
 sort_word Article = codes "article"
 sort_word Assembly = codes "assembly"
+
+-- the sort of part whose word a text is, if it is one
+unfoldable pub sort_of : List ℕ → Option PartSort
+sort_of text = find (λ sort. bytes_eq (sort_word sort) text) (Article ∷ Assembly ∷ [])
 
 -- the fields of a list of substances: how many there are, and then code and mass of each
 abbrev pub substance_fields : List SubstanceMass → List (List ℕ)
@@ -77,18 +84,18 @@ exemption_fields row =
 -- the fields of an edit: its word, and then its values. The ticket of an edit that is no declaration is no part of its
 -- text
 abbrev pub edit_fields : Edit → List (List ℕ)
-edit_fields (Substance ticket code name cas) = codes "substance" ∷ code ∷ name ∷ optional_field cas ∷ []
-edit_fields (Member ticket substance rule factor) = codes "member" ∷ substance ∷ rule_code rule ∷ decimal factor ∷ []
-edit_fields (Declare declaration) = codes "declare" ∷ declaration_fields declaration
-edit_fields (Part ticket code sort name) = codes "part" ∷ code ∷ sort_word sort ∷ name ∷ []
-edit_fields (Line ticket parent child count) = codes "line" ∷ parent ∷ child ∷ decimal count ∷ []
-edit_fields (Unline ticket parent child) = codes "unline" ∷ parent ∷ child ∷ []
-edit_fields (Product ticket part kind) = codes "product" ∷ part ∷ kind_code kind ∷ []
-edit_fields (Exemption ticket exemption) = codes "exemption" ∷ exemption_fields exemption
-edit_fields (Unexempt ticket row) = codes "unexempt" ∷ row ∷ []
-edit_fields (Candidate ticket substance day) = codes "candidate" ∷ substance ∷ date_text day ∷ []
-edit_fields (Ship ticket product year units) = codes "ship" ∷ product ∷ decimal year ∷ decimal units ∷ []
-edit_fields (Unship ticket product year units) = codes "unship" ∷ product ∷ decimal year ∷ decimal units ∷ []
+edit_fields (Substance ticket code name cas) = word_text word.Substance ∷ code ∷ name ∷ optional_field cas ∷ []
+edit_fields (Member ticket substance rule factor) = word_text word.Member ∷ substance ∷ rule_code rule ∷ decimal factor ∷ []
+edit_fields (Declare declaration) = word_text word.Declare ∷ declaration_fields declaration
+edit_fields (Part ticket code sort name) = word_text word.Part ∷ code ∷ sort_word sort ∷ name ∷ []
+edit_fields (Line ticket parent child count) = word_text word.Line ∷ parent ∷ child ∷ decimal count ∷ []
+edit_fields (Unline ticket parent child) = word_text word.Unline ∷ parent ∷ child ∷ []
+edit_fields (Product ticket part kind) = word_text word.Product ∷ part ∷ kind_code kind ∷ []
+edit_fields (Exemption ticket exemption) = word_text word.Exemption ∷ exemption_fields exemption
+edit_fields (Unexempt ticket row) = word_text word.Unexempt ∷ row ∷ []
+edit_fields (Candidate ticket substance day) = word_text word.Candidate ∷ substance ∷ date_text day ∷ []
+edit_fields (Ship ticket product year units) = word_text word.Ship ∷ product ∷ decimal year ∷ decimal units ∷ []
+edit_fields (Unship ticket product year units) = word_text word.Unship ∷ product ∷ decimal year ∷ decimal units ∷ []
 
 -- the text of an edit: its fields joined by TAB
 unfoldable pub edit_text : Edit → List ℕ

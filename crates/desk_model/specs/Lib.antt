@@ -3,6 +3,7 @@ pub mod DeclError
 pub mod Declaration
 pub mod Declaring
 pub mod EditText
+pub mod EditWords
 pub mod Effect
 pub mod Examples
 pub mod Forms

@@ -1,5 +1,5 @@
-ghost use Rattle.std.specs.Prelude.{Some};
-ghost use Rattle.desk_model.specs.EditText.{sort_word};
+ghost use Rattle.std.specs.Prelude.{◌≡◌, Some};
+ghost use Rattle.desk_model.specs.EditText.{sort_of, sort_word};
 
 use std::fmt;
 
@@ -12,14 +12,38 @@ pub enum PartSort {
     Assembly,
 }
 
-/// The sort's word, as texts of edits spell it.
+impl PartSort {
+    /// Each sort once.
+    pub const ALL: [PartSort; 2] = [PartSort::Article, PartSort::Assembly];
+
+    /// The sort's word, as edits spell it.
+    #[tactic(auto, unfolding(crate::specs::EditText::sort_word))]
+    pub fn word(self) -> &'static str
+        ensures { result.now ≡ sort_word self }
+    {
+        match self {
+            PartSort::Article => "article",
+            PartSort::Assembly => "assembly",
+        }
+    }
+
+    /// The sort whose word these bytes are, `None` exactly where they are no sort's.
+    #[tactic(auto, unfolding(crate::specs::EditText::sort_of))]
+    pub fn read(bytes: &[u8]) -> Option<PartSort>
+        ensures { result ≡ sort_of bytes.now }
+    {
+        PartSort::ALL
+            .iter()
+            .copied()
+            .find(|sort| sort.word().as_bytes() == bytes)
+    }
+}
+
+/// The sort's word, as edits spell it.
 impl fmt::Display for PartSort {
     ghost output = { λ sort. Some (sort_word sort) };
 
     fn fmt<W: fmt::Write>(&self, f: &mut fmt::Formatter<W>) -> fmt::Result {
-        f.write_str(match self {
-            PartSort::Article => "article",
-            PartSort::Assembly => "assembly",
-        })
+        f.write_str(self.word())
     }
 }

@@ -8,7 +8,6 @@ ghost use Rattle.desk_scratch.specs.Eval.{eval};
 ghost use Rattle.desk_scratch.specs.Questions.{is_question_in_range};
 
 use crate::ask_fault::AskFault;
-use crate::kind_on_day::KindOnDay;
 use crate::material::material_text;
 use crate::part::part_text;
 use crate::question::Question;
@@ -18,7 +17,7 @@ use crate::rohs::rohs_text;
 use crate::shared_lines::push_version_line;
 use crate::summary::summary_text;
 use crate::uses::uses_text;
-use desk_law::Kind;
+use desk_law::{Kind, KindOnDay};
 use desk_tables::Tables;
 use desk_text::{Bytes, Code, Day};
 use std::alloc::Global;
@@ -40,13 +39,14 @@ pub fn answer_plain(
     ensures refusal { IfErr result (λ fault. fault ≢ ask.OutOfMemory → eval tables.now.lists question.now ≡ Err fault) }
     ensures unchanged { OnErr result (out.new ≡ out.old) }
 {
-    match answer_text(alloc, tables, question) {
-        Ok(text) => {
-            out.push_all(text.as_slice())?;
-            Ok(())
-        }
-        Err(fault) => Err(fault),
+    let text = answer_text(alloc, tables, question)?;
+    if out.is_empty() {
+        // The text is given as it is, and not copied.
+        *out = text;
+    } else {
+        out.push_all(text.as_slice())?;
     }
+    Ok(())
 }
 
 /// The answer to the question.

@@ -9,8 +9,7 @@ ghost use Rattle.desk_scratch.specs.Holdings.{holdings_of};
 
 use crate::facts::Facts;
 use crate::holdings::Holdings;
-use crate::kind_on_day::KindOnDay;
-use desk_law::{Rule, Terms, Verdict, judge};
+use desk_law::{KindOnDay, Rule, Terms, Verdict, judge};
 use desk_model::SubstanceMass;
 use desk_tables::Tables;
 use desk_text::OutOfMemory;

@@ -8,9 +8,9 @@ ghost use Rattle.desk_scratch.specs.MaterialBlock.{material_block};
 
 use crate::assessment::{Assessment, terms_of};
 use crate::facts::Facts;
-use crate::kind_on_day::KindOnDay;
 use crate::material_block::push_material_block;
 use crate::shared_lines::push_compliance_line;
+use desk_law::KindOnDay;
 use desk_model::{Declaration, MaterialDecl};
 use desk_tables::Tables;
 use desk_text::{Bytes, Code, OutOfMemory};

@@ -5,9 +5,9 @@ ghost use Rattle.desk_scratch.specs.Material.{material_text};
 
 use crate::assessment::{Assessment, terms_of};
 use crate::facts::Facts;
-use crate::kind_on_day::KindOnDay;
 use crate::material_block::push_material_block;
 use crate::shared_lines::{push_compliance_line, push_version_line};
+use desk_law::KindOnDay;
 use desk_model::MaterialRow;
 use desk_tables::Tables;
 use desk_text::{Bytes, OutOfMemory};

@@ -16,10 +16,9 @@ ghost use Rattle.desk_scratch.specs.Summary.{asked_day_line, count_line, count_l
 use crate::assessment::{Assessment, terms_of};
 use crate::bill::Bill;
 use crate::facts::Facts;
-use crate::kind_on_day::KindOnDay;
 use crate::material_block::is_breach;
 use crate::shared_lines::push_version_line;
-use desk_law::{Rule, Terms};
+use desk_law::{KindOnDay, Rule, Terms};
 use desk_model::{MaterialRow, ProductRow};
 use desk_tables::Tables;
 use desk_text::{Bytes, Code, Day, OutOfMemory};

@@ -1,9 +1,9 @@
 ghost use Rattle.std.specs.Prelude.{◌≤◌};
 ghost use Rattle.desk_history.specs.Sound.{Sound};
 
-use desk_law::Kind;
+use desk_law::{Kind, KindOnDay};
 use desk_model::Declaration;
-use desk_scratch::{AskFault, KindOnDay, check_text};
+use desk_scratch::{AskFault, check_text};
 use desk_tables::Tables;
 use desk_text::{Code, Day, Name};
 use std::alloc::Global;

@@ -1,11 +1,9 @@
 ghost use Rattle.std.specs.Prelude.{◌≡◌};
-ghost use Rattle.desk_fields.specs.EditReading.{word_text};
+ghost use Rattle.desk_model.specs.EditWords.{edit_word_of, word_text};
 
-use crate::field::Field;
-
-/// The word that an edit's text begins with, which says what sort of edit it is.
+/// The word of an edit, which says what it does.
 #[derive(Clone, Copy, Debug, PartialEq, Eq)]
-pub(crate) enum EditWord {
+pub enum EditWord {
     /// Enters or replaces a substance.
     Substance,
     /// Sets the factor of a substance for a rule.
@@ -34,7 +32,7 @@ pub(crate) enum EditWord {
 
 impl EditWord {
     /// Each word once.
-    const ALL: [EditWord; 12] = [
+    pub const ALL: [EditWord; 12] = [
         EditWord::Substance,
         EditWord::Member,
         EditWord::Declare,
@@ -49,9 +47,9 @@ impl EditWord {
         EditWord::Unship,
     ];
 
-    /// The word as a text spells it.
-    #[tactic(auto, unfolding(crate::specs::EditReading::word_text))]
-    fn name(self) -> &'static str
+    /// The word as edits spell it.
+    #[tactic(auto, unfolding(crate::specs::EditWords::word_text))]
+    pub fn word(self) -> &'static str
         ensures { result.now ≡ word_text self }
     {
         match self {
@@ -69,18 +67,15 @@ impl EditWord {
             EditWord::Unship => "unship",
         }
     }
-}
 
-impl Field for EditWord {
-    ghost use Rattle.desk_fields.specs.EditReading.{word_of};
-
-    ghost form = { word_of };
-
-    #[tactic(auto, unfolding(crate::specs::EditReading::word_of))]
-    fn from_field(field: &[u8]) -> Option<EditWord> {
+    /// The edit's word that these bytes are, `None` exactly where they are none.
+    #[tactic(auto, unfolding(crate::specs::EditWords::edit_word_of))]
+    pub fn read(bytes: &[u8]) -> Option<EditWord>
+        ensures { result ≡ edit_word_of bytes.now }
+    {
         EditWord::ALL
             .iter()
             .copied()
-            .find(|word| word.name().as_bytes() == field)
+            .find(|word| word.word().as_bytes() == bytes)
     }
 }

@@ -1,7 +1,7 @@
 ghost use Rattle.std.specs.Prelude.{IsTrue};
 ghost use Rattle.desk_text.specs.Day.{is_askable};
 
-use desk_law::Kind;
+use crate::kind::Kind;
 use desk_text::Day;
 
 /// For which kind of equipment and on which day a material is judged.
