@@ -28,10 +28,10 @@ use Rattle.desk_model.specs.declared.rule_fault.RuleFault.{RuleFault}
 use Rattle.desk_scratch.specs.Eval.{eval}
 use Rattle.desk_scratch.specs.declared.ask_fault.AskFault.{AskFault}
 use Rattle.desk_front.specs.Asked.{Asked, asked_of, edit, nothing, of_csv, of_json, of_route, question}
-use Rattle.desk_front.specs.Replies.{Reply, all_bytes, answer_at, bytes_of, evaluated, fixed, judged, no_ask}
+use Rattle.desk_front.specs.Replies.{Reply, all_bytes, answer_at, bytes_of, evaluated, fixed, reply_to_edit, no_ask}
 use Rattle.desk_front.specs.Service.{Replies}
 use Rattle.desk_front.specs.Talk.{Follows, IsJudged, IsTold, IsToldOfMemory, Talk}
-use Rattle.desk_front.specs.Turn.{Answers, Conversation, Converses, FailsToKeep, LacksMemory, Standing, Turn, Turns, added_at, if_new, list_with}
+use Rattle.desk_front.specs.Turn.{AnswersRequest, Conversation, Converses, FailsToKeep, LacksMemory, Standing, Turn, Turns, added_at, if_new, list_with}
 
 -- ---- what a turn adds to the list
 
@@ -120,16 +120,16 @@ moment t before rest sound all some =
     }
 
 judged_so : (t : Lists) (met : ℕ) (made : Edit) (reply : Reply) (kept : Option ℕ) (broken : Option RuleFault) → kept_number t made ≡ kept → refused t made ≡ broken
-    → reply ≡ judged (number_at (step t made).1) met (step t made).0 → IsJudged (step t made).1 (number_at (step t made).1) met made reply
+    → reply ≡ reply_to_edit (number_at (step t made).1) met (step t made).0 → IsJudged (step t made).1 (number_at (step t made).1) met made reply
 judged_so t met made reply (Some number) broken a b e =
     let s = step-kept t made number a in
-    inl (number, ap (λ r. kept_number r.1 made) s ∙ a, e ∙ ap (λ r. judged (number_at (step t made).1) met r.0) s)
+    inl (number, ap (λ r. kept_number r.1 made) s ∙ a, e ∙ ap (λ r. reply_to_edit (number_at (step t made).1) met r.0) s)
 judged_so t met made reply None (Some cause) a b e =
     let s = step-refused t made cause a b in
-    inr (cause, ap (λ r. kept_number r.1 made) s ∙ a, ap (λ r. refused r.1 made) s ∙ b, e ∙ ap (λ r. judged (number_at (step t made).1) met r.0) s)
+    inr (cause, ap (λ r. kept_number r.1 made) s ∙ a, ap (λ r. refused r.1 made) s ∙ b, e ∙ ap (λ r. reply_to_edit (number_at (step t made).1) met r.0) s)
 judged_so t met made reply None None a b e =
     let s = step-accepted t made a b in
-    inl (next_number t, ap (λ r. kept_number r.1 made) s ∙ kept-entered t made, e ∙ ap (λ r. judged (number_at (step t made).1) met r.0) s)
+    inl (next_number t, ap (λ r. kept_number r.1 made) s ∙ kept-entered t made, e ∙ ap (λ r. reply_to_edit (number_at (step t made).1) met r.0) s)
 
 abbrev Tells : History → Asked → ℕ → Reply → ℕ → Type 0
 Tells list asked met reply now = IsTold list asked met reply now ⊎ IsToldOfMemory list asked met reply now
@@ -223,7 +223,7 @@ evaluated_not_of_store : (t : Lists) (x : Result (List ℕ) AskFault) → (evalu
 evaluated_not_of_store t (Ok text) = λ e. absurd (omega (arith, e))
 evaluated_not_of_store t (Err cause) = λ e. absurd (omega (arith, e))
 
-judged_not_of_store : (whole met : ℕ) (x : Result ℕ RuleFault) → (judged whole met x).status ≢ 503
+judged_not_of_store : (whole met : ℕ) (x : Result ℕ RuleFault) → (reply_to_edit whole met x).status ≢ 503
 judged_not_of_store whole met (Ok number) = λ e. absurd (omega (arith, e))
 judged_not_of_store whole met (Err cause) = λ e. absurd (omega (arith, e))
 
@@ -250,7 +250,7 @@ turn_kept : (old new : Standing) (asked : Asked) (reply : Reply) (added : List E
 turn_kept old new (nothing told) reply added other (inl x) steady = same_other reply told x.0 other
 turn_kept old new (question asked) reply added other (inl x) steady = same_other reply (answer_at old.whole asked) x.0 (evaluated_not_of_store old.whole (eval old.whole asked))
 turn_kept old new (edit made) reply added other (inl x) steady =
-    same_other reply (judged (number_at (step old.whole made).1) old.met (step old.whole made).0) x.1
+    same_other reply (reply_to_edit (number_at (step old.whole made).1) old.met (step old.whole made).0) x.1
     (judged_not_of_store (number_at (step old.whole made).1) old.met (step old.whole made).0)
 turn_kept old new asked reply added other (inr (inl x)) steady = same_other reply (fixed refusal.Memory) x.0 (λ e. absurd (omega (arith, e)))
 turn_kept old new asked reply added other (inr (inr x)) steady = absurd (steady x.5)

@@ -28,7 +28,7 @@ use Rattle.desk_model.specs.declared.edit.Edit.{Edit}
 use Rattle.desk_model.specs.declared.rule_fault.RuleFault.{RuleFault}
 use Rattle.desk_scratch.specs.declared.question.Question.{Question}
 use Rattle.desk_front.specs.Asked.{Asked, edit, nothing, question}
-use Rattle.desk_front.specs.Replies.{Reply, accepted_body, answer_at, bytes_with, fixed, judged, refused_body, with_body}
+use Rattle.desk_front.specs.Replies.{Reply, accepted_body, answer_at, bytes_with, fixed, reply_to_edit, refused_body, with_body}
 use Rattle.desk_front.specs.Turn.{Says, Standing, added_at}
 
 pub fixed_bytes : (refused : Fixed) (close : Bool) → fixed_reply refused close ≡ bytes_with close (fixed refused)
@@ -64,7 +64,7 @@ says_accepted old new made close number whole form answer counted left steady me
       added_at old.whole made,
       inl (
         form,
-        ap (λ n. judged n old.met (Ok number)) at ∙ ap (judged (number_at (step old.whole made).1) old.met) (sym answer),
+        ap (λ n. reply_to_edit n old.met (Ok number)) at ∙ ap (reply_to_edit (number_at (step old.whole made).1) old.met) (sym answer),
         refl,
         (λ i. record { whole = left i; met = met_at i; faults = steady i }),
       ),
@@ -82,7 +82,7 @@ says_refused old new made close cause whole form answer stays counted left stead
       added_at old.whole made,
       inl (
         form,
-        ap (λ n. judged n old.met (Err cause)) at ∙ ap (judged (number_at (step old.whole made).1) old.met) (sym answer),
+        ap (λ n. reply_to_edit n old.met (Err cause)) at ∙ ap (reply_to_edit (number_at (step old.whole made).1) old.met) (sym answer),
         refl,
         (λ i. record { whole = left_at i; met = met_at i; faults = steady i }),
       ),

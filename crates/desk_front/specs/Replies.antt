@@ -94,6 +94,6 @@ refused_body whole met cause =
     codes "version " ++ decimal whole ++ codes "\nseen " ++ decimal met ++ codes "\nrefused " ++ refusal_words cause ++ codes "\n"
 
 -- the reply to an edit that is judged so, where the writer's whole list has the first number, and the second was met before
-abbrev pub judged : ℕ → ℕ → Result ℕ RuleFault → Reply
-judged whole met (Ok number) = with_body 200 (accepted_body whole met number)
-judged whole met (Err cause) = with_body 409 (refused_body whole met cause)
+abbrev pub reply_to_edit : ℕ → ℕ → Result ℕ RuleFault → Reply
+reply_to_edit whole met (Ok number) = with_body 200 (accepted_body whole met number)
+reply_to_edit whole met (Err cause) = with_body 409 (refused_body whole met cause)

@@ -9,7 +9,7 @@ use Rattle.desk_model.specs.Lists.{Lists}
 use Rattle.desk_model.specs.declared.edit.Edit.{Edit}
 use Rattle.desk_model.specs.declared.rule_fault.RuleFault.{RuleFault}
 use Rattle.desk_front.specs.Asked.{Asked, asked_of, edit, nothing, question}
-use Rattle.desk_front.specs.Replies.{Reply, answer_at, fixed, judged}
+use Rattle.desk_front.specs.Replies.{Reply, answer_at, fixed, reply_to_edit}
 
 -- the number is one of the list's, and no smaller than what was met before
 abbrev pub Follows : History → ℕ → ℕ → Type 0
@@ -19,8 +19,8 @@ Follows list met now = (met ≤ now) × (now ≤ number_of list)
 -- tells the rule
 abbrev pub IsJudged : Lists → ℕ → ℕ → Edit → Reply → Type 0
 IsJudged t now met made reply =
-    ((number : ℕ) × (kept_number t made ≡ Some number) × (reply ≡ judged now met (Ok number)))
-    ⊎ ((cause : RuleFault) × (kept_number t made ≡ None) × (refused t made ≡ Some cause) × (reply ≡ judged now met (Err cause)))
+    ((number : ℕ) × (kept_number t made ≡ Some number) × (reply ≡ reply_to_edit now met (Ok number)))
+    ⊎ ((cause : RuleFault) × (kept_number t made ≡ None) × (refused t made ≡ Some cause) × (reply ≡ reply_to_edit now met (Err cause)))
 
 -- what is asked gets this reply from the list, by one who had met the number before and has met the other after: a question is
 -- evaluated, and an edit judged, at the tables of the number that the reply tells

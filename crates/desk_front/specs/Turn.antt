@@ -13,7 +13,7 @@ use Rattle.desk_model.specs.Lists.{Lists}
 use Rattle.desk_model.specs.declared.edit.Edit.{Edit}
 use Rattle.desk_model.specs.declared.rule_fault.RuleFault.{RuleFault}
 use Rattle.desk_front.specs.Asked.{Asked, asked_of, edit, nothing, question}
-use Rattle.desk_front.specs.Replies.{Reply, all_bytes, answer_at, bytes_with, fixed, judged}
+use Rattle.desk_front.specs.Replies.{Reply, all_bytes, answer_at, bytes_with, fixed, reply_to_edit}
 use Rattle.desk_front.specs.Talk.{Talk}
 
 -- how a connection stands: the tables after the clerk's whole list, the number of the longest list that it has met, and how many
@@ -34,12 +34,12 @@ abbrev pub added_at : Lists → Edit → List Edit
 added_at t made = if_new made (kept_number t made) (refused t made)
 
 -- a request is answered: what it asks and the whole list say how. These edits were added to the list
-abbrev pub Answers : Standing → Asked → Reply → List Edit → Standing → Type 0
-Answers old (nothing refused) reply added new = (reply ≡ refused) × (added ≡ []) × (new ≡ old)
-Answers old (question asked) reply added new = (reply ≡ answer_at old.whole asked) × (added ≡ []) × (new ≡ record old { met = number_at old.whole })
-Answers old (edit made) reply added new =
+abbrev pub AnswersRequest : Standing → Asked → Reply → List Edit → Standing → Type 0
+AnswersRequest old (nothing refused) reply added new = (reply ≡ refused) × (added ≡ []) × (new ≡ old)
+AnswersRequest old (question asked) reply added new = (reply ≡ answer_at old.whole asked) × (added ≡ []) × (new ≡ record old { met = number_at old.whole })
+AnswersRequest old (edit made) reply added new =
     (is_edit_in_form made ≡ true)
-    × (reply ≡ judged (number_at (step old.whole made).1) old.met (step old.whole made).0)
+    × (reply ≡ reply_to_edit (number_at (step old.whole made).1) old.met (step old.whole made).0)
     × (added ≡ added_at old.whole made)
     × (new ≡ record old { whole = (step old.whole made).1; met = number_at (step old.whole made).1 })
 
@@ -60,7 +60,7 @@ FailsToKeep old asked reply added new =
 
 -- a turn: what is asked gets this reply, and these edits are added to the list
 abbrev pub Turn : Standing → Asked → Reply → List Edit → Standing → Type 0
-Turn old asked reply added new = Answers old asked reply added new ⊎ LacksMemory old asked reply added new ⊎ FailsToKeep old asked reply added new
+Turn old asked reply added new = AnswersRequest old asked reply added new ⊎ LacksMemory old asked reply added new ⊎ FailsToKeep old asked reply added new
 
 -- what is asked is answered by these bytes, in a turn
 abbrev pub Says : Standing → Asked → Bool → List ℕ → Standing → Type 0

@@ -45,7 +45,9 @@ fn push_records<R: TableRow>(
 }
 
 /// The record of this row.
-pub(crate) fn record_of_row<R: TableRow>(alloc: Global, row: &R) -> Result<Record, OutOfMemory>
+///
+/// `OutOfMemory`: none was left for the record.
+pub fn record_of_row<R: TableRow>(alloc: Global, row: &R) -> Result<Record, OutOfMemory>
     ensures { IfOk result (λ kept. kept ≡ record_of (R.as_row row.now)) }
 {
     let row = row.copied(alloc)?.into_row();

@@ -5,7 +5,7 @@ use desk_model::{
 use desk_rows::Keyed;
 
 /// A row of one table that is taken as a row of any.
-pub(crate) trait TableRow: Keyed + Sized {
+pub trait TableRow: Keyed + Sized {
     ghost use Rattle.std.specs.Prelude.{◌≡◌};
     ghost use Rattle.desk_model.specs.declared.row.Row.{Row};
 

@@ -44,5 +44,5 @@ pub record AreUnsound (bytes : List ℕ) : Type 0 where
 
 -- the bytes are no export file: the line of this number is the first that isn't a record's, or it is 0, and the records aren't those
 -- of sound tables
-abbrev pub IsDamagedAt : List ℕ → ℕ → Type 0
-IsDamagedAt bytes line = HasBadLine bytes line ⊎ EndsInside bytes line ⊎ ((line ≡ 0) × AreUnsound bytes)
+abbrev pub IsDamagedLine : List ℕ → ℕ → Type 0
+IsDamagedLine bytes line = HasBadLine bytes line ⊎ EndsInside bytes line ⊎ ((line ≡ 0) × AreUnsound bytes)

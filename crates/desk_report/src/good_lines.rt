@@ -4,7 +4,7 @@ ghost use Rattle.desk_edge.specs.Content.{IsSame, key_cmp, key_of};
 ghost use Rattle.desk_history.specs.Sound.{Sound};
 ghost use Rattle.desk_model.specs.Lists.{Lists};
 ghost use Rattle.desk_records.specs.Records.{tables_content};
-ghost use Rattle.desk_report.specs.Imported.{IsDamagedAt};
+ghost use Rattle.desk_report.specs.Imported.{IsDamagedLine};
 ghost use Rattle.desk_report.specs.Reading.{HasBadLine, IsReadTo};
 ghost use Rattle.desk_rows.specs.Rows.{IsByKey};
 
@@ -105,7 +105,7 @@ impl GoodLines {
             × IsByKey key_of key_cmp records.items) }
         ensures sound { IfOk result (λ records. (t : Lists) × Sound t × IsSame (tables_content t) (content_in records.items)) }
         ensures damaged { (line : ℕ) → result ≡ Err (ReportFault.Damaged line)
-            → (bytes : List ℕ) → IsReadTo bytes self → IsDamagedAt bytes line }
+            → (bytes : List ℕ) → IsReadTo bytes self → IsDamagedLine bytes line }
         ensures causes { (result ≢ Err ReportFault.KeeperFault) × (result ≢ Err ReportFault.LinkFault)
             × (result ≢ Err ReportFault.NotEmpty) × (result ≢ Err ReportFault.TooLong) }
     {

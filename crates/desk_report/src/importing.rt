@@ -8,7 +8,7 @@ ghost use Rattle.desk_history.specs.Sound.{Sound};
 ghost use Rattle.desk_model.specs.Lists.{Lists};
 ghost use Rattle.desk_records.specs.Records.{tables_content};
 ghost use Rattle.desk_report.specs.File.{IsFileOf};
-ghost use Rattle.desk_report.specs.Imported.{IsDamagedAt, import_limit};
+ghost use Rattle.desk_report.specs.Imported.{IsDamagedLine, import_limit};
 
 use crate::reading::read_file;
 use crate::report_fault::ReportFault;
@@ -41,7 +41,7 @@ pub fn import<K: Keeper, L: Link>(
         × (length bytes ≡ import_limit + 1) }
     ensures damaged { (line : ℕ) → result ≡ Err (ReportFault.Damaged line)
         → (bytes : List ℕ) × Consumes (L.unread link.old) (L.unread link.new) bytes
-        × IsAtEnd (L.unread link.new) × (length bytes ≤ import_limit) × IsDamagedAt bytes line }
+        × IsAtEnd (L.unread link.new) × (length bytes ≤ import_limit) × IsDamagedLine bytes line }
     ensures taken { (bytes : List ℕ) × Consumes (L.unread link.old) (L.unread link.new) bytes × (length bytes ≤ import_limit + 1) }
     ensures err { OnErr result (K.Tells keeper.new → IsSame (K.content keeper.old) (K.content keeper.new)) }
     ensures told { K.Tells keeper.new → K.Tells keeper.old }

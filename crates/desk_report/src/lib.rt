@@ -11,7 +11,6 @@ mod next_row;
 mod reading;
 mod report_fault;
 mod table_records;
-mod table_row;
 
 pub use exporting::export;
 pub use importing::import;

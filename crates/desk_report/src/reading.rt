@@ -6,7 +6,7 @@ ghost use Rattle.desk_edge.specs.Faults.{Rose};
 ghost use Rattle.desk_history.specs.Sound.{Sound};
 ghost use Rattle.desk_model.specs.Lists.{Lists};
 ghost use Rattle.desk_records.specs.Records.{tables_content};
-ghost use Rattle.desk_report.specs.Imported.{IsDamagedAt, IsRead, import_limit};
+ghost use Rattle.desk_report.specs.Imported.{IsDamagedLine, IsRead, import_limit};
 ghost use Rattle.desk_report.specs.ReadLines.{AreLinesOf};
 
 use crate::good_lines::GoodLines;
@@ -32,7 +32,7 @@ pub(crate) fn read_file<L: Link>(alloc: Global, link: &mut L) -> Result<Vec<Reco
         × (length bytes ≡ import_limit + 1) }
     ensures damaged { (line : ℕ) → result ≡ Err (ReportFault.Damaged line)
         → (bytes : List ℕ) × Consumes (L.unread link.old) (L.unread link.new) bytes
-        × IsAtEnd (L.unread link.new) × (length bytes ≤ import_limit) × IsDamagedAt bytes line }
+        × IsAtEnd (L.unread link.new) × (length bytes ≤ import_limit) × IsDamagedLine bytes line }
     ensures taken { (bytes : List ℕ) × Consumes (L.unread link.old) (L.unread link.new) bytes × (length bytes ≤ import_limit + 1) }
     ensures causes { (result ≢ Err ReportFault.KeeperFault) × (result ≢ Err ReportFault.NotEmpty) }
     ensures output_stays { L.written link.new ≡ L.written link.old }

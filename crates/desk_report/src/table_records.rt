@@ -1,10 +1,8 @@
 ghost use Rattle.std.specs.Prelude.{◌≡◌, IfOk, map};
-ghost use Rattle.desk_records.specs.Records.{record_of};
 ghost use Rattle.desk_report.specs.File.{in_table, table_at};
 
-use crate::table_row::TableRow;
 use desk_edge::Record;
-use desk_records::write_record;
+use desk_records::{TableRow, record_of_row};
 use desk_tables::Tables;
 use desk_text::OutOfMemory;
 use std::alloc::Global;
@@ -41,12 +39,4 @@ fn records_in<R: TableRow>(alloc: Global, rows: &[R]) -> Result<Vec<Record>, Out
         records.push(record_of_row(alloc, row)?)?;
     }
     Ok(records)
-}
-
-/// The record of this row.
-fn record_of_row<R: TableRow>(alloc: Global, row: &R) -> Result<Record, OutOfMemory>
-    ensures { IfOk result (λ kept. kept ≡ record_of (R.as_row row.now)) }
-{
-    let row = row.copied(alloc)?.into_row();
-    write_record(alloc, &row)
 }

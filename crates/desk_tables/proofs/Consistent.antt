@@ -21,7 +21,7 @@ use Rattle.desk_history.proofs.NamesKept.{NamesKept}
 use Rattle.desk_history.proofs.Unsound.{few_lines_of_each, told}
 use Rattle.desk_tables.specs.declared.sound_fault.SoundFault.{SoundFault}
 use Rattle.desk_tables.specs.declared.sound_fault.SoundFault.TheVariants.{Unsound}
-use Rattle.desk_tables.specs.Soundness.{AreRowsGood, AreTicketsGood, IsTold, is_good_candidate, is_good_exemption, is_good_line, is_good_material, is_good_member, is_good_part, is_good_product, is_good_shipment}
+use Rattle.desk_tables.specs.Soundness.{AreRowsGood, AreTicketsGood, NamesBreach, is_good_candidate, is_good_exemption, is_good_line, is_good_material, is_good_member, is_good_part, is_good_product, is_good_shipment}
 
 all_of : {R : Type 0} (good test : R → Bool) (rows : List R) → ((row : R) → good row ≡ true → test row ≡ true) → list_all good rows ≡ true → list_all test rows ≡ true
 all_of good test rows f e = all_from_each test rows (each_map (λ row. good row ≡ true) (λ row. test row ≡ true) f rows (each_from_all good rows e))
@@ -107,5 +107,5 @@ module _ (t : Lists) (good : AreRowsGood t) where
     sound_if ordered acyclic (Err e) kept = tt
 
 -- tables of which a row is told aren't sound
-pub unsound_if : (t : Lists) (result : Result (Unit {0}) SoundFault) → IfErr result (IsTold t) → (table : ℕ) (key : List ℕ) → result ≡ Err (Unsound table key) → Sound t → ⊥
-unsound_if t result is_told table key e sound = told t table key (subst (λ r. IfErr r (IsTold t)) e is_told) sound
+pub unsound_if : (t : Lists) (result : Result (Unit {0}) SoundFault) → IfErr result (NamesBreach t) → (table : ℕ) (key : List ℕ) → result ≡ Err (Unsound table key) → Sound t → ⊥
+unsound_if t result is_told table key e sound = told t table key (subst (λ r. IfErr r (NamesBreach t)) e is_told) sound

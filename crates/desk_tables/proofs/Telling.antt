@@ -21,7 +21,7 @@ use Rattle.desk_model.specs.declared.rows.ticket.TicketRow.{TicketRow}
 use Rattle.desk_model.specs.Rows.{record_code, table_number}
 use Rattle.desk_history.specs.Breaches.{Breaks, breaks_part}
 use Rattle.desk_history.proofs.Unsound.{any_here, any_later, any_passing, in_substances, in_members, in_materials, in_parts, in_lines, in_products, in_exemptions, in_candidates, in_shipments, in_tickets}
-use Rattle.desk_tables.specs.Soundness.{IsNaming, IsTold, IsToldIn}
+use Rattle.desk_tables.specs.Soundness.{IsNaming, NamesBreach, NamesBreachIn}
 use Rattle.desk_tables.specs.declared.sound_fault.SoundFault.{SoundFault}
 use Rattle.desk_tables.specs.declared.sound_fault.SoundFault.TheVariants.{Unsound, OutOfMemory}
 
@@ -33,104 +33,104 @@ any_at P as_row (row ∷ rows) (suc place) d l p = any_later P (as_row row) (map
 
 -- a fault that names a row which breaks a clause tells it
 pub told_at : {R : Type 0} (t : Lists) (as_row : R → Row) (rows : List R) (place : ℕ) (d : R) (table : ℕ) (fault : SoundFault) → place < length rows → Breaks t (as_row (get_or rows place d)) → table_number (as_row (get_or rows place d)) ≡ table
-    → IsNaming table (record_code (as_row (get_or rows place d))) fault → IsToldIn t (map as_row rows) fault
+    → IsNaming table (record_code (as_row (get_or rows place d))) fault → NamesBreachIn t (map as_row rows) fault
 told_at t as_row rows place d table (Unsound named key) l broken number naming =
     any_at (λ row. (table_number row ≡ named) × (record_code row ≡ key) × Breaks t row) as_row rows place d l (subst (λ n. table_number (as_row (get_or rows place d)) ≡ n) (sym naming.0) number, sym naming.1, broken)
 told_at t as_row rows place d table OutOfMemory l broken number naming = tt
 
-told_if : (t : Lists) (rows : List Row) (good : Type 0) → ((fault : SoundFault) → IsToldIn t rows fault → IsTold t fault) → (found : Option SoundFault) → MatchOption found good (IsToldIn t rows) → IfSome found (IsTold t)
+told_if : (t : Lists) (rows : List Row) (good : Type 0) → ((fault : SoundFault) → NamesBreachIn t rows fault → NamesBreach t fault) → (found : Option SoundFault) → MatchOption found good (NamesBreachIn t rows) → IfSome found (NamesBreach t)
 told_if t rows good f None m = tt
 told_if t rows good f (Some fault) m = f fault m
 
 module _ (t : Lists) where
-  substance_told : (fault : SoundFault) → IsToldIn t (map Substance t.substances) fault → IsTold t fault
+  substance_told : (fault : SoundFault) → NamesBreachIn t (map Substance t.substances) fault → NamesBreach t fault
   substance_told (Unsound table key) a = in_substances t (λ row. (table_number row ≡ table) × (record_code row ≡ key) × Breaks t row) a
   substance_told OutOfMemory a = tt
 
-  pub from_substances : (good : Type 0) (rows : List SubstanceRow) → rows ≡ t.substances → (found : Option SoundFault) → MatchOption found good (IsToldIn t (map Substance rows)) → IfSome found (IsTold t)
-  from_substances good rows e found m = told_if t (map Substance t.substances) good substance_told found (subst (λ all. MatchOption found good (IsToldIn t (map Substance all))) e m)
+  pub from_substances : (good : Type 0) (rows : List SubstanceRow) → rows ≡ t.substances → (found : Option SoundFault) → MatchOption found good (NamesBreachIn t (map Substance rows)) → IfSome found (NamesBreach t)
+  from_substances good rows e found m = told_if t (map Substance t.substances) good substance_told found (subst (λ all. MatchOption found good (NamesBreachIn t (map Substance all))) e m)
 
-  member_told : (fault : SoundFault) → IsToldIn t (map Member t.members) fault → IsTold t fault
+  member_told : (fault : SoundFault) → NamesBreachIn t (map Member t.members) fault → NamesBreach t fault
   member_told (Unsound table key) a = in_members t (λ row. (table_number row ≡ table) × (record_code row ≡ key) × Breaks t row) a
   member_told OutOfMemory a = tt
 
-  pub from_members : (good : Type 0) (rows : List MemberRow) → rows ≡ t.members → (found : Option SoundFault) → MatchOption found good (IsToldIn t (map Member rows)) → IfSome found (IsTold t)
-  from_members good rows e found m = told_if t (map Member t.members) good member_told found (subst (λ all. MatchOption found good (IsToldIn t (map Member all))) e m)
+  pub from_members : (good : Type 0) (rows : List MemberRow) → rows ≡ t.members → (found : Option SoundFault) → MatchOption found good (NamesBreachIn t (map Member rows)) → IfSome found (NamesBreach t)
+  from_members good rows e found m = told_if t (map Member t.members) good member_told found (subst (λ all. MatchOption found good (NamesBreachIn t (map Member all))) e m)
 
-  material_told : (fault : SoundFault) → IsToldIn t (map Material t.materials) fault → IsTold t fault
+  material_told : (fault : SoundFault) → NamesBreachIn t (map Material t.materials) fault → NamesBreach t fault
   material_told (Unsound table key) a = in_materials t (λ row. (table_number row ≡ table) × (record_code row ≡ key) × Breaks t row) a
   material_told OutOfMemory a = tt
 
-  pub from_materials : (good : Type 0) (rows : List MaterialRow) → rows ≡ t.materials → (found : Option SoundFault) → MatchOption found good (IsToldIn t (map Material rows)) → IfSome found (IsTold t)
-  from_materials good rows e found m = told_if t (map Material t.materials) good material_told found (subst (λ all. MatchOption found good (IsToldIn t (map Material all))) e m)
+  pub from_materials : (good : Type 0) (rows : List MaterialRow) → rows ≡ t.materials → (found : Option SoundFault) → MatchOption found good (NamesBreachIn t (map Material rows)) → IfSome found (NamesBreach t)
+  from_materials good rows e found m = told_if t (map Material t.materials) good material_told found (subst (λ all. MatchOption found good (NamesBreachIn t (map Material all))) e m)
 
-  part_told : (fault : SoundFault) → IsToldIn t (map Part t.parts) fault → IsTold t fault
+  part_told : (fault : SoundFault) → NamesBreachIn t (map Part t.parts) fault → NamesBreach t fault
   part_told (Unsound table key) a = in_parts t (λ row. (table_number row ≡ table) × (record_code row ≡ key) × Breaks t row) a
   part_told OutOfMemory a = tt
 
-  pub from_parts : (good : Type 0) (rows : List PartRow) → rows ≡ t.parts → (found : Option SoundFault) → MatchOption found good (IsToldIn t (map Part rows)) → IfSome found (IsTold t)
-  from_parts good rows e found m = told_if t (map Part t.parts) good part_told found (subst (λ all. MatchOption found good (IsToldIn t (map Part all))) e m)
+  pub from_parts : (good : Type 0) (rows : List PartRow) → rows ≡ t.parts → (found : Option SoundFault) → MatchOption found good (NamesBreachIn t (map Part rows)) → IfSome found (NamesBreach t)
+  from_parts good rows e found m = told_if t (map Part t.parts) good part_told found (subst (λ all. MatchOption found good (NamesBreachIn t (map Part all))) e m)
 
-  line_told : (fault : SoundFault) → IsToldIn t (map Line t.lines) fault → IsTold t fault
+  line_told : (fault : SoundFault) → NamesBreachIn t (map Line t.lines) fault → NamesBreach t fault
   line_told (Unsound table key) a = in_lines t (λ row. (table_number row ≡ table) × (record_code row ≡ key) × Breaks t row) a
   line_told OutOfMemory a = tt
 
-  pub from_lines : (good : Type 0) (rows : List LineRow) → rows ≡ t.lines → (found : Option SoundFault) → MatchOption found good (IsToldIn t (map Line rows)) → IfSome found (IsTold t)
-  from_lines good rows e found m = told_if t (map Line t.lines) good line_told found (subst (λ all. MatchOption found good (IsToldIn t (map Line all))) e m)
+  pub from_lines : (good : Type 0) (rows : List LineRow) → rows ≡ t.lines → (found : Option SoundFault) → MatchOption found good (NamesBreachIn t (map Line rows)) → IfSome found (NamesBreach t)
+  from_lines good rows e found m = told_if t (map Line t.lines) good line_told found (subst (λ all. MatchOption found good (NamesBreachIn t (map Line all))) e m)
 
-  product_told : (fault : SoundFault) → IsToldIn t (map Product t.products) fault → IsTold t fault
+  product_told : (fault : SoundFault) → NamesBreachIn t (map Product t.products) fault → NamesBreach t fault
   product_told (Unsound table key) a = in_products t (λ row. (table_number row ≡ table) × (record_code row ≡ key) × Breaks t row) a
   product_told OutOfMemory a = tt
 
-  pub from_products : (good : Type 0) (rows : List ProductRow) → rows ≡ t.products → (found : Option SoundFault) → MatchOption found good (IsToldIn t (map Product rows)) → IfSome found (IsTold t)
-  from_products good rows e found m = told_if t (map Product t.products) good product_told found (subst (λ all. MatchOption found good (IsToldIn t (map Product all))) e m)
+  pub from_products : (good : Type 0) (rows : List ProductRow) → rows ≡ t.products → (found : Option SoundFault) → MatchOption found good (NamesBreachIn t (map Product rows)) → IfSome found (NamesBreach t)
+  from_products good rows e found m = told_if t (map Product t.products) good product_told found (subst (λ all. MatchOption found good (NamesBreachIn t (map Product all))) e m)
 
-  exemption_told : (fault : SoundFault) → IsToldIn t (map Exemption t.exemptions) fault → IsTold t fault
+  exemption_told : (fault : SoundFault) → NamesBreachIn t (map Exemption t.exemptions) fault → NamesBreach t fault
   exemption_told (Unsound table key) a = in_exemptions t (λ row. (table_number row ≡ table) × (record_code row ≡ key) × Breaks t row) a
   exemption_told OutOfMemory a = tt
 
-  pub from_exemptions : (good : Type 0) (rows : List ExemptionRow) → rows ≡ t.exemptions → (found : Option SoundFault) → MatchOption found good (IsToldIn t (map Exemption rows)) → IfSome found (IsTold t)
-  from_exemptions good rows e found m = told_if t (map Exemption t.exemptions) good exemption_told found (subst (λ all. MatchOption found good (IsToldIn t (map Exemption all))) e m)
+  pub from_exemptions : (good : Type 0) (rows : List ExemptionRow) → rows ≡ t.exemptions → (found : Option SoundFault) → MatchOption found good (NamesBreachIn t (map Exemption rows)) → IfSome found (NamesBreach t)
+  from_exemptions good rows e found m = told_if t (map Exemption t.exemptions) good exemption_told found (subst (λ all. MatchOption found good (NamesBreachIn t (map Exemption all))) e m)
 
-  candidate_told : (fault : SoundFault) → IsToldIn t (map Candidate t.candidates) fault → IsTold t fault
+  candidate_told : (fault : SoundFault) → NamesBreachIn t (map Candidate t.candidates) fault → NamesBreach t fault
   candidate_told (Unsound table key) a = in_candidates t (λ row. (table_number row ≡ table) × (record_code row ≡ key) × Breaks t row) a
   candidate_told OutOfMemory a = tt
 
-  pub from_candidates : (good : Type 0) (rows : List CandidateRow) → rows ≡ t.candidates → (found : Option SoundFault) → MatchOption found good (IsToldIn t (map Candidate rows)) → IfSome found (IsTold t)
-  from_candidates good rows e found m = told_if t (map Candidate t.candidates) good candidate_told found (subst (λ all. MatchOption found good (IsToldIn t (map Candidate all))) e m)
+  pub from_candidates : (good : Type 0) (rows : List CandidateRow) → rows ≡ t.candidates → (found : Option SoundFault) → MatchOption found good (NamesBreachIn t (map Candidate rows)) → IfSome found (NamesBreach t)
+  from_candidates good rows e found m = told_if t (map Candidate t.candidates) good candidate_told found (subst (λ all. MatchOption found good (NamesBreachIn t (map Candidate all))) e m)
 
-  shipment_told : (fault : SoundFault) → IsToldIn t (map Shipment t.shipments) fault → IsTold t fault
+  shipment_told : (fault : SoundFault) → NamesBreachIn t (map Shipment t.shipments) fault → NamesBreach t fault
   shipment_told (Unsound table key) a = in_shipments t (λ row. (table_number row ≡ table) × (record_code row ≡ key) × Breaks t row) a
   shipment_told OutOfMemory a = tt
 
-  pub from_shipments : (good : Type 0) (rows : List ShipmentRow) → rows ≡ t.shipments → (found : Option SoundFault) → MatchOption found good (IsToldIn t (map Shipment rows)) → IfSome found (IsTold t)
-  from_shipments good rows e found m = told_if t (map Shipment t.shipments) good shipment_told found (subst (λ all. MatchOption found good (IsToldIn t (map Shipment all))) e m)
+  pub from_shipments : (good : Type 0) (rows : List ShipmentRow) → rows ≡ t.shipments → (found : Option SoundFault) → MatchOption found good (NamesBreachIn t (map Shipment rows)) → IfSome found (NamesBreach t)
+  from_shipments good rows e found m = told_if t (map Shipment t.shipments) good shipment_told found (subst (λ all. MatchOption found good (NamesBreachIn t (map Shipment all))) e m)
 
-  ticket_told : (fault : SoundFault) → IsToldIn t (map Ticket t.tickets) fault → IsTold t fault
+  ticket_told : (fault : SoundFault) → NamesBreachIn t (map Ticket t.tickets) fault → NamesBreach t fault
   ticket_told (Unsound table key) a = in_tickets t (λ row. (table_number row ≡ table) × (record_code row ≡ key) × Breaks t row) a
   ticket_told OutOfMemory a = tt
 
 -- a fault that names a row of a place tells it, where the row breaks a clause
-pub line_named : (t : Lists) (lines : List LineRow) (place : ℕ) (row : LineRow) (fault : SoundFault) → lines ≡ t.lines → place < length lines → row ≡ get_or lines place row → Breaks t (Line row) → IsNaming 5 (record_code (Line row)) fault → IsTold t fault
+pub line_named : (t : Lists) (lines : List LineRow) (place : ℕ) (row : LineRow) (fault : SoundFault) → lines ≡ t.lines → place < length lines → row ≡ get_or lines place row → Breaks t (Line row) → IsNaming 5 (record_code (Line row)) fault → NamesBreach t fault
 unfolding table_number
 line_named t lines place row fault same l is broken naming =
     line_told t fault
-    (subst (λ all. IsToldIn t (map Line all) fault) same (told_at t Line lines place row 5 fault l (subst (λ r. Breaks t (Line r)) is broken) refl (subst (λ r. IsNaming 5 (record_code (Line r)) fault) is naming)))
+    (subst (λ all. NamesBreachIn t (map Line all) fault) same (told_at t Line lines place row 5 fault l (subst (λ r. Breaks t (Line r)) is broken) refl (subst (λ r. IsNaming 5 (record_code (Line r)) fault) is naming)))
 
-pub shipment_named : (t : Lists) (shipments : List ShipmentRow) (place : ℕ) (row : ShipmentRow) (fault : SoundFault) → shipments ≡ t.shipments → place < length shipments → row ≡ get_or shipments place row → Breaks t (Shipment row) → IsNaming 9 (record_code (Shipment row)) fault → IsTold t fault
+pub shipment_named : (t : Lists) (shipments : List ShipmentRow) (place : ℕ) (row : ShipmentRow) (fault : SoundFault) → shipments ≡ t.shipments → place < length shipments → row ≡ get_or shipments place row → Breaks t (Shipment row) → IsNaming 9 (record_code (Shipment row)) fault → NamesBreach t fault
 unfolding table_number
 shipment_named t shipments place row fault same l is broken naming =
     shipment_told t fault
-    (subst (λ all. IsToldIn t (map Shipment all) fault) same (told_at t Shipment shipments place row 9 fault l (subst (λ r. Breaks t (Shipment r)) is broken) refl (subst (λ r. IsNaming 9 (record_code (Shipment r)) fault) is naming)))
+    (subst (λ all. NamesBreachIn t (map Shipment all) fault) same (told_at t Shipment shipments place row 9 fault l (subst (λ r. Breaks t (Shipment r)) is broken) refl (subst (λ r. IsNaming 9 (record_code (Shipment r)) fault) is naming)))
 
-pub ticket_named : (t : Lists) (tickets : List TicketRow) (place : ℕ) (row : TicketRow) (fault : SoundFault) → tickets ≡ t.tickets → place < length tickets → row ≡ get_or tickets place row → Breaks t (Ticket row) → IsNaming 10 row.code fault → IsTold t fault
+pub ticket_named : (t : Lists) (tickets : List TicketRow) (place : ℕ) (row : TicketRow) (fault : SoundFault) → tickets ≡ t.tickets → place < length tickets → row ≡ get_or tickets place row → Breaks t (Ticket row) → IsNaming 10 row.code fault → NamesBreach t fault
 unfolding table_number record_code
 ticket_named t tickets place row fault same l is broken naming =
     ticket_told t fault
-    (subst (λ all. IsToldIn t (map Ticket all) fault) same (told_at t Ticket tickets place row 10 fault l (subst (λ r. Breaks t (Ticket r)) is broken) refl (subst (λ r. IsNaming 10 (record_code (Ticket r)) fault) is naming)))
+    (subst (λ all. NamesBreachIn t (map Ticket all) fault) same (told_at t Ticket tickets place row 10 fault l (subst (λ r. Breaks t (Ticket r)) is broken) refl (subst (λ r. IsNaming 10 (record_code (Ticket r)) fault) is naming)))
 
 -- and so does one that names a part by its code
-pub part_named : (t : Lists) (code : List ℕ) (fault : SoundFault) → list_any (λ row. same_code row.code code && breaks_part t row) t.parts ≡ true → IsNaming 4 code fault → IsTold t fault
+pub part_named : (t : Lists) (code : List ℕ) (fault : SoundFault) → list_any (λ row. same_code row.code code && breaks_part t row) t.parts ≡ true → IsNaming 4 code fault → NamesBreach t fault
 unfolding table_number record_code
 part_named t code (Unsound table key) e naming =
     in_parts t (λ row. (table_number row ≡ table) × (record_code row ≡ key) × Breaks t row)

@@ -29,14 +29,14 @@ use Rattle.desk_tables.specs.declared.sound_fault.SoundFault.{SoundFault}
 use Rattle.desk_tables.specs.declared.sound_fault.SoundFault.TheVariants.{Unsound, OutOfMemory}
 
 -- one of these rows breaks a clause of soundness, and the fault names it, unless memory was wanting
-abbrev pub IsToldIn : Lists → List Row → SoundFault → Type 0
-IsToldIn t rows (Unsound table key) = Any (λ row. (table_number row ≡ table) × (record_code row ≡ key) × Breaks t row) rows
-IsToldIn t rows OutOfMemory = Unit {0}
+abbrev pub NamesBreachIn : Lists → List Row → SoundFault → Type 0
+NamesBreachIn t rows (Unsound table key) = Any (λ row. (table_number row ≡ table) × (record_code row ≡ key) × Breaks t row) rows
+NamesBreachIn t rows OutOfMemory = Unit {0}
 
 -- a row breaks a clause of soundness, and the fault names it, unless memory was wanting
-abbrev pub IsTold : Lists → SoundFault → Type 0
-IsTold t (Unsound table key) = IsBrokenAt t table key
-IsTold t OutOfMemory = Unit {0}
+abbrev pub NamesBreach : Lists → SoundFault → Type 0
+NamesBreach t (Unsound table key) = IsBrokenAt t table key
+NamesBreach t OutOfMemory = Unit {0}
 
 -- what a row of table 2 has to keep by itself: its form and range, and that what it names is kept; so for each table below
 abbrev pub is_good_member : Lists → MemberRow → Bool

@@ -1,6 +1,6 @@
 ghost use Rattle.std.specs.Prelude.{◌≡◌, true, IfErr, IfOk, OnOk};
 ghost use Rattle.desk_findings.specs.Bill.{are_children_right, are_codes_apart, is_acyclic};
-ghost use Rattle.desk_tables.specs.Soundness.{IsTold};
+ghost use Rattle.desk_tables.specs.Soundness.{NamesBreach};
 ghost use Rattle.desk_totals.specs.Cycles.{IsOnCycle};
 ghost use Rattle.desk_totals.specs.Linked.{IsBillOf};
 
@@ -18,7 +18,7 @@ impl Tables {
         requires children { are_children_right self.now.lists ≡ true }
         ensures bill { IfOk result (λ bill. IsBillOf bill self.now.lists) }
         ensures acyclic { OnOk result (is_acyclic self.now.lists ≡ true) }
-        ensures told { IfErr result (IsTold self.now.lists) }
+        ensures told { IfErr result (NamesBreach self.now.lists) }
     {
         // The call does nothing but say that the lists stand in order.
         self.in_order();
@@ -35,7 +35,7 @@ impl Tables {
     /// The fault that names the line at the place, which is on a cycle.
     fn cycle_fault_at(&self, alloc: Global, place: usize) -> SoundFault
         requires { IsOnCycle self.now.lists place }
-        ensures { IsTold self.now.lists result }
+        ensures { NamesBreach self.now.lists result }
     {
         fault_at(alloc, 5, &self.lines()[place])
     }

@@ -2,7 +2,7 @@ ghost use Rattle.std.specs.Prelude.{◌≡◌, true, false, IfSome, IsNone, leng
 ghost use Rattle.std.specs.List.{list_all};
 ghost use Rattle.desk_model.specs.declared.limits.TheConstants.{CANDIDATE_LIMIT, EXEMPTION_LIMIT, LINE_LIMIT, MATERIAL_LIMIT, MEMBER_LIMIT, PART_LIMIT, PRODUCT_LIMIT, SHIPMENT_LIMIT, SUBSTANCE_LIMIT};
 ghost use Rattle.desk_model.specs.Forms.{is_substance_row};
-ghost use Rattle.desk_tables.specs.Soundness.{AreRowsGood, IsTold, is_good_candidate, is_good_exemption, is_good_line, is_good_material, is_good_member, is_good_part, is_good_product, is_good_shipment};
+ghost use Rattle.desk_tables.specs.Soundness.{AreRowsGood, NamesBreach, is_good_candidate, is_good_exemption, is_good_line, is_good_material, is_good_member, is_good_part, is_good_product, is_good_shipment};
 
 use crate::tested_row::rows_fault;
 use crate::{SoundFault, Tables};
@@ -17,7 +17,7 @@ impl Tables {
     /// The first fault of a row of the tables 1 to 9.
     pub(crate) fn row_fault(&self, alloc: Global) -> Option<SoundFault>
         ensures good { IsNone result → AreRowsGood self.now.lists }
-        ensures told { IfSome result (IsTold self.now.lists) }
+        ensures told { IfSome result (NamesBreach self.now.lists) }
     {
         if let Some(fault) = self.substances_fault(alloc) {
             return Some(fault);
@@ -50,7 +50,7 @@ impl Tables {
     fn substances_fault(&self, alloc: Global) -> Option<SoundFault>
         ensures good { IsNone result → list_all is_substance_row self.now.lists.substances ≡ true }
         ensures few { IsNone result → nat_lt SUBSTANCE_LIMIT (length self.now.lists.substances) ≡ false }
-        ensures told { IfSome result (IsTold self.now.lists) }
+        ensures told { IfSome result (NamesBreach self.now.lists) }
     {
         rows_fault(alloc, self, self.substances(), 1, SUBSTANCE_LIMIT)
     }
@@ -59,7 +59,7 @@ impl Tables {
     fn members_fault(&self, alloc: Global) -> Option<SoundFault>
         ensures good { IsNone result → list_all (is_good_member self.now.lists) self.now.lists.members ≡ true }
         ensures few { IsNone result → nat_lt MEMBER_LIMIT (length self.now.lists.members) ≡ false }
-        ensures told { IfSome result (IsTold self.now.lists) }
+        ensures told { IfSome result (NamesBreach self.now.lists) }
     {
         rows_fault(alloc, self, self.members(), 2, MEMBER_LIMIT)
     }
@@ -68,7 +68,7 @@ impl Tables {
     fn materials_fault(&self, alloc: Global) -> Option<SoundFault>
         ensures good { IsNone result → list_all (is_good_material self.now.lists) self.now.lists.materials ≡ true }
         ensures few { IsNone result → nat_lt MATERIAL_LIMIT (length self.now.lists.materials) ≡ false }
-        ensures told { IfSome result (IsTold self.now.lists) }
+        ensures told { IfSome result (NamesBreach self.now.lists) }
     {
         rows_fault(alloc, self, self.materials(), 3, MATERIAL_LIMIT)
     }
@@ -77,7 +77,7 @@ impl Tables {
     fn parts_fault(&self, alloc: Global) -> Option<SoundFault>
         ensures good { IsNone result → list_all (is_good_part self.now.lists) self.now.lists.parts ≡ true }
         ensures few { IsNone result → nat_lt PART_LIMIT (length self.now.lists.parts) ≡ false }
-        ensures told { IfSome result (IsTold self.now.lists) }
+        ensures told { IfSome result (NamesBreach self.now.lists) }
     {
         rows_fault(alloc, self, self.parts(), 4, PART_LIMIT)
     }
@@ -86,7 +86,7 @@ impl Tables {
     fn lines_fault(&self, alloc: Global) -> Option<SoundFault>
         ensures good { IsNone result → list_all (is_good_line self.now.lists) self.now.lists.lines ≡ true }
         ensures few { IsNone result → nat_lt LINE_LIMIT (length self.now.lists.lines) ≡ false }
-        ensures told { IfSome result (IsTold self.now.lists) }
+        ensures told { IfSome result (NamesBreach self.now.lists) }
     {
         rows_fault(alloc, self, self.lines(), 5, LINE_LIMIT)
     }
@@ -95,7 +95,7 @@ impl Tables {
     fn products_fault(&self, alloc: Global) -> Option<SoundFault>
         ensures good { IsNone result → list_all (is_good_product self.now.lists) self.now.lists.products ≡ true }
         ensures few { IsNone result → nat_lt PRODUCT_LIMIT (length self.now.lists.products) ≡ false }
-        ensures told { IfSome result (IsTold self.now.lists) }
+        ensures told { IfSome result (NamesBreach self.now.lists) }
     {
         rows_fault(alloc, self, self.products(), 6, PRODUCT_LIMIT)
     }
@@ -104,7 +104,7 @@ impl Tables {
     fn exemptions_fault(&self, alloc: Global) -> Option<SoundFault>
         ensures good { IsNone result → list_all (is_good_exemption self.now.lists) self.now.lists.exemptions ≡ true }
         ensures few { IsNone result → nat_lt EXEMPTION_LIMIT (length self.now.lists.exemptions) ≡ false }
-        ensures told { IfSome result (IsTold self.now.lists) }
+        ensures told { IfSome result (NamesBreach self.now.lists) }
     {
         rows_fault(alloc, self, self.exemptions(), 7, EXEMPTION_LIMIT)
     }
@@ -113,7 +113,7 @@ impl Tables {
     fn candidates_fault(&self, alloc: Global) -> Option<SoundFault>
         ensures good { IsNone result → list_all (is_good_candidate self.now.lists) self.now.lists.candidates ≡ true }
         ensures few { IsNone result → nat_lt CANDIDATE_LIMIT (length self.now.lists.candidates) ≡ false }
-        ensures told { IfSome result (IsTold self.now.lists) }
+        ensures told { IfSome result (NamesBreach self.now.lists) }
     {
         rows_fault(alloc, self, self.candidates(), 8, CANDIDATE_LIMIT)
     }
@@ -122,7 +122,7 @@ impl Tables {
     fn shipments_fault(&self, alloc: Global) -> Option<SoundFault>
         ensures good { IsNone result → list_all (is_good_shipment self.now.lists) self.now.lists.shipments ≡ true }
         ensures few { IsNone result → nat_lt SHIPMENT_LIMIT (length self.now.lists.shipments) ≡ false }
-        ensures told { IfSome result (IsTold self.now.lists) }
+        ensures told { IfSome result (NamesBreach self.now.lists) }
     {
         rows_fault(alloc, self, self.shipments(), 9, SHIPMENT_LIMIT)
     }

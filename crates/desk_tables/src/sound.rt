@@ -1,6 +1,6 @@
 ghost use Rattle.std.specs.Prelude.{◌≡◌, ℕ, Err, IfErr, List, OnOk};
 ghost use Rattle.desk_history.specs.Sound.{Sound};
-ghost use Rattle.desk_tables.specs.Soundness.{IsTold};
+ghost use Rattle.desk_tables.specs.Soundness.{NamesBreach};
 
 use crate::{SoundFault, Tables};
 use std::alloc::Global;
@@ -16,7 +16,7 @@ impl Tables {
     /// raise them all take; where there is a cycle or a sum is too large, some passes over the bill more.
     pub fn is_sound(&self, alloc: Global) -> Result<(), SoundFault>
         ensures sound { OnOk result (Sound self.now.lists) }
-        ensures told { IfErr result (IsTold self.now.lists) }
+        ensures told { IfErr result (NamesBreach self.now.lists) }
         ensures unsound { (table : ℕ) (key : List ℕ) → result ≡ Err (SoundFault.Unsound table key) → Sound self.now.lists → ⊥ }
     {
         // The call does nothing but say that the lists stand in order.

@@ -6,7 +6,7 @@ ghost use Rattle.desk_findings.specs.Findings.{findings};
 ghost use Rattle.desk_findings.specs.Mass.{mass};
 ghost use Rattle.desk_findings.specs.Totals.{has_too_many_findings, too_heavy_part, too_heavy_year};
 ghost use Rattle.desk_history.specs.Sound.{IsConsistent, KeepsSums};
-ghost use Rattle.desk_tables.specs.Soundness.{IsNaming, IsTold};
+ghost use Rattle.desk_tables.specs.Soundness.{IsNaming, NamesBreach};
 ghost use Rattle.desk_totals.specs.Fit.{fit};
 ghost use Rattle.desk_totals.specs.Linked.{IsBillOf};
 
@@ -28,7 +28,7 @@ impl Tables {
         requires consistent { IsConsistent self.now.lists }
         requires bill { IsBillOf bill.now self.now.lists }
         ensures kept { OnOk result (KeepsSums self.now.lists) }
-        ensures told { IfErr result (IsTold self.now.lists) }
+        ensures told { IfErr result (NamesBreach self.now.lists) }
     {
         let lists = self.lists();
         let masses = lists.masses(alloc, bill)?;
@@ -48,7 +48,7 @@ impl Tables {
     /// The fault that names the first shipment of a year that is too heavy.
     fn year_fault(&self, alloc: Global, year: u16) -> SoundFault
         requires { too_heavy_year self.now.lists ≡ Some year }
-        ensures { IsTold self.now.lists result }
+        ensures { NamesBreach self.now.lists result }
     {
         match first_of_year(self.shipments(), year) {
             Some(place) => fault_at(alloc, 9, &self.shipments()[place]),

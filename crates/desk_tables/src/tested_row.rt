@@ -2,7 +2,7 @@ ghost use Rattle.std.specs.Prelude.{◌≡◌, ◌<◌, ◌⊎◌, true, false, 
 ghost use Rattle.std.specs.List.{list_all};
 ghost use Rattle.desk_model.specs.Rows.{record_code, table_number};
 ghost use Rattle.desk_history.specs.Breaches.{Breaks};
-ghost use Rattle.desk_tables.specs.Soundness.{IsNaming, IsToldIn};
+ghost use Rattle.desk_tables.specs.Soundness.{IsNaming, NamesBreachIn};
 
 use crate::{SoundFault, Tables};
 use desk_rows::Keyed;
@@ -44,7 +44,7 @@ pub(crate) fn rows_fault<R: TestedRow>(
     requires full { nat_lt limit (length rows.now) ≡ true → (row : R) → Breaks tables.now.lists (R.TestedRow.as_row row) }
     ensures { MatchOption result
         ((list_all (R.TestedRow.is_good tables.now.lists) rows.now ≡ true) × (nat_lt limit (length rows.now) ≡ false))
-        (IsToldIn tables.now.lists (map R.TestedRow.as_row rows.now)) }
+        (NamesBreachIn tables.now.lists (map R.TestedRow.as_row rows.now)) }
 {
     match first_broken(tables, rows, limit) {
         Some(place) => Some(fault_at(alloc, table, &rows[place])),

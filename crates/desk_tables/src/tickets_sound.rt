@@ -4,7 +4,7 @@ ghost use Rattle.desk_model.specs.declared.limits.TheConstants.{TICKET_LIMIT};
 ghost use Rattle.desk_model.specs.declared.rows.ticket.TicketRow.{TicketRow};
 ghost use Rattle.desk_history.specs.Limits.{has_too_much_text};
 ghost use Rattle.desk_history.specs.Sound.{IsTicketOfEdit};
-ghost use Rattle.desk_tables.specs.Soundness.{AreTicketsGood, IsNaming, IsTicketBroken, IsTold};
+ghost use Rattle.desk_tables.specs.Soundness.{AreTicketsGood, IsNaming, IsTicketBroken, NamesBreach};
 
 use crate::numbers_sound::odd_number;
 use crate::{SoundFault, Tables};
@@ -20,7 +20,7 @@ impl Tables {
     /// The first fault of table 10. It takes three passes over the tickets and reads the text of each.
     pub(crate) fn ticket_fault(&self, alloc: Global) -> Option<SoundFault>
         ensures good { IsNone result → AreTicketsGood self.now.lists }
-        ensures told { IfSome result (IsTold self.now.lists) }
+        ensures told { IfSome result (NamesBreach self.now.lists) }
     {
         match self.broken_ticket(alloc) {
             Ok(Some(place)) => Some(fault_of(alloc, &self.tickets()[place])),

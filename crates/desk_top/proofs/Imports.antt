@@ -8,14 +8,14 @@ use Rattle.desk_edge.specs.Transfer.{AppendsBeginning}
 use Rattle.desk_records.specs.Records.{tables_content}
 use Rattle.desk_top.specs.Answer.{Answer, Answers, answer_to_failed_reading, answer_to_store_fault, answer_without_memory, status_code}
 use Rattle.desk_top.specs.Console.{Console}
-use Rattle.desk_top.specs.Import.{EndsImport, IsRefusal}
+use Rattle.desk_top.specs.Import.{EndsImport, IsImportRefusal}
 use Rattle.desk_top.specs.declared.status.Status.{Status}
 use Rattle.desk_top.specs.declared.status.Status.TheVariants as status
 use Rattle.desk_top.proofs.Stores.{keeps_of, same_trans}
 
 -- why nothing was put into a keeper is why nothing was put into the store
 refusal_as : (Told Tells : Type 0) (a b : Content) (faults : ℕ) (console : Console) (answer : Answer) → (Told → Tells) → (Told → IsSame a b)
-    → IsRefusal Tells b faults console answer → IsRefusal Told a faults console answer
+    → IsImportRefusal Tells b faults console answer → IsImportRefusal Told a faults console answer
 refusal_as Told Tells a b faults console answer tells same (inl (is, unread, full)) =
     inl (is, unread, λ told none. full (tells told) (λ key. same told key ∙ none key))
 refusal_as Told Tells a b faults console answer tells same (inr (inl (is, none, bytes, read, long))) =

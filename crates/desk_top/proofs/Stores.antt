@@ -14,7 +14,7 @@ use Rattle.desk_model.specs.Start.{start}
 use Rattle.desk_records.specs.Records.{tables_content}
 use Rattle.desk_top.specs.Answer.{Answer, Answers, answer_of_opening, answer_to_store_fault, answer_without_memory, status_code}
 use Rattle.desk_top.specs.Console.{Console}
-use Rattle.desk_top.specs.Session.{EndsSession, WasServed, status_of}
+use Rattle.desk_top.specs.Session.{EndsSession, WasServed, exit_status_of}
 use Rattle.desk_top.specs.Store.{IsCause, WasNotBegun}
 use Rattle.desk_top.specs.declared.status.Status.{Status}
 use Rattle.desk_top.specs.declared.status.Status.TheVariants as status
@@ -113,7 +113,7 @@ begun_as kept keeps first (inr (some, was)) same = inl (λ key. same key ∙ sym
 -- a clerk over the opened store served the stream, or there was no memory to serve it
 pub ends_opened : (Tells : Type 0) (kept keeps : Content) (faults : ℕ) (first : Lists) (ended : Status) (console : Console) (rose : Type 0)
     → (Tells → IsOpenedAs kept first)
-    → ((served : Served) × (ended ≡ status_of served) × WasServed Tells keeps faults first served console)
+    → ((served : Served) × (ended ≡ exit_status_of served) × WasServed Tells keeps faults first served console)
     ⊎ ((ended ≡ status.OutOfMemory) × (Tells → IsSame (tables_content first) keeps) × Keeps console.unread console.left
     × Answers answer_without_memory (status_code ended) console.before console.after rose)
     → EndsSession Tells kept keeps faults (status_code ended) console rose

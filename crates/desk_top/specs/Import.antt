@@ -7,7 +7,7 @@ use Rattle.desk_history.specs.Sound.{Sound}
 use Rattle.desk_model.specs.Lists.{Lists}
 use Rattle.desk_records.specs.Records.{tables_content}
 use Rattle.desk_report.specs.File.{IsFileOf}
-use Rattle.desk_report.specs.Imported.{IsDamagedAt, import_limit}
+use Rattle.desk_report.specs.Imported.{IsDamagedLine, import_limit}
 use Rattle.desk_top.specs.Answer.{Answer, Answers, answer_to_damaged_line, answer_to_full_store, answer_to_import, answer_to_long_import}
 use Rattle.desk_top.specs.Answer.{answer_to_failed_reading, answer_to_store_fault, answer_without_memory, status_code}
 use Rattle.desk_top.specs.Console.{Console}
@@ -34,13 +34,13 @@ pub record WasImported (Tells : Type 0) (kept keeps : Content) (ended : ℕ) (c 
 -- why nothing was put in: the store keeps something, and nothing was read; or it keeps nothing, and the input is too long, or no
 -- export file of sound tables; or the store refused a call; or there was no memory; or the store keeps nothing, and the console failed
 -- while it was read
-abbrev pub IsRefusal : Type 0 → Content → ℕ → Console → Answer → Type 0
-IsRefusal Tells kept faults c answer =
+abbrev pub IsImportRefusal : Type 0 → Content → ℕ → Console → Answer → Type 0
+IsImportRefusal Tells kept faults c answer =
     ((answer ≡ answer_to_full_store) × Keeps c.unread c.left × (Tells → IsEmpty kept → ⊥))
     ⊎ ((answer ≡ answer_to_long_import) × (Tells → IsEmpty kept)
     × (bytes : List ℕ) × Consumes c.unread c.left bytes × (length bytes ≡ import_limit + 1))
     ⊎ ((line : ℕ) × (answer ≡ answer_to_damaged_line line) × (Tells → IsEmpty kept)
-    × (bytes : List ℕ) × IsReadWhole c bytes × IsDamagedAt bytes line)
+    × (bytes : List ℕ) × IsReadWhole c bytes × IsDamagedLine bytes line)
     ⊎ ((answer ≡ answer_to_store_fault) × (0 < faults))
     ⊎ (answer ≡ answer_without_memory)
     ⊎ ((answer ≡ answer_to_failed_reading) × (Tells → IsEmpty kept))
@@ -48,7 +48,7 @@ IsRefusal Tells kept faults c answer =
 -- nothing was put in, and the store is as it was; the status is that of the answer, and no other
 pub record WasRefused (Tells : Type 0) (kept keeps : Content) (faults : ℕ) (ended : ℕ) (c : Console) (rose : Type 0) : Type 0 where
   pub answer : Answer
-  pub cause : IsRefusal Tells kept faults c answer
+  pub cause : IsImportRefusal Tells kept faults c answer
   pub status : ended ≡ status_code answer.status
   pub told : Answers answer ended c.before c.after rose
   pub closed : Tells → IsSame kept keeps

@@ -18,12 +18,12 @@ use Rattle.desk_top.specs.declared.status.Status.{Status}
 use Rattle.desk_top.specs.declared.status.Status.TheVariants as status
 
 -- the status that tells how the serving of a stream ended
-abbrev pub status_of : Served → Status
-status_of Ended = status.Done
-status_of Cut = status.Refused
-status_of TooLong = status.Refused
-status_of LinkFault = status.ConsoleFault
-status_of OutOfMemory = status.OutOfMemory
+abbrev pub exit_status_of : Served → Status
+exit_status_of Ended = status.Done
+exit_status_of Cut = status.Refused
+exit_status_of TooLong = status.Refused
+exit_status_of LinkFault = status.ConsoleFault
+exit_status_of OutOfMemory = status.OutOfMemory
 
 -- what is kept where there is no store
 abbrev pub nothing_kept : Content
@@ -46,6 +46,6 @@ pub record WasServed (Tells : Type 0) (keeps : Content) (faults : ℕ) (first : 
 -- how a session ends with this status: it was served from the tables that the store is opened as, or it didn't begin
 abbrev pub EndsSession : Type 0 → Content → Content → ℕ → ℕ → Console → Type 0 → Type 0
 EndsSession Tells kept keeps faults ended c rose =
-    ((first : Lists) × (Tells → IsOpenedAs kept first) × (served : Served) × (ended ≡ status_code (status_of served))
+    ((first : Lists) × (Tells → IsOpenedAs kept first) × (served : Served) × (ended ≡ status_code (exit_status_of served))
     × WasServed Tells keeps faults first served c)
     ⊎ WasNotBegun Tells kept keeps faults ended c rose

@@ -7,7 +7,7 @@ ghost use Rattle.desk_records.specs.Records.{tables_content};
 ghost use Rattle.desk_top.specs.Answer.{Answers, answer_without_memory, status_code};
 ghost use Rattle.desk_top.specs.Console.{console_of};
 ghost use Rattle.desk_top.specs.Run.{IsSession};
-ghost use Rattle.desk_top.specs.Session.{EndsSession, WasServed, nothing_kept, status_of};
+ghost use Rattle.desk_top.specs.Session.{EndsSession, WasServed, nothing_kept, exit_status_of};
 ghost use Rattle.desk_top.specs.Store.{OnStore};
 
 use crate::status::Status;
@@ -100,7 +100,7 @@ fn serve_clerk<R: Wait + Sync, L: Link, K: Keeper>(
     link: &mut L,
 ) -> (Status, K)
     requires { K.faults (keeper_of clerk) ≡ 0 }
-    ensures served { ((served : Served) × (result.0 ≡ status_of served)
+    ensures served { ((served : Served) × (result.0 ≡ exit_status_of served)
         × WasServed (K.Tells result.1) (K.content result.1) (K.faults result.1) (whole clerk) served
         (console_of (L.unread link.old) (L.unread link.new) (L.written link.old) (L.written link.new)))
         ⊎ ((result.0 ≡ Status.OutOfMemory) × (K.Tells result.1 → IsSame (tables_content (whole clerk)) (K.content result.1))

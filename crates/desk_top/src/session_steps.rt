@@ -80,7 +80,7 @@ pub(crate) fn outcome<R: Wait + Sync + Threads>(
 
 /// The status of a command. It has no clause, and is written for any console and shelf, so that the proof of a test doesn't
 /// carry what a command does.
-pub(crate) fn status_of<R: Wait + Sync + Threads, L: Link, S: Shelf>(
+pub(crate) fn exit_status_of<R: Wait + Sync + Threads, L: Link, S: Shelf>(
     rt: &R,
     alloc: Global,
     words: &Vec<String>,
@@ -102,7 +102,7 @@ pub(crate) fn outcome_over<R: Wait + Sync + Threads>(
     for word in words {
         list.push(word.to_string(alloc)?)?;
     }
-    let status = status_of(rt, alloc, &list, &mut console, shelf);
+    let status = exit_status_of(rt, alloc, &list, &mut console, shelf);
     Ok((status, console.written().to_vec(alloc)?))
 }
 

@@ -2,7 +2,7 @@
 
 ghost use Rattle.std.specs.Prelude.{◌≤◌};
 
-use crate::session_steps::{outcome, status_of, stream_of};
+use crate::session_steps::{exit_status_of, outcome, stream_of};
 use crate::session_tests::GATEWAY;
 use desk_edge::{MapShelf, MemoryLink};
 use desk_text::Bytes;
@@ -277,7 +277,7 @@ fn failing_at<R: Wait + Sync + Threads>(
     let mut words = Vec::new(alloc);
     words.push("session".to_string(alloc)?)?;
     let mut shelf = MapShelf::new(alloc, Vec::new(alloc), Vec::new(alloc));
-    let status = status_of(rt, alloc, &words, &mut console, &mut shelf);
+    let status = exit_status_of(rt, alloc, &words, &mut console, &mut shelf);
     Ok((status, replies.as_bytes().starts_with(console.written())))
 }
 

@@ -16,7 +16,7 @@ use Rattle.clap.specs.declared.parser.matches.ArgMatches.{ArgMatches}
 use Rattle.clap.proofs.FaultLemmas.{stopped_fault}
 use Rattle.clap.proofs.WalkLemmas.{walk_stopped}
 use Rattle.desk_words.specs.App.{desk_app}
-use Rattle.desk_words.specs.Forms.{Form, Given, Word, Written, dashes, form_named, line_of, long, undashed, values_of, written}
+use Rattle.desk_words.specs.Forms.{Form, Given, Word, Written, dashes, form_named, command_line_of, long, undashed, values_of, written}
 use Rattle.desk_words.specs.Parsed.{Parses, fault_by, line_rows, rows_for}
 use Rattle.desk_words.specs.Table as table
 use Rattle.desk_words.specs.declared.command_fault.CommandFault.{CommandFault}
@@ -174,7 +174,7 @@ module _ (forms : List Form) where
       ∙ ap (option_map (with_name form.name)) (leaf_agrees form rest ok fits)
       ∙ rows_named form.name (values_of form rest)
 
-  line_agrees : AllLeft forms → (words : List Word) → Undashed words → from start words ≡ option_map line_rows (line_of forms words)
+  line_agrees : AllLeft forms → (words : List Word) → Undashed words → from start words ≡ option_map line_rows (command_line_of forms words)
   unfolding walk_fault defaults_fault
   line_agrees all [] ok = refl
   line_agrees all (word ∷ rest) ok = go (form_named word forms) refl
@@ -201,7 +201,7 @@ desk_is_simple = refl
 has_matches : is_simple desk_app ≡ true
 has_matches = refl
 
-pub desk_agrees : (words : List Word) → Undashed words → unless (fault_of desk_app words) (subcommand_of desk_app words) ≡ option_map line_rows (line_of table.forms words)
+pub desk_agrees : (words : List Word) → Undashed words → unless (fault_of desk_app words) (subcommand_of desk_app words) ≡ option_map line_rows (command_line_of table.forms words)
 desk_agrees words ok = line_agrees table.forms desk_left words ok
 
 among_fails : (k : ErrorKind) (kinds : Kinds) → IsAmong k kinds → fails kinds ≡ true
@@ -217,15 +217,15 @@ refuses line fault.NoCommand e = e
 refuses line fault.OutOfMemory e = tt
 
 pub parses_ok : (app : App) (words : List Word) (m : ArgMatches) → app ≡ desk_app → Undashed words → fault_of app words ≡ [] → HasMatchesOf app words m
-    → Parses (line_of table.forms words) (Ok m)
+    → Parses (command_line_of table.forms words) (Ok m)
 parses_ok app words m is ok none matches =
     (matches (ap is_simple is ∙ has_matches)).1 ∙ ap (λ a. subcommand_of a words) is
     ∙ sym (ap (λ t. unless t (subcommand_of desk_app words)) (sym (ap (λ a. fault_of a words) is) ∙ none)) ∙ desk_agrees words ok
 
 pub parses_err : (app : App) (words : List Word) (e : Error) → app ≡ desk_app → Undashed words → HasKind (fault_of app words) e
-    → Parses (line_of table.forms words) (Err (fault_by (kind_of e)))
+    → Parses (command_line_of table.forms words) (Err (fault_by (kind_of e)))
 parses_err app words e is ok has = elim has [
-  | inl memory ↦ subst (λ (told : CommandFault). Parses (line_of table.forms words) (Err told)) (sym (ap fault_by memory)) tt
-  | inr among ↦ refuses (line_of table.forms words) (fault_by (kind_of e)) (no_line _ (sym (desk_agrees words ok)
+  | inl memory ↦ subst (λ (told : CommandFault). Parses (command_line_of table.forms words) (Err told)) (sym (ap fault_by memory)) tt
+  | inr among ↦ refuses (command_line_of table.forms words) (fault_by (kind_of e)) (no_line _ (sym (desk_agrees words ok)
       ∙ unless_fails _ _ (ap (λ a. fails (fault_of a words)) (sym is) ∙ among_fails (kind_of e) _ among)))
 ]

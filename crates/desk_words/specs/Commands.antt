@@ -9,7 +9,7 @@ use Rattle.desk_text.specs.Day.{Date, day_of, is_askable}
 use Rattle.desk_text.specs.Number.{number_below}
 use Rattle.desk_law.specs.declared.kind.Kind.{Kind}
 use Rattle.desk_law.specs.Kind.{kind_of}
-use Rattle.desk_words.specs.Forms.{Word, has_one_dash, line_of, value_in}
+use Rattle.desk_words.specs.Forms.{Word, has_one_dash, command_line_of, value_in}
 use Rattle.desk_words.specs.Table.{forms}
 use Rattle.desk_words.specs.declared.command.Audit.{Audit}
 use Rattle.desk_words.specs.declared.command.Check.{Check}
@@ -113,7 +113,7 @@ command_named name text =
 -- and each value is of its own form
 unfoldable pub command_of : List Word → Option Command
 command_of words = if list_any has_one_dash words then None
-    else option_and_then (λ line. command_named line.0 (value_in line.1)) (line_of forms words)
+    else option_and_then (λ line. command_named line.0 (value_in line.1)) (command_line_of forms words)
 
 -- the answer, where there is memory
 abbrev pub answer_of : List Word → Result Command CommandFault

@@ -127,7 +127,7 @@ abbrev pub form_named : Word → List Form → Option Form
 form_named name forms = find (λ form. bytes_eq form.name name) forms
 
 -- a command's name and the values that the words after it give: the first word is the name, whole
-abbrev pub line_of : List Form → List Word → Option (Word × Given)
-line_of forms [] = None
-line_of forms (name ∷ words) =
+abbrev pub command_line_of : List Form → List Word → Option (Word × Given)
+command_line_of forms [] = None
+command_line_of forms (name ∷ words) =
     option_and_then (λ form. option_map (λ given. (form.name, given)) (values_of form words)) (form_named name forms)

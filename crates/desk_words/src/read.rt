@@ -2,7 +2,7 @@ ghost use Rattle.std.specs.Prelude.{◌≡◌, ◌≢◌, map, string_bytes, fal
 ghost use Rattle.std.specs.List.{list_any};
 ghost use Rattle.clap.specs.Values.{kind_of};
 ghost use Rattle.desk_words.specs.Commands.{HasBounds, answer_of};
-ghost use Rattle.desk_words.specs.Forms.{has_one_dash, line_of};
+ghost use Rattle.desk_words.specs.Forms.{has_one_dash, command_line_of};
 ghost use Rattle.desk_words.specs.Parsed.{Parses, fault_by};
 ghost use Rattle.desk_words.specs.Table.{forms};
 ghost use Rattle.desk_words.specs.declared.command_fault.CommandFault.TheVariants as fault;
@@ -35,7 +35,7 @@ pub fn read_command(alloc: Global, words: &[String]) -> Result<Command, CommandF
 
 /// The command's name and the values that the words give, of words none of which begins with one dash.
 fn read_line<'a>(alloc: Global, words: &'a [String]) -> Result<ArgMatches<'a>, CommandFault>
-    ensures { list_any has_one_dash (map string_bytes words.now) ≡ false → Parses (line_of forms (map string_bytes words.now)) result }
+    ensures { list_any has_one_dash (map string_bytes words.now) ≡ false → Parses (command_line_of forms (map string_bytes words.now)) result }
 {
     match desk(alloc)?.try_get_matches_from(words) {
         Ok(line) => Ok(line),
