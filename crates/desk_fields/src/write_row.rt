@@ -5,8 +5,9 @@ ghost use Rattle.desk_model.specs.EditText.{optional_number, substance_fields, t
 ghost use Rattle.desk_model.specs.Rows.{pair_code, record_code};
 ghost use Rattle.desk_fields.specs.RowTexts.{body_text, material_row_fields, version};
 
-use desk_law::Claim;
-use desk_model::{ExemptionRow, MaterialRow, Row, SubstanceMass, SubstanceRow, TicketRow};
+use desk_model::{
+    ExemptionRow, MaterialRow, Row, SubstanceRow, TicketRow, push_claims, push_substances,
+};
 use desk_text::{Bytes, OutOfMemory};
 use std::alloc::{AllocError, Global};
 
@@ -154,54 +155,4 @@ fn material_body(alloc: Global, row: &MaterialRow) -> Result<String, AllocError>
     push_substances(alloc, &mut text, row.substances.as_slice())?;
     push_claims(alloc, &mut text, row.claims.as_slice())?;
     Ok(text)
-}
-
-/// Appends how many substances there are, and then each, behind TABs.
-fn push_substances(
-    alloc: Global,
-    text: &mut String,
-    substances: &[SubstanceMass],
-) -> Result<(), AllocError>
-    ensures { OnOk result (string_bytes text.new ≡ string_bytes text.old ++ tabbed (substance_fields substances.now)) }
-{
-    let count = substances.len();
-    let head = format!(in alloc; "\t{count}")?;
-    text.push_str(head.as_str())?;
-    for held in substances {
-        push_substance(alloc, text, held)?;
-    }
-    Ok(())
-}
-
-/// Appends the code and the mass of a substance, each behind a TAB.
-fn push_substance(alloc: Global, text: &mut String, held: &SubstanceMass) -> Result<(), AllocError>
-    ensures { OnOk result (string_bytes text.new
-        ≡ string_bytes text.old ++ tabbed (held.now.substance ∷ decimal held.now.mass ∷ [])) }
-{
-    let (substance, mass) = (held.substance, held.mass);
-    let fields = format!(in alloc; "\t{substance}\t{mass}")?;
-    text.push_str(fields.as_str())
-}
-
-/// Appends how many claims there are, and then each, behind TABs.
-fn push_claims(alloc: Global, text: &mut String, claims: &[Claim]) -> Result<(), AllocError>
-    ensures { OnOk result (string_bytes text.new ≡ string_bytes text.old ++ tabbed (claim_fields claims.now)) }
-{
-    let count = claims.len();
-    let head = format!(in alloc; "\t{count}")?;
-    text.push_str(head.as_str())?;
-    for claim in claims {
-        push_claim(alloc, text, claim)?;
-    }
-    Ok(())
-}
-
-/// Appends the rule and the number of a claim, each behind a TAB.
-fn push_claim(alloc: Global, text: &mut String, claim: &Claim) -> Result<(), AllocError>
-    ensures { OnOk result (string_bytes text.new
-        ≡ string_bytes text.old ++ tabbed (rule_code claim.now.rule ∷ claim.now.number ∷ [])) }
-{
-    let (rule, number) = (claim.rule, claim.number);
-    let fields = format!(in alloc; "\t{rule}\t{number}")?;
-    text.push_str(fields.as_str())
 }

@@ -215,8 +215,11 @@ fn push_material(
     push_claims(alloc, text, material.claims.as_slice())
 }
 
-/// Appends how many substances there are, and then each, behind TABs.
-fn push_substances(
+/// Appends how many substances there are, and then the code and the mass of each (micrograms), each field behind a TAB: so
+/// stand they in the text of an edit, and in that of a row.
+///
+/// `AllocError`: no memory was left for them. `text` then ends with a beginning of them.
+pub fn push_substances(
     alloc: Global,
     text: &mut String,
     substances: &[SubstanceMass],
@@ -241,8 +244,11 @@ fn push_substance(alloc: Global, text: &mut String, held: &SubstanceMass) -> Res
     text.push_str(fields.as_str())
 }
 
-/// Appends how many claims there are, and then each, behind TABs.
-fn push_claims(alloc: Global, text: &mut String, claims: &[Claim]) -> Result<(), AllocError>
+/// Appends how many claims there are, and then the rule and the number of each, each field behind a TAB: so stand they in
+/// the text of an edit, and in that of a row.
+///
+/// `AllocError`: no memory was left for them. `text` then ends with a beginning of them.
+pub fn push_claims(alloc: Global, text: &mut String, claims: &[Claim]) -> Result<(), AllocError>
     ensures { OnOk result (string_bytes text.new ≡ string_bytes text.old ++ tabbed (claim_fields claims.now)) }
 {
     let count = claims.len();

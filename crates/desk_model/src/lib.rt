@@ -26,6 +26,7 @@ mod within;
 pub use decl_error::DeclError;
 pub use declaration::Declaration;
 pub use edit::Edit;
+pub use edit_text::{push_claims, push_substances};
 pub use edit_word::EditWord;
 pub use exemption::Exemption;
 pub use list_of::{Codes, ListOf};
