@@ -5,10 +5,10 @@ pub mod DayTextLemmas
 pub mod DigitLemmas
 pub mod FieldLemmas
 pub mod Fields
+pub mod HeadLemmas
 pub mod NameLemmas
 pub mod NumberLemmas
 pub mod NumberTextLemmas
 pub mod PictureLemmas
 pub mod SixMonthsLemmas
-pub mod TextLemmas
 pub mod WordLemmas

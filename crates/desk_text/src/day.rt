@@ -201,7 +201,8 @@ impl fmt::Display for Day {
 
     fn fmt<W: fmt::Write>(&self, f: &mut fmt::Formatter<W>) -> fmt::Result {
         let text = self.to_text();
-        f.write_str(str::from_utf8(&text).unwrap())
+        // That these bytes are a text is proved.
+        f.write_str(unsafe { str::from_utf8_unchecked(&text) })
     }
 }
 

@@ -73,7 +73,8 @@ pub(crate) fn digits_text(digits: &[u8]) -> &str
     requires { IsTrue (all_ascii_digits digits.now) }
     ensures { result.now ≡ digits.now }
 {
-    str::from_utf8(digits).unwrap()
+    // That these bytes are a text is proved.
+    unsafe { str::from_utf8_unchecked(digits) }
 }
 
 /// The number that one to four digits write.

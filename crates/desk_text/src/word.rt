@@ -106,7 +106,27 @@ impl<const N: usize> Word<N> {
     pub fn as_str(&self) -> &str
         ensures { result.now ≡ self.now }
     {
-        str::from_utf8(self.as_bytes()).unwrap()
+        // That the bytes are a text is proved. To look again would be most of the work where a word is written.
+        unsafe { str::from_utf8_unchecked(self.as_bytes()) }
+    }
+}
+
+/// How many bytes the head of a word has.
+const HEAD_LEN: usize = 8;
+
+impl<const N: usize> Word<N> {
+    ghost use Rattle.desk_text.specs.Word.{first_bytes};
+
+    /// The first places of the word as one number, by which most words that differ are told apart at once.
+    fn head(&self) -> u64
+        requires { 8 ≤ N }
+        ensures value { result ≡ first_bytes 8 0 self.now }
+        ensures ascii { IsAscii self.now }
+    {
+        match self.places.first_chunk() {
+            Some(places) => u64::from_be_bytes(*places),
+            None => unreachable!(),
+        }
     }
 }
 
@@ -144,6 +164,12 @@ impl<const N: usize> Ord for Word<N> {
     ghost matches_eq = { Prim.search (comparing, rules) };
 
     fn cmp(&self, other: &Word<N>) -> Ordering {
+        if N >= HEAD_LEN {
+            let (head, other_head) = (self.head(), other.head());
+            if head != other_head {
+                return head.cmp(&other_head);
+            }
+        }
         self.as_bytes().cmp(&other.as_bytes())
     }
 }
