@@ -3,6 +3,7 @@ pub mod Chained
 pub mod Compliant
 pub mod Content
 pub mod Counted
+pub mod Descents
 pub mod DutyParts
 pub mod ExampleProofs
 pub mod Factors

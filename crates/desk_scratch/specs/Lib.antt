@@ -1,4 +1,5 @@
 pub mod Assessment
+pub mod Below
 pub mod Bill
 pub mod CheckText
 pub mod Eval

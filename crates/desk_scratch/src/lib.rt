@@ -6,6 +6,7 @@
 mod answer;
 mod ask_fault;
 mod assessment;
+mod below;
 mod bill;
 mod check;
 mod duties;

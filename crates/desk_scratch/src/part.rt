@@ -6,7 +6,7 @@ ghost use Rattle.desk_model.specs.Lists.{is_part};
 ghost use Rattle.desk_findings.specs.Carried.{carried};
 ghost use Rattle.desk_scratch.specs.Part.{carried_in, carried_line, child_line, kind_line, part_line, part_text};
 
-use crate::bill::Bill;
+use crate::below::Below;
 use crate::shared_lines::{push_name_line, push_version_line};
 use desk_model::{CandidateRow, LineRow, PartRow, ProductRow};
 use desk_rows::run_of;
@@ -17,8 +17,8 @@ use std::fmt::Write;
 
 /// The answer on a part: what is kept of it, what it weighs and what it carries.
 ///
-/// It takes the bill once and, for each candidate, a look at each article and a few passes over nodes and lines. The
-/// text has a line for each of the part's lines and each candidate that it carries, and at most four more.
+/// It takes what lies at and below the part once and, for each candidate, a few binary searches for each part and line
+/// there. The text has a line for each of the part's lines and each candidate that it carries, and at most four more.
 pub(crate) fn part_text(
     alloc: Global,
     tables: &Tables,
@@ -28,26 +28,32 @@ pub(crate) fn part_text(
     requires kept { is_part tables.now.lists part.now.code ≡ true }
     ensures { IfOk result (λ text. text ≡ part_text tables.now.lists part.now) }
 {
-    let bill = Bill::new(alloc, tables)?;
+    let below = Below::new(alloc, tables, &part.code)?;
     let mut text = String::new(alloc);
     push_version_line(&mut text, tables)?;
-    push_part_line(&mut text, &bill, part)?;
+    push_part_line(alloc, &mut text, &below, part)?;
     push_name_line(&mut text, &part.name)?;
     push_kind_line(&mut text, tables.product(&part.code))?;
     push_child_lines(&mut text, run_of(tables.lines(), &part.code))?;
-    push_carried_lines(alloc, &mut text, &bill, &part.code)?;
+    push_carried_lines(alloc, &mut text, tables.candidates(), &below, &part.code)?;
     Ok(Bytes::from(text.into_bytes()))
 }
 
 /// Appends the line on what the part is and weighs.
 #[tactic(auto, unfolding(crate::specs::Part::part_line))]
-fn push_part_line(out: &mut String, bill: &Bill<'_>, part: &PartRow) -> Result<(), AllocError>
-    requires { is_part bill.now part.now.code ≡ true }
-    ensures { OnOk result (string_bytes out.new ≡ string_bytes out.old ++ part_line bill.now part.now) }
+fn push_part_line(
+    alloc: Global,
+    out: &mut String,
+    below: &Below<'_>,
+    part: &PartRow,
+) -> Result<(), OutOfMemory>
+    requires { is_part below.now.lists part.now.code ≡ true }
+    ensures { OnOk result (string_bytes out.new ≡ string_bytes out.old ++ part_line below.now.lists part.now) }
 {
     let (code, sort) = (part.code, part.sort);
-    let mass = bill.mass(&code);
-    writeln!(out, "part {code} {sort} mass {mass}")
+    let mass = below.mass(alloc, &code)?;
+    writeln!(out, "part {code} {sort} mass {mass}")?;
+    Ok(())
 }
 
 /// Appends the line on the kind of equipment of a product, if there is one.
@@ -87,15 +93,17 @@ fn push_child_line(out: &mut String, line: &LineRow) -> Result<(), AllocError>
 fn push_carried_lines(
     alloc: Global,
     out: &mut String,
-    bill: &Bill<'_>,
+    candidates: &[CandidateRow],
+    below: &Below<'_>,
     part: &Code,
 ) -> Result<(), OutOfMemory>
-    requires { is_part bill.now part.now ≡ true }
+    requires kept { is_part below.now.lists part.now ≡ true }
+    requires candidates { candidates.now ≡ below.now.lists.candidates }
     ensures { OnOk result (string_bytes out.new
-        ≡ string_bytes out.old ++ flat_map (carried_line bill.now part.now) (carried_in bill.now part.now)) }
+        ≡ string_bytes out.old ++ flat_map (carried_line below.now.lists part.now) (carried_in below.now.lists part.now)) }
 {
-    for candidate in bill.tables().candidates() {
-        push_carried_line(alloc, out, bill, part, candidate)?;
+    for candidate in candidates {
+        push_carried_line(alloc, out, below, part, candidate)?;
     }
     Ok(())
 }
@@ -105,17 +113,16 @@ fn push_carried_lines(
 fn push_carried_line(
     alloc: Global,
     out: &mut String,
-    bill: &Bill<'_>,
+    below: &Below<'_>,
     part: &Code,
     candidate: &CandidateRow,
 ) -> Result<(), OutOfMemory>
-    requires { is_part bill.now part.now ≡ true }
+    requires { is_part below.now.lists part.now ≡ true }
     ensures { OnOk result (string_bytes out.new ≡ string_bytes out.old
-        ++ (if not (carried bill.now candidate.now.substance part.now == 0) then carried_line bill.now part.now candidate.now else [])) }
+        ++ (if not (carried below.now.lists candidate.now.substance part.now == 0) then carried_line below.now.lists part.now candidate.now else [])) }
 {
     let substance = candidate.substance;
-    let loads = bill.loads(alloc, &substance)?;
-    let load = bill.load(loads.as_slice(), part);
+    let load = below.load(alloc, &substance, part)?;
     if load == 0 {
         return Ok(());
     }

@@ -7,9 +7,7 @@ use Rattle.desk_scratch.specs.Part.{carried_line}
 use Rattle.desk_scratch.proofs.part.push_carried_lines.Given as goal
 
 abbrev pub invariant-loop-candidate : goal.invariant-loop-candidate
-invariant-loop-candidate l = record {
-  candidates : l.candidate-items ≡ l.bill.candidates;
-  lines : string_bytes l.out
-      ≡ string_bytes l.fn.out
-      ++ flat_map (λ candidate. if not (carried l.bill candidate.substance l.part == 0) then carried_line l.bill l.part candidate else []) (take l.candidate-index l.candidate-items);
-}
+invariant-loop-candidate l =
+    string_bytes l.out
+    ≡ string_bytes l.fn.out
+    ++ flat_map (λ candidate. if not (carried l.below.lists candidate.substance l.part == 0) then carried_line l.below.lists l.part candidate else []) (take l.candidate-index l.candidates)
