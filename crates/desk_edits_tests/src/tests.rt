@@ -155,6 +155,40 @@ const WORDS: [WordRow; 11] = [
     ]),
 ];
 
+/// The value at a key: another one, or none, at the key that is changed, and else its first good one.
+fn value_at<'a>(row: &KeyRow, changed: &str, value: Option<&'a str>) -> Option<&'a str> {
+    let (_, key, good, _) = *row;
+    if key == changed {
+        value
+    } else {
+        good.first().copied()
+    }
+}
+
+/// Appends a key and its value to the text of an object.
+fn push_member(text: &mut String, key: &str, value: &str) -> Result<(), AllocError> {
+    text.push_str(",\"")?;
+    text.push_str(key)?;
+    text.push_str("\":")?;
+    text.push_str(value)?;
+    Ok(())
+}
+
+/// Appends each key that has a value.
+fn push_members(
+    text: &mut String,
+    keys: &[KeyRow],
+    changed: &str,
+    value: Option<&str>,
+) -> Result<(), AllocError> {
+    for row in keys {
+        if let Some(value) = value_at(row, changed, value) {
+            push_member(text, row.1, value)?;
+        }
+    }
+    Ok(())
+}
+
 /// An object of the word with a good value at each key, but with another one at one of them, or without it.
 fn object(
     alloc: Global,
@@ -164,17 +198,7 @@ fn object(
     value: Option<&str>,
 ) -> Result<String, AllocError> {
     let mut text = format!(in alloc; "{{\"edit\":\"{word}\"")?;
-    for (_, key, good, _) in keys {
-        let value = if *key == changed {
-            value
-        } else {
-            good.first().copied()
-        };
-        if let Some(value) = value {
-            let member = format!(in alloc; ",\"{key}\":{value}")?;
-            text.push_str(member.as_str())?;
-        }
-    }
+    push_members(&mut text, keys, changed, value)?;
     text.push('}')?;
     Ok(text)
 }
@@ -187,27 +211,32 @@ fn told(alloc: Global, bytes: &[u8]) -> Result<String, AllocError> {
     }
 }
 
-/// Whether at this key each good value is read, and each bad one is told by the key.
-fn has_its_values(alloc: Global, word: &str, keys: &[KeyRow], row: &KeyRow) -> Result<bool, Fail> {
+/// A failure that says what is told of this text in place of what is meant, unless it is that.
+fn is_told(alloc: Global, text: &str, meant: &str) -> Result<(), Fail> {
+    let found = told(alloc, text.as_bytes())?;
+    if found.as_str() == meant {
+        return Ok(());
+    }
+    Err(Fail::new(format_args!("{found} in place of {meant}, of {text}")))
+}
+
+/// A failure unless at this key each good value is read, and each bad one is told by the key.
+fn has_its_values(alloc: Global, word: &str, keys: &[KeyRow], row: &KeyRow) -> Result<(), Fail> {
     let (_, key, good, bad) = *row;
     for value in good {
         let text = object(alloc, word, keys, key, Some(*value))?;
-        if told(alloc, text.as_bytes())?.as_str() != "ok" {
-            return Ok(false);
-        }
+        is_told(alloc, text.as_str(), "ok")?;
     }
     let fault = format!(in alloc; "bad-value {key}")?;
     for value in bad {
         let text = object(alloc, word, keys, key, Some(*value))?;
-        if told(alloc, text.as_bytes())? != fault {
-            return Ok(false);
-        }
+        is_told(alloc, text.as_str(), fault.as_str())?;
     }
-    Ok(true)
+    Ok(())
 }
 
-/// Whether it is told that this key is missing, or is not, where it may be absent.
-fn is_missed(alloc: Global, word: &str, keys: &[KeyRow], row: &KeyRow) -> Result<bool, Fail> {
+/// A failure unless it is told that this key is missing, or is not, where it may be absent.
+fn is_missed(alloc: Global, word: &str, keys: &[KeyRow], row: &KeyRow) -> Result<(), Fail> {
     let (may_be_absent, key, _, _) = *row;
     let fault = if may_be_absent {
         String::from_str(alloc, "ok")?
@@ -215,25 +244,29 @@ fn is_missed(alloc: Global, word: &str, keys: &[KeyRow], row: &KeyRow) -> Result
         format!(in alloc; "missing-key {key}")?
     };
     let text = object(alloc, word, keys, key, None)?;
-    Ok(told(alloc, text.as_bytes())? == fault)
+    is_told(alloc, text.as_str(), fault.as_str())
 }
 
-/// The first key of the word at which a value or its absence is told otherwise.
-fn first_wrong(alloc: Global, word: &str, keys: &[KeyRow]) -> Result<Option<&'static str>, Fail> {
+/// A failure at the first key of the word at which a value or its absence is told otherwise.
+fn has_its_keys(alloc: Global, word: &str, keys: &[KeyRow]) -> Result<(), Fail> {
     for row in keys {
-        if !has_its_values(alloc, word, keys, row)? || !is_missed(alloc, word, keys, row)? {
-            return Ok(Some(row.1));
-        }
+        has_its_values(alloc, word, keys, row)?;
+        is_missed(alloc, word, keys, row)?;
     }
-    Ok(None)
+    Ok(())
+}
+
+/// The same of each word.
+fn have_their_keys(alloc: Global, words: &[WordRow]) -> Result<(), Fail> {
+    for (word, keys) in words {
+        has_its_keys(alloc, word, keys)?;
+    }
+    Ok(())
 }
 
 #[test]
 fn each_key_of_each_word_has_its_values(rt: HostRuntime) -> Result<(), Fail> {
-    for (word, keys) in WORDS {
-        assert_eq!(rt; first_wrong(rt.alloc(), word, keys)?, None, "of {word}");
-    }
-    Ok(())
+    have_their_keys(rt.alloc(), &WORDS)
 }
 
 #[rattlefmt::skip]
@@ -266,19 +299,26 @@ const FAULTS: [(&str, &str); 26] = [
     ("ok", "{\"edit\":\"fly\",\"ticket\":\"\",\"row\":\"R\",\"edit\":\"unexempt\",\"ticket\":\"t\"}"),
 ];
 
+/// A failure unless each text has its fault.
+fn are_told(alloc: Global, rows: &[(&str, &str)]) -> Result<(), Fail> {
+    for (meant, text) in rows {
+        is_told(alloc, text, meant)?;
+    }
+    Ok(())
+}
+
+/// What is told of an object with a byte that is no text, and of a want of memory.
+fn other_faults(alloc: Global) -> Result<String, AllocError> {
+    let latin = b"{\"edit\":\"unexempt\",\"ticket\":\"t\",\"row\":\"\xff\"}".as_slice();
+    let first = told(alloc, latin)?;
+    format!(in alloc; "{first}, {}", JsonFault::OutOfMemory)
+}
+
 #[test]
 fn the_first_fault_is_told(rt: HostRuntime) -> Result<(), Fail> {
-    for (fault, text) in FAULTS {
-        assert_eq!(rt;
-            told(rt.alloc(), text.as_bytes())?.as_str(),
-            fault,
-            "of {text}"
-        );
-    }
-    let latin = b"{\"edit\":\"unexempt\",\"ticket\":\"t\",\"row\":\"\xff\"}".as_slice();
-    assert_eq!(rt; told(rt.alloc(), latin)?.as_str(), "not-json");
-    let memory = format!(in rt.alloc(); "{}", JsonFault::OutOfMemory)?;
-    assert_eq!(rt; memory.as_str(), "out of memory");
+    are_told(rt.alloc(), &FAULTS)?;
+    let others = other_faults(rt.alloc())?;
+    assert_eq!(rt; others.as_str(), "not-json, out of memory");
     Ok(())
 }
 
@@ -312,32 +352,58 @@ fn is_edit(alloc: Global, edit: &Edit, fields: &str) -> Result<bool, Fail> {
     Ok(told.eq(fields) && ticket.as_slice() == b"E:t".as_slice())
 }
 
+/// The first of these texts that isn't read as its edit.
+fn first_other(alloc: Global, rows: &[(&str, &'static str)]) -> Result<Option<&'static str>, Fail> {
+    for (fields, text) in rows {
+        let edit = read_edit(alloc, text.as_bytes())?;
+        if !is_edit(alloc, &edit, fields)? {
+            return Ok(Some(text));
+        }
+    }
+    Ok(None)
+}
+
 #[test]
 fn each_word_is_read_as_its_edit(rt: HostRuntime) -> Result<(), Fail> {
-    for (fields, text) in EDITS {
-        let edit = read_edit(rt.alloc(), text.as_bytes())?;
-        assert!(rt; is_edit(rt.alloc(), &edit, fields)?, "of {text}");
-    }
+    assert_eq!(rt; first_other(rt.alloc(), &EDITS)?, None);
     Ok(())
+}
+
+/// 200 brackets that open, and as many that close.
+fn nested(alloc: Global) -> Result<Vec<u8>, AllocError> {
+    let mut text = Vec::new(alloc);
+    text.resize(200, b'[')?;
+    text.resize(400, b']')?;
+    Ok(text)
+}
+
+/// A start that one byte follows up to a length, and then an end.
+fn filled(
+    alloc: Global,
+    start: &str,
+    byte: u8,
+    length: usize,
+    end: &str,
+) -> Result<Vec<u8>, AllocError> {
+    let mut text = start.as_bytes().to_vec(alloc)?;
+    text.resize(length, byte)?;
+    text.extend_from_slice(end.as_bytes())?;
+    Ok(text)
+}
+
+/// What is told of nested brackets, of an object with many spaces and of one with a long name.
+fn told_of_long(alloc: Global) -> Result<String, AllocError> {
+    let row = r#"{"edit":"unexempt","ticket":"t","row":"R""#;
+    let name = r#"{"edit":"part","ticket":"t","code":"A","kind":"article","name":""#;
+    let nested = told(alloc, &nested(alloc)?)?;
+    let spaced = told(alloc, &filled(alloc, row, b' ', 65_535, "}")?)?;
+    let named = told(alloc, &filled(alloc, name, b'n', 65_534, "\"}")?)?;
+    format!(in alloc; "{nested}, {spaced}, {named}")
 }
 
 #[test]
 fn long_bodies_are_read(rt: HostRuntime) -> Result<(), Fail> {
-    let alloc = rt.alloc();
-    let mut nested = Vec::new(alloc);
-    nested.resize(200, b'[')?;
-    nested.resize(400, b']')?;
-    assert_eq!(rt; told(alloc, &nested)?.as_str(), "not-json");
-    let mut spaced = b"{\"edit\":\"unexempt\",\"ticket\":\"t\",\"row\":\"R\"".to_vec(alloc)?;
-    spaced.resize(65_535, b' ')?;
-    spaced.push(b'}')?;
-    assert_eq!(rt; told(alloc, &spaced)?.as_str(), "ok");
-    let mut name =
-        b"{\"edit\":\"part\",\"ticket\":\"t\",\"code\":\"A\",\"kind\":\"article\",\"name\":\"".to_vec(
-            alloc,
-        )?;
-    name.resize(65_534, b'n')?;
-    name.extend_from_slice(b"\"}")?;
-    assert_eq!(rt; told(alloc, &name)?.as_str(), "bad-value name");
+    let found = told_of_long(rt.alloc())?;
+    assert_eq!(rt; found.as_str(), "not-json, ok, bad-value name");
     Ok(())
 }

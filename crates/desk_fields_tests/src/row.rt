@@ -1,4 +1,4 @@
-use crate::tests::tabbed;
+use crate::tests::{check, tabbed};
 use desk_fields::{RowFault, read_row, row_body, row_code};
 use desk_text::Bytes;
 use std::alloc::{AllocError, Global};
@@ -110,38 +110,63 @@ fn is_kept(alloc: Global, table: u8, code: &str, text: &[u8]) -> Result<bool, Fa
     Ok(told.as_slice() == kept.as_slice())
 }
 
+/// A failure unless each row is written as it was read.
+fn are_kept(alloc: Global, rows: &[Record]) -> Result<(), Fail> {
+    for (table, code, fields) in rows {
+        let text = tabbed(alloc, fields)?;
+        if !is_kept(alloc, *table, code, &text)? {
+            return Err(Fail::new(format_args!("of {code} {fields}")));
+        }
+    }
+    Ok(())
+}
+
 #[test]
 fn each_row_is_read_and_written(rt: HostRuntime) -> Result<(), Fail> {
-    let alloc = rt.alloc();
-    for (table, code, fields) in ROWS {
-        let text = tabbed(alloc, fields)?;
-        assert!(rt; is_kept(alloc, table, code, &text)?, "of {fields}");
+    are_kept(rt.alloc(), &ROWS)
+}
+
+/// A failure unless the text of a table's row has this fault.
+fn is_refused(alloc: Global, row: Record, wanted: RowFault) -> Result<(), Fail> {
+    let (table, code, fields) = row;
+    let text = tabbed(alloc, fields)?;
+    let fault = read_row(alloc, table, code.as_bytes(), &text).err();
+    if fault == Some(wanted) {
+        return Ok(());
+    }
+    Err(Fail::new(format_args!("{fault:?} of {table} {code} {fields}")))
+}
+
+/// A failure unless no row has these texts.
+fn are_refused(alloc: Global, rows: &[Record]) -> Result<(), Fail> {
+    for row in rows {
+        is_refused(alloc, *row, RowFault::Shape)?;
     }
     Ok(())
 }
 
 #[test]
 fn what_no_row_spells_is_refused(rt: HostRuntime) -> Result<(), Fail> {
-    let alloc = rt.alloc();
-    for (table, code, fields) in OTHERS {
-        let text = tabbed(alloc, fields)?;
-        let fault = read_row(alloc, table, code.as_bytes(), &text).err();
-        assert_eq!(rt; fault, Some(RowFault::Shape), "of {code} {fields}");
+    are_refused(rt.alloc(), &OTHERS)
+}
+
+/// A failure unless these texts are of another version in each of these tables.
+fn are_other_versions(alloc: Global, texts: &[&'static str], tables: &[u8]) -> Result<(), Fail> {
+    for fields in texts {
+        for table in tables {
+            is_refused(alloc, (*table, "lead", *fields), RowFault::Version)?;
+        }
     }
     Ok(())
 }
 
 #[test]
 fn another_version_is_told_first(rt: HostRuntime) -> Result<(), Fail> {
-    let alloc = rt.alloc();
-    for fields in ["", "2|Lead|", "01|Lead|", "1 |Lead|", "|1|Lead|", "Lead|"] {
-        let text = tabbed(alloc, fields)?;
-        for table in [0, 1, 10] {
-            let fault = read_row(alloc, table, b"lead", &text).err();
-            assert_eq!(rt; fault, Some(RowFault::Version), "of {fields}");
-        }
-    }
-    Ok(())
+    are_other_versions(
+        rt.alloc(),
+        &["", "2|Lead|", "01|Lead|", "1 |Lead|", "|1|Lead|", "Lead|"],
+        &[0, 1, 10],
+    )
 }
 
 /// The text of a material with 64 substances and 16 claims.
@@ -161,10 +186,9 @@ fn fullest_material(alloc: Global) -> Result<Vec<u8>, AllocError> {
 
 #[test]
 fn the_fullest_material_is_read(rt: HostRuntime) -> Result<(), Fail> {
-    let alloc = rt.alloc();
-    let text = fullest_material(alloc)?;
-    assert!(rt; is_kept(alloc, 3, "SOLDER", &text)?);
-    Ok(())
+    let text = fullest_material(rt.alloc())?;
+    let is_kept = is_kept(rt.alloc(), 3, "SOLDER", &text)?;
+    check(is_kept, "the fullest material is written otherwise")
 }
 
 #[test]

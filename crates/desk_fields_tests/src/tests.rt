@@ -91,6 +91,11 @@ const OTHERS: [&str; 44] = [
     "declare|A|1|2024-01-23|1|M|m|1000000000000001|0|0",
 ];
 
+/// A failure that says what is wrong, unless it holds.
+pub(crate) fn check(holds: bool, wrong: &'static str) -> Result<(), Fail> {
+    if holds { Ok(()) } else { Err(Fail::new(wrong)) }
+}
+
 /// The text with a TAB in the place of each `|`.
 pub(crate) fn tabbed(alloc: Global, fields: &str) -> Result<Vec<u8>, AllocError> {
     let mut text = Vec::new(alloc);
@@ -109,53 +114,78 @@ fn is_told(alloc: Global, edit: &Edit, code: &str, text: &[u8]) -> Result<bool, 
     Ok(told.as_slice() == text && ticket.as_slice() == code.as_bytes())
 }
 
+/// A failure unless a text is read as the edit that has it and this ticket, and is told to be an edit's.
+fn is_read_back(alloc: Global, code: &str, fields: &str) -> Result<(), Fail> {
+    let text = tabbed(alloc, fields)?;
+    let edit = read_edit_text(alloc, code.as_bytes(), &text)?;
+    if is_told(alloc, &edit, code, &text)? && is_edit_text(alloc, &text)? {
+        return Ok(());
+    }
+    Err(Fail::new(format_args!("of {fields}")))
+}
+
+/// The same of each text.
+fn are_read_back(alloc: Global, rows: &[(&str, &str)]) -> Result<(), Fail> {
+    for (code, fields) in rows {
+        is_read_back(alloc, code, fields)?;
+    }
+    Ok(())
+}
+
 #[test]
 fn each_word_is_read_back(rt: HostRuntime) -> Result<(), Fail> {
-    let alloc = rt.alloc();
-    for (code, fields) in EDITS {
-        let text = tabbed(alloc, fields)?;
-        let edit = read_edit_text(alloc, code.as_bytes(), &text)?;
-        assert!(rt; is_told(alloc, &edit, code, &text)?, "of {fields}");
-        assert!(rt; is_edit_text(alloc, &text)?, "of {fields}");
+    are_read_back(rt.alloc(), &EDITS)
+}
+
+/// A failure unless a text is no edit's under this code, and is told to be that of an edit, or not to be.
+fn is_refused(alloc: Global, code: &str, fields: &str, is_edit: bool) -> Result<(), Fail> {
+    let text = tabbed(alloc, fields)?;
+    let fault = read_edit_text(alloc, code.as_bytes(), &text).err();
+    if fault == Some(TextFault::NotAnEdit) && is_edit_text(alloc, &text)? == is_edit {
+        return Ok(());
+    }
+    Err(Fail::new(format_args!("of {fields} under {code}")))
+}
+
+/// A failure unless each text is no edit's.
+fn are_no_edits(alloc: Global, texts: &[&str]) -> Result<(), Fail> {
+    for fields in texts {
+        is_refused(alloc, "E:t", fields, false)?;
+        is_refused(alloc, "D:A:1", fields, false)?;
     }
     Ok(())
 }
 
 #[test]
 fn what_no_edit_spells_is_refused(rt: HostRuntime) -> Result<(), Fail> {
-    let alloc = rt.alloc();
-    for fields in OTHERS {
-        let text = tabbed(alloc, fields)?;
-        for code in ["E:t", "D:A:1"] {
-            let fault = read_edit_text(alloc, code.as_bytes(), &text).err();
-            assert_eq!(rt; fault, Some(TextFault::NotAnEdit), "of {fields}");
-        }
-        assert!(rt; !is_edit_text(alloc, &text)?, "of {fields}");
+    are_no_edits(rt.alloc(), &OTHERS)
+}
+
+/// A failure unless each text is an edit's, but not under its code.
+fn are_under_other_codes(alloc: Global, rows: &[(&str, &str)]) -> Result<(), Fail> {
+    for (code, fields) in rows {
+        is_refused(alloc, code, fields, true)?;
     }
     Ok(())
 }
 
 #[test]
 fn a_text_under_another_code_is_still_one(rt: HostRuntime) -> Result<(), Fail> {
-    let alloc = rt.alloc();
-    for (code, fields) in [
-        ("", "unline|A|B"),
-        ("t", "unline|A|B"),
-        ("E:", "unline|A|B"),
-        ("e:t", "unline|A|B"),
-        ("E:t u", "unline|A|B"),
-        ("D:A:1", "unline|A|B"),
-        ("E:A", "declare|A|1|2024-01-23|0"),
-        ("D:B:1", "declare|A|1|2024-01-23|0"),
-        ("D:A:01", "declare|A|1|2024-01-23|0"),
-        ("D:A:1\t", "declare|A|1|2024-01-23|0"),
-    ] {
-        let text = tabbed(alloc, fields)?;
-        let fault = read_edit_text(alloc, code.as_bytes(), &text).err();
-        assert_eq!(rt; fault, Some(TextFault::NotAnEdit), "of {code}");
-        assert!(rt; is_edit_text(alloc, &text)?, "of {fields}");
-    }
-    Ok(())
+    are_under_other_codes(
+        rt.alloc(),
+        &[
+            ("", "unline|A|B"),
+            ("t", "unline|A|B"),
+            ("E:", "unline|A|B"),
+            ("e:t", "unline|A|B"),
+            ("E:t u", "unline|A|B"),
+            ("D:A:1", "unline|A|B"),
+            ("E:A", "declare|A|1|2024-01-23|0"),
+            ("D:B:1", "declare|A|1|2024-01-23|0"),
+            ("D:A:01", "declare|A|1|2024-01-23|0"),
+            ("D:A:1\t", "declare|A|1|2024-01-23|0"),
+        ],
+    )
 }
 
 const FIFTY: &str = "aaaaaaaaaaaaaaaaaaaaaaaaaaaaaaaaaaaaaaaaaaaaaaaaaa";
@@ -174,20 +204,23 @@ fn longest_text(alloc: Global) -> Result<Vec<u8>, AllocError> {
 
 #[test]
 fn the_longest_declaration_is_read(rt: HostRuntime) -> Result<(), Fail> {
-    let alloc = rt.alloc();
-    let text = longest_text(alloc)?;
-    let edit = read_edit_text(alloc, b"D:ACME:7", &text)?;
-    assert!(rt; is_told(alloc, &edit, "D:ACME:7", &text)?);
-    Ok(())
+    let text = longest_text(rt.alloc())?;
+    let edit = read_edit_text(rt.alloc(), b"D:ACME:7", &text)?;
+    let is_told = is_told(rt.alloc(), &edit, "D:ACME:7", &text)?;
+    check(is_told, "the longest text is told otherwise")
+}
+
+/// A declaration whose 256 materials are TABs up to 65,536 bytes.
+fn text_of_tabs(alloc: Global) -> Result<Vec<u8>, AllocError> {
+    let mut text = b"declare\tA\t1\t2024-01-23\t256".to_vec(alloc)?;
+    text.resize(65_536, b'\t')?;
+    Ok(text)
 }
 
 #[test]
 fn a_text_of_tabs_is_refused(rt: HostRuntime) -> Result<(), Fail> {
-    let alloc = rt.alloc();
-    let mut text = b"declare\tA\t1\t2024-01-23\t256".to_vec(alloc)?;
-    text.resize(65_536, b'\t')?;
-    assert!(rt; !is_edit_text(alloc, &text)?);
-    Ok(())
+    let text = text_of_tabs(rt.alloc())?;
+    check(!is_edit_text(rt.alloc(), &text)?, "TABs are an edit's text")
 }
 
 #[test]

@@ -58,155 +58,162 @@ fn answer(alloc: Global, asked: Result<Ask, HttpFault>) -> Result<String, AllocE
 }
 
 #[rattlefmt::skip]
-fn asking() -> [Row; 19] {
-    [
-        (GET, b"/material/SOLDER?kind=3&day=2024-01-23", "material SOLDER kind 3 day 2024-01-23"),
-        (GET, b"/material/SOLDER?day=2024-01-23&kind=9i", "material SOLDER kind 9i day 2024-01-23"),
-        (GET, b"/material/SOLDER?kind=%38i&day=2024%2D01%2d23", "material SOLDER kind 8i day 2024-01-23"),
-        (GET, b"/rohs/P?day=2024-01-23", "rohs P day 2024-01-23"),
-        (GET, b"/rohs/P?&day=2024-01-23&&", "rohs P day 2024-01-23"),
-        (GET, b"/rohs/P?d%61y=2024-01-23", "rohs P day 2024-01-23"),
-        (GET, b"/article33/A.b_c-9?day=2014-07-22", "reach33 A.b_c-9 day 2014-07-22"),
-        (GET, b"/article7/2008?day=2024-12-31", "reach7 2008 day 2024-12-31"),
-        (GET, b"/article7/2099?day=2099-12-31", "reach7 2099 day 2099-12-31"),
-        (GET, b"/part/CABLE", "part CABLE"),
-        (GET, b"/part/CABLE?", "part CABLE"),
-        (GET, b"/part/aaaaaaaaaaaaaaaaaaaaaaaaaaaaaaaaaaaaaaaa", "part aaaaaaaaaaaaaaaaaaaaaaaaaaaaaaaaaaaaaaaa"),
-        (GET, b"/uses/PIN", "uses PIN"),
-        (GET, b"/uses/PIN?&&", "uses PIN"),
-        (GET, b"/summary?day=2024-07-22", "summary day 2024-07-22"),
-        (GET, b"/version", "version"),
-        (GET, b"/version?", "version"),
-        (POST, b"/edit", "edit"),
-        (POST, b"/declare?", "declaration"),
-    ]
-}
+const ASKING: &[Row] = &[
+    (GET, b"/material/SOLDER?kind=3&day=2024-01-23", "material SOLDER kind 3 day 2024-01-23"),
+    (GET, b"/material/SOLDER?day=2024-01-23&kind=9i", "material SOLDER kind 9i day 2024-01-23"),
+    (GET, b"/material/SOLDER?kind=%38i&day=2024%2D01%2d23", "material SOLDER kind 8i day 2024-01-23"),
+    (GET, b"/rohs/P?day=2024-01-23", "rohs P day 2024-01-23"),
+    (GET, b"/rohs/P?&day=2024-01-23&&", "rohs P day 2024-01-23"),
+    (GET, b"/rohs/P?d%61y=2024-01-23", "rohs P day 2024-01-23"),
+    (GET, b"/article33/A.b_c-9?day=2014-07-22", "reach33 A.b_c-9 day 2014-07-22"),
+    (GET, b"/article7/2008?day=2024-12-31", "reach7 2008 day 2024-12-31"),
+    (GET, b"/article7/2099?day=2099-12-31", "reach7 2099 day 2099-12-31"),
+    (GET, b"/part/CABLE", "part CABLE"),
+    (GET, b"/part/CABLE?", "part CABLE"),
+    (GET, b"/part/aaaaaaaaaaaaaaaaaaaaaaaaaaaaaaaaaaaaaaaa", "part aaaaaaaaaaaaaaaaaaaaaaaaaaaaaaaaaaaaaaaa"),
+    (GET, b"/uses/PIN", "uses PIN"),
+    (GET, b"/uses/PIN?&&", "uses PIN"),
+    (GET, b"/summary?day=2024-07-22", "summary day 2024-07-22"),
+    (GET, b"/version", "version"),
+    (GET, b"/version?", "version"),
+    (POST, b"/edit", "edit"),
+    (POST, b"/declare?", "declaration"),
+];
 
 #[rattlefmt::skip]
-fn without_a_route() -> [Row; 32] {
-    [
-        (GET, b"", "no-route"),
-        (GET, b"/", "no-route"),
-        (GET, b"*", "no-route"),
-        (GET, b"?day=2024-01-23", "no-route"),
-        (GET, b"//version", "no-route"),
-        (GET, b"http://desk/version", "no-route"),
-        (GET, b"version", "no-route"),
-        (GET, b"/nothing", "no-route"),
-        (GET, b"/Version", "no-route"),
-        (GET, b"/vers", "no-route"),
-        (GET, b"/versions", "no-route"),
-        (GET, b"/version/", "no-route"),
-        (GET, b"/version/1", "no-route"),
-        (GET, b"/v%65rsion", "no-route"),
-        (GET, b"/version\xff", "no-route"),
-        (GET, b"/part\xc3", "no-route"),
-        (GET, b"/part", "no-route"),
-        (GET, b"/part/", "no-route"),
-        (GET, b"/part//A", "no-route"),
-        (GET, b"/part/A/", "no-route"),
-        (GET, b"/part/A/B", "no-route"),
-        (GET, b"/part/A%20B", "no-route"),
-        (GET, b"/part/%41", "no-route"),
-        (GET, b"/part/\xff", "no-route"),
-        (GET, b"/part/aaaaaaaaaaaaaaaaaaaaaaaaaaaaaaaaaaaaaaaaa", "no-route"),
-        (GET, b"/article7/2007?day=2024-12-31", "no-route"),
-        (GET, b"/article7/2100?day=2024-12-31", "no-route"),
-        (GET, b"/article7/02024?day=2024-12-31", "no-route"),
-        (GET, b"/article7/+2024?day=2024-12-31", "no-route"),
-        (GET, b"/article7/2024/?day=2024-12-31", "no-route"),
-        (POST, b"/edit/A", "no-route"),
-        (OTHER, b"/part/", "no-route"),
-    ]
-}
+const WITHOUT_A_ROUTE: &[Row] = &[
+    (GET, b"", "no-route"),
+    (GET, b"/", "no-route"),
+    (GET, b"*", "no-route"),
+    (GET, b"?day=2024-01-23", "no-route"),
+    (GET, b"//version", "no-route"),
+    (GET, b"http://desk/version", "no-route"),
+    (GET, b"version", "no-route"),
+    (GET, b"/nothing", "no-route"),
+    (GET, b"/Version", "no-route"),
+    (GET, b"/vers", "no-route"),
+    (GET, b"/versions", "no-route"),
+    (GET, b"/version/", "no-route"),
+    (GET, b"/version/1", "no-route"),
+    (GET, b"/v%65rsion", "no-route"),
+    (GET, b"/version\xff", "no-route"),
+    (GET, b"/part\xc3", "no-route"),
+    (GET, b"/part", "no-route"),
+    (GET, b"/part/", "no-route"),
+    (GET, b"/part//A", "no-route"),
+    (GET, b"/part/A/", "no-route"),
+    (GET, b"/part/A/B", "no-route"),
+    (GET, b"/part/A%20B", "no-route"),
+    (GET, b"/part/%41", "no-route"),
+    (GET, b"/part/\xff", "no-route"),
+    (GET, b"/part/aaaaaaaaaaaaaaaaaaaaaaaaaaaaaaaaaaaaaaaaa", "no-route"),
+    (GET, b"/article7/2007?day=2024-12-31", "no-route"),
+    (GET, b"/article7/2100?day=2024-12-31", "no-route"),
+    (GET, b"/article7/02024?day=2024-12-31", "no-route"),
+    (GET, b"/article7/+2024?day=2024-12-31", "no-route"),
+    (GET, b"/article7/2024/?day=2024-12-31", "no-route"),
+    (POST, b"/edit/A", "no-route"),
+    (OTHER, b"/part/", "no-route"),
+];
 
 #[rattlefmt::skip]
-fn by_another_method() -> [Row; 14] {
-    [
-        (POST, b"/material/A?kind=3&day=2024-01-23", "only GET"),
-        (OTHER, b"/rohs/P?day=2024-01-23", "only GET"),
-        (POST, b"/rohs/P", "only GET"),
-        (OTHER, b"/article33/P?x", "only GET"),
-        (POST, b"/article7/2024?day=2024-12-31", "only GET"),
-        (OTHER, b"/part/P", "only GET"),
-        (POST, b"/uses/P", "only GET"),
-        (OTHER, b"/summary?day=2024-07-22", "only GET"),
-        (POST, b"/version", "only GET"),
-        (OTHER, b"/version?x=1", "only GET"),
-        (GET, b"/edit", "only POST"),
-        (OTHER, b"/edit?x", "only POST"),
-        (GET, b"/declare", "only POST"),
-        (OTHER, b"/declare", "only POST"),
-    ]
-}
+const BY_ANOTHER_METHOD: &[Row] = &[
+    (POST, b"/material/A?kind=3&day=2024-01-23", "only GET"),
+    (OTHER, b"/rohs/P?day=2024-01-23", "only GET"),
+    (POST, b"/rohs/P", "only GET"),
+    (OTHER, b"/article33/P?x", "only GET"),
+    (POST, b"/article7/2024?day=2024-12-31", "only GET"),
+    (OTHER, b"/part/P", "only GET"),
+    (POST, b"/uses/P", "only GET"),
+    (OTHER, b"/summary?day=2024-07-22", "only GET"),
+    (POST, b"/version", "only GET"),
+    (OTHER, b"/version?x=1", "only GET"),
+    (GET, b"/edit", "only POST"),
+    (OTHER, b"/edit?x", "only POST"),
+    (GET, b"/declare", "only POST"),
+    (OTHER, b"/declare", "only POST"),
+];
 
 #[rattlefmt::skip]
-fn with_a_bad_query() -> [Row; 33] {
-    [
-        (GET, b"/rohs/P", "bad-query day"),
-        (GET, b"/rohs/P?", "bad-query day"),
-        (GET, b"/rohs/P?day", "bad-query day"),
-        (GET, b"/rohs/P?day=", "bad-query day"),
-        (GET, b"/rohs/P?day=2014-07-21", "bad-query day"),
-        (GET, b"/rohs/P?day=2024-1-23", "bad-query day"),
-        (GET, b"/rohs/P?day=2024-02-30", "bad-query day"),
-        (GET, b"/rohs/P?day=2024-01-23&day=2024-01-23", "bad-query day"),
-        (GET, b"/rohs/P?day=2024-01-23&day", "bad-query day"),
-        (GET, b"/rohs/P?day&day=2024-01-23", "bad-query day"),
-        (GET, b"/rohs/P?Day=2024-01-23", "bad-query day"),
-        (GET, b"/rohs/P?day=2024-01-23?x", "bad-query day"),
-        (GET, b"/rohs/P?day=+2024-01-23", "bad-query day"),
-        (GET, b"/rohs/P?day=2024-01-23%00", "bad-query day"),
-        (GET, b"/rohs/P?x=1", "bad-query day"),
-        (GET, b"/rohs/P?day=2024-01-23&x=1", "bad-query other"),
-        (GET, b"/rohs/P?day=2024-01-23&=", "bad-query other"),
-        (GET, b"/rohs/P?day=2024-01-23&kind=3", "bad-query other"),
-        (GET, b"/material/A", "bad-query kind"),
-        (GET, b"/material/A?day=2024-01-23", "bad-query kind"),
-        (GET, b"/material/A?day=bad&kind=12", "bad-query kind"),
-        (GET, b"/material/A?kind=3&kind=3&day=2024-01-23", "bad-query kind"),
-        (GET, b"/material/A?kind=&day=2024-01-23", "bad-query kind"),
-        (GET, b"/material/A?kind=3", "bad-query day"),
-        (GET, b"/material/A?day=bad&kind=3", "bad-query day"),
-        (GET, b"/material/A?kind=3&day=2024-01-23&a", "bad-query other"),
-        (GET, b"/article33/A?kind=3", "bad-query day"),
-        (GET, b"/article7/2024", "bad-query day"),
-        (GET, b"/summary?year=2024", "bad-query day"),
-        (GET, b"/part/A?day=2024-01-23", "bad-query other"),
-        (GET, b"/version?x=1", "bad-query other"),
-        (POST, b"/edit?kind=3", "bad-query other"),
-        (POST, b"/declare?a&b", "bad-query other"),
-    ]
+const WITH_A_BAD_QUERY: &[Row] = &[
+    (GET, b"/rohs/P", "bad-query day"),
+    (GET, b"/rohs/P?", "bad-query day"),
+    (GET, b"/rohs/P?day", "bad-query day"),
+    (GET, b"/rohs/P?day=", "bad-query day"),
+    (GET, b"/rohs/P?day=2014-07-21", "bad-query day"),
+    (GET, b"/rohs/P?day=2024-1-23", "bad-query day"),
+    (GET, b"/rohs/P?day=2024-02-30", "bad-query day"),
+    (GET, b"/rohs/P?day=2024-01-23&day=2024-01-23", "bad-query day"),
+    (GET, b"/rohs/P?day=2024-01-23&day", "bad-query day"),
+    (GET, b"/rohs/P?day&day=2024-01-23", "bad-query day"),
+    (GET, b"/rohs/P?Day=2024-01-23", "bad-query day"),
+    (GET, b"/rohs/P?day=2024-01-23?x", "bad-query day"),
+    (GET, b"/rohs/P?day=+2024-01-23", "bad-query day"),
+    (GET, b"/rohs/P?day=2024-01-23%00", "bad-query day"),
+    (GET, b"/rohs/P?x=1", "bad-query day"),
+    (GET, b"/rohs/P?day=2024-01-23&x=1", "bad-query other"),
+    (GET, b"/rohs/P?day=2024-01-23&=", "bad-query other"),
+    (GET, b"/rohs/P?day=2024-01-23&kind=3", "bad-query other"),
+    (GET, b"/material/A", "bad-query kind"),
+    (GET, b"/material/A?day=2024-01-23", "bad-query kind"),
+    (GET, b"/material/A?day=bad&kind=12", "bad-query kind"),
+    (GET, b"/material/A?kind=3&kind=3&day=2024-01-23", "bad-query kind"),
+    (GET, b"/material/A?kind=&day=2024-01-23", "bad-query kind"),
+    (GET, b"/material/A?kind=3", "bad-query day"),
+    (GET, b"/material/A?day=bad&kind=3", "bad-query day"),
+    (GET, b"/material/A?kind=3&day=2024-01-23&a", "bad-query other"),
+    (GET, b"/article33/A?kind=3", "bad-query day"),
+    (GET, b"/article7/2024", "bad-query day"),
+    (GET, b"/summary?year=2024", "bad-query day"),
+    (GET, b"/part/A?day=2024-01-23", "bad-query other"),
+    (GET, b"/version?x=1", "bad-query other"),
+    (POST, b"/edit?kind=3", "bad-query other"),
+    (POST, b"/declare?a&b", "bad-query other"),
+];
+
+/// The place of the first row whose target asks something else.
+fn first_other(alloc: Global, routes: &Routes, rows: &[Row]) -> Result<Option<usize>, AllocError> {
+    for (place, (method, target, words)) in rows.iter().enumerate() {
+        let told = answer(alloc, asked(alloc, routes, *method, target))?;
+        if told.as_str() != *words {
+            return Ok(Some(place));
+        }
+    }
+    Ok(None)
 }
 
-#[test]
-fn each_target_asks_so(rt: HostRuntime) -> Result<(), Fail> {
-    let alloc = rt.alloc();
+/// Fails at the first row of these lists whose target asks something else.
+fn ask_so(alloc: Global, lists: &[&[Row]]) -> Result<(), Fail> {
     let routes = Routes::build(alloc)?;
-    let (asking, missing) = (asking(), without_a_route());
-    let (wrong, bad) = (by_another_method(), with_a_bad_query());
-    for rows in [
-        asking.as_slice(),
-        missing.as_slice(),
-        wrong.as_slice(),
-        bad.as_slice(),
-    ] {
-        for (method, target, words) in rows {
-            let told = answer(alloc, asked(alloc, &routes, *method, target))?;
-            assert_eq!(rt; told.as_str(), *words);
+    for (list, rows) in lists.iter().enumerate() {
+        if let Some(place) = first_other(alloc, &routes, rows)? {
+            return Err(Fail::new(format_args!("row {place} of list {list}")));
         }
     }
     Ok(())
 }
 
 #[test]
+fn each_target_asks_so(rt: HostRuntime) -> Result<(), Fail> {
+    ask_so(
+        rt.alloc(),
+        &[ASKING, WITHOUT_A_ROUTE, BY_ANOTHER_METHOD, WITH_A_BAD_QUERY],
+    )
+}
+
+/// What is asked by the request that is taken from these bytes, in words.
+fn answer_to_sent(alloc: Global, sent: &[u8]) -> Result<String, Fail> {
+    let Taken::Whole(request) = take_request(sent) else {
+        return Err(Fail::new("no request"));
+    };
+    let routes = Routes::build(alloc)?;
+    Ok(answer(alloc, route(alloc, &routes, sent, &request))?)
+}
+
+#[test]
 fn a_request_that_was_taken_asks_by_its_target(rt: HostRuntime) -> Result<(), Fail> {
     let sent = b"GET /rohs/P?day=2024-01-23 HTTP/1.1\r\n\r\nPOST /version HTTP/1.1\r\n\r\n";
-    let Taken::Whole(request) = take_request(sent) else {
-        panic!(rt; "no request");
-    };
-    let routes = Routes::build(rt.alloc())?;
-    let told = answer(rt.alloc(), route(rt.alloc(), &routes, sent, &request))?;
+    let told = answer_to_sent(rt.alloc(), sent)?;
     assert_eq!(rt; told.as_str(), "rohs P day 2024-01-23");
     Ok(())
 }

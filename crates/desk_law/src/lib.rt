@@ -14,8 +14,6 @@ mod limit;
 mod restriction;
 mod rule;
 mod terms;
-#[cfg(test)]
-mod tests;
 mod verdict;
 
 pub use annex::Annex;

@@ -5,6 +5,8 @@
 #[cfg(test)]
 mod copy;
 #[cfg(test)]
+mod helpers;
+#[cfg(test)]
 mod refusal;
 #[cfg(test)]
 mod tests;

@@ -1,16 +1,26 @@
+use crate::helpers::{code, same};
 use desk_model::{Codes, RuleFault};
-use desk_text::{Code, CodeFault};
+use std::alloc::Global;
 use std::test::Fail;
 
-fn code(text: &str) -> Result<Code, CodeFault> {
-    Code::read(text.as_bytes())
+/// A failure unless a fault has these words.
+fn is_told(alloc: Global, fault: &RuleFault, words: &str) -> Result<(), Fail> {
+    let told = format!(in alloc; "{fault}")?;
+    same(told.as_str(), words)
+}
+
+/// A failure unless each fault has its words.
+fn are_told(alloc: Global, rows: &[(RuleFault, &str)]) -> Result<(), Fail> {
+    for (fault, words) in rows {
+        is_told(alloc, fault, words)?;
+    }
+    Ok(())
 }
 
 #[test]
 fn a_refusal_is_told_by_its_words_and_codes(rt: HostRuntime) -> Result<(), Fail> {
-    let alloc = rt.alloc();
     let (a, b) = (code("A-1")?, code("b.2")?);
-    for (fault, words) in [
+    let rows = [
         (RuleFault::TicketReused, "ticket-reused"),
         (
             RuleFault::UnknownSubstance { code: a },
@@ -42,40 +52,37 @@ fn a_refusal_is_told_by_its_words_and_codes(rt: HostRuntime) -> Result<(), Fail>
             RuleFault::YearTooLarge { year: 2024 },
             "year-too-large 2024",
         ),
-    ] {
-        let told = format!(in alloc; "{fault}")?;
-        assert_eq!(rt; told.as_str(), words);
+    ];
+    are_told(rt.alloc(), &rows)
+}
+
+/// A failure unless each full table has its words.
+fn are_full(alloc: Global, rows: &[(u8, &str)]) -> Result<(), Fail> {
+    for (table, words) in rows {
+        let fault = RuleFault::TableFull { table: *table };
+        is_told(alloc, &fault, words)?;
     }
     Ok(())
 }
 
 #[test]
 fn a_full_table_is_told_by_name(rt: HostRuntime) -> Result<(), Fail> {
-    let alloc = rt.alloc();
-    for (table, words) in [
-        (1, "table-full substances"),
-        (5, "table-full lines"),
-        (10, "table-full tickets"),
-        (11, "table-full lines-of-parent"),
-    ] {
-        let fault = RuleFault::TableFull { table };
-        let told = format!(in alloc; "{fault}")?;
-        assert_eq!(rt; told.as_str(), words);
-    }
-    Ok(())
+    are_full(
+        rt.alloc(),
+        &[
+            (1, "table-full substances"),
+            (5, "table-full lines"),
+            (10, "table-full tickets"),
+            (11, "table-full lines-of-parent"),
+        ],
+    )
 }
 
 #[test]
 fn a_closed_cycle_is_told_with_its_chain(rt: HostRuntime) -> Result<(), Fail> {
-    let alloc = rt.alloc();
-    let mut chain = Vec::new(alloc);
-    for part in ["X", "Y", "Z"] {
-        chain.push(code(part)?)?;
-    }
+    let chain = [code("X")?, code("Y")?, code("Z")?];
     let fault = RuleFault::ClosesCycle {
-        chain: Codes::new(chain),
+        chain: Codes::new(chain.to_vec(rt.alloc())?),
     };
-    let told = format!(in alloc; "{fault}")?;
-    assert_eq!(rt; told.as_str(), "closes-cycle X Y Z");
-    Ok(())
+    is_told(rt.alloc(), &fault, "closes-cycle X Y Z")
 }

@@ -73,38 +73,63 @@ fn is_kept(alloc: Global, kept: &Record) -> Result<bool, Fail> {
     Ok(again == *kept)
 }
 
+/// A failure unless the row of each record has it again.
+fn are_kept(alloc: Global, rows: &[Told]) -> Result<(), Fail> {
+    for told in rows {
+        let kept = record(alloc, *told)?;
+        if !is_kept(alloc, &kept)? {
+            return Err(Fail::new(format_args!("of {} {}", told.1, told.2)));
+        }
+    }
+    Ok(())
+}
+
 #[test]
 fn a_row_of_each_table_is_read_and_written(rt: HostRuntime) -> Result<(), Fail> {
-    let alloc = rt.alloc();
-    for told in ROWS {
-        let kept = record(alloc, told)?;
-        assert!(rt; is_kept(alloc, &kept)?, "of {}", told.1);
+    are_kept(rt.alloc(), &ROWS)
+}
+
+/// A failure unless the record is refused by this fault.
+fn is_refused(alloc: Global, told: Told, wanted: RecordFault) -> Result<(), Fail> {
+    let kept = record(alloc, told)?;
+    let fault = read_record(alloc, &kept).err();
+    if fault == Some(wanted) {
+        return Ok(());
+    }
+    let (kind, code, body) = told;
+    Err(Fail::new(format_args!("{fault:?} of {kind} {code} {body}")))
+}
+
+/// A failure unless no row has these records.
+fn are_refused(alloc: Global, rows: &[Told]) -> Result<(), Fail> {
+    for told in rows {
+        is_refused(alloc, *told, RecordFault::Shape)?;
     }
     Ok(())
 }
 
 #[test]
 fn a_record_of_no_row_is_refused(rt: HostRuntime) -> Result<(), Fail> {
-    let alloc = rt.alloc();
-    for told in OTHERS {
-        let kept = record(alloc, told)?;
-        let fault = read_record(alloc, &kept).err();
-        assert_eq!(rt; fault, Some(RecordFault::Shape), "of {} {}", told.1, told.2);
+    are_refused(rt.alloc(), &OTHERS)
+}
+
+/// A failure unless these bodies are of another version in records of these kinds.
+fn are_other_versions(alloc: Global, bodies: &[&'static str], kinds: &[u8]) -> Result<(), Fail> {
+    for body in bodies {
+        for kind in kinds {
+            is_refused(alloc, (*kind, "lead", *body), RecordFault::Version)?;
+        }
     }
     Ok(())
 }
 
 #[test]
 fn another_version_is_told_before_a_wrong_shape(rt: HostRuntime) -> Result<(), Fail> {
-    let alloc = rt.alloc();
-    for body in ["2|Lead|7439-92-1", "01|Lead|7439-92-1", ""] {
-        for kind in [0, 1, 11] {
-            let kept = record(alloc, (kind, "lead", body))?;
-            let fault = read_record(alloc, &kept).err();
-            assert_eq!(rt; fault, Some(RecordFault::Version), "of {body}");
-        }
-    }
-    Ok(())
+    are_other_versions(
+        rt.alloc(),
+        &["2|Lead|7439-92-1", "01|Lead|7439-92-1", ""],
+        &[0, 1, 11],
+    )
 }
 
 /// The kind and the code of each record, each on a line.

@@ -2,14 +2,14 @@ ghost use Rattle.std.specs.Prelude.{◌≡◌, ◌≤◌, ℕ, List, None, IfOk,
 ghost use Rattle.std.specs.Io.KnownBytes.{ReadConsumes, WriteAppends};
 ghost use Rattle.desk_edge.specs.Faults.{Rose};
 
-use crate::outside::{DESK, Told, answer_to_import, link, store};
+use crate::outside::{DESK, Told, answer_to_import, check, link, store};
 use desk_edge::{Failed, Link, MapKeeper};
 use desk_report::ReportFault;
 use std::alloc::Global;
 use std::test::Fail;
 
 /// Inputs that are no export file, and the line that is told. Of lines that no sound tables have, each for another clause, 0 is told.
-const DAMAGED: [(&str, u64); 36] = [
+const DAMAGED: &[(&str, u64)] = &[
     ("lead\n", 1),
     ("1|lead\n", 1),
     ("\n", 1),
@@ -72,40 +72,56 @@ fn damaged_line(alloc: Global, input: &str) -> Result<Option<u64>, Fail> {
     }
 }
 
-#[test]
-fn the_first_damaged_line_is_told(rt: HostRuntime) -> Result<(), Fail> {
-    for (input, line) in DAMAGED {
-        assert_eq!(rt; damaged_line(rt.alloc(), input)?, Some(line), "of {input}");
+/// Fails at the first input of which another line is told.
+fn are_damaged(alloc: Global, rows: &[(&str, u64)]) -> Result<(), Fail> {
+    for &(input, line) in rows {
+        let told = damaged_line(alloc, input)?;
+        if told != Some(line) {
+            return Err(Fail::new(format_args!("{told:?} of {input}")));
+        }
     }
     Ok(())
+}
+
+#[test]
+fn the_first_damaged_line_is_told(rt: HostRuntime) -> Result<(), Fail> {
+    are_damaged(rt.alloc(), DAMAGED)
+}
+
+/// What an import answers over a link that fails at its first call, into a store of one record, and how many records that has then.
+fn imported_into_some(alloc: Global) -> Result<(Result<u64, ReportFault>, usize), Fail> {
+    let some: [Told; 1] = [(1, "lead", "1|Lead|7439-92-1")];
+    let mut keeper = store(alloc, &some, &[])?;
+    let mut link = link(alloc, "x", 0, &[1])?;
+    let answer = answer_to_import(alloc, &mut keeper, &mut link);
+    Ok((answer, keeper.records().len()))
 }
 
 #[test]
 fn a_store_that_has_a_record_takes_no_others(rt: HostRuntime) -> Result<(), Fail> {
-    let alloc = rt.alloc();
-    let some: [Told; 1] = [(1, "lead", "1|Lead|7439-92-1")];
-    let mut keeper = store(alloc, &some, &[])?;
-    // The link would fail at its first call.
-    let mut link = link(alloc, "x", 0, &[1])?;
-    let answer = answer_to_import(alloc, &mut keeper, &mut link);
-    assert_eq!(rt; answer, Err(ReportFault::NotEmpty));
-    assert_eq!(rt; keeper.records().len(), 1);
-    Ok(())
+    let (answer, left) = imported_into_some(rt.alloc())?;
+    check(answer == Err(ReportFault::NotEmpty), "another answer")?;
+    check(left == 1, "not the one record")
+}
+
+/// Fails unless the import of the small desk, with failing calls of the store and of the link, answers so and leaves the store empty.
+fn is_refused(
+    alloc: Global,
+    of_store: &[u64],
+    of_link: &[u64],
+    fault: ReportFault,
+) -> Result<(), Fail> {
+    let (answer, keeper) = imported(alloc, DESK, (of_store, of_link))?;
+    check(answer == Err(fault), "another answer")?;
+    check(keeper.records().is_empty(), "the store has records")
 }
 
 #[test]
 fn a_refused_call_leaves_the_store_empty(rt: HostRuntime) -> Result<(), Fail> {
-    let refused: [(&[u64], &[u64], ReportFault); 3] = [
-        (&[2], &[], ReportFault::KeeperFault),
-        (&[3], &[], ReportFault::KeeperFault),
-        (&[], &[3], ReportFault::LinkFault),
-    ];
-    for (of_store, of_link, fault) in refused {
-        let (answer, keeper) = imported(rt.alloc(), DESK, (of_store, of_link))?;
-        assert_eq!(rt; answer, Err(fault));
-        assert!(rt; keeper.records().is_empty());
-    }
-    Ok(())
+    let alloc = rt.alloc();
+    is_refused(alloc, &[2], &[], ReportFault::KeeperFault)?;
+    is_refused(alloc, &[3], &[], ReportFault::KeeperFault)?;
+    is_refused(alloc, &[], &[3], ReportFault::LinkFault)
 }
 
 /// Makes so many bytes as it is read: LF at the front of each piece.
@@ -143,15 +159,21 @@ fn import_made(alloc: Global, len: usize) -> Result<(Result<u64, ReportFault>, u
     Ok((answer, maker.left))
 }
 
+/// Fails unless an import of so many bytes has this fault and leaves so many of them.
+fn is_refused_made(
+    alloc: Global,
+    len: usize,
+    fault: ReportFault,
+    unread: usize,
+) -> Result<(), Fail> {
+    let (answer, left) = import_made(alloc, len)?;
+    check(answer == Err(fault), "another answer")?;
+    check(left == unread, "another count of bytes is left")
+}
+
 #[test]
 fn too_long_an_input_is_told_before_its_first_line(rt: HostRuntime) -> Result<(), Fail> {
-    for (len, fault, unread) in [
-        (268_435_460, ReportFault::TooLong, 3),
-        (268_435_456, ReportFault::Damaged { line: 1 }, 0),
-    ] {
-        let (answer, left) = import_made(rt.alloc(), len)?;
-        assert_eq!(rt; answer, Err(fault));
-        assert_eq!(rt; left, unread);
-    }
-    Ok(())
+    is_refused_made(rt.alloc(), 268_435_460, ReportFault::TooLong, 3)?;
+    let first = ReportFault::Damaged { line: 1 };
+    is_refused_made(rt.alloc(), 268_435_456, first, 0)
 }

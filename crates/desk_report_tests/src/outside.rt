@@ -19,6 +19,11 @@ pub(crate) const DESK: &str =
     10|D:ACME:7|1|2|declare|ACME|7|2024-01-23|1|SOLDER|Solder|1000000|1|lead|1000|0\n\
     10|E:t1|1|1|line|A|B|1\n";
 
+/// A failure that says what is wrong, unless it holds.
+pub(crate) fn check(holds: bool, what: &'static str) -> Result<(), Fail> {
+    if holds { Ok(()) } else { Err(Fail::new(what)) }
+}
+
 /// The text with TAB for each `|`.
 pub(crate) fn bytes(alloc: Global, text: &str) -> Result<Bytes, OutOfMemory> {
     let mut bytes = Bytes::start(alloc);

@@ -5,8 +5,6 @@ mod keyed;
 mod place;
 mod room;
 mod table;
-#[cfg(test)]
-mod tests;
 
 pub use keyed::{Grouped, Keyed};
 pub use place::{place_of_key, place_of_row, run_of};

@@ -3,13 +3,12 @@
 ghost use Rattle.std.specs.Prelude.{◌≤◌};
 ghost use Rattle.desk_history.specs.Sound.{Sound};
 
-use crate::steps::{askable, code, day, enter, enter_line, enter_part, name, some, told};
+use crate::steps::{askable, code, day, enter, enter_line, enter_part, name, some, tells};
 use desk_law::Kind;
 use desk_model::{Declaration, Edit, PartSort, units_of, year_of};
 use desk_scratch::Question;
 use desk_tables::Tables;
 use std::alloc::Global;
-use std::process::Abort;
 use std::test::Fail;
 
 /// A gram of a material with these micrograms of lead.
@@ -79,21 +78,18 @@ fn a_shared_part_counts_twice_and_a_chain_goes_by_lines_that_are_left(
     rt: HostRuntime,
 ) -> Result<(), Fail> {
     let mut tables = Tables::start(rt.alloc())?;
-    asks_of_shared(&rt, rt.alloc(), &mut tables)
+    asks_of_shared(rt.alloc(), &mut tables)
 }
 
-fn asks_of_shared(rt: &impl Abort, alloc: Global, tables: &mut Tables) -> Result<(), Fail>
+fn asks_of_shared(alloc: Global, tables: &mut Tables) -> Result<(), Fail>
     requires { Sound tables.old.lists }
 {
     enter_shared(alloc, tables)?;
     let (product, day) = (code("P")?, askable("2024-01-23")?);
     let question = Question::Rohs { code: product, day };
-    let text = told(alloc, tables, &question)?;
-    assert_eq!(rt; text.as_slice(), BOTH_WAYS.as_bytes());
+    tells(alloc, tables, &question, BOTH_WAYS)?;
     drop_line(alloc, tables)?;
-    let text = told(alloc, tables, &question)?;
-    assert_eq!(rt; text.as_slice(), ONE_WAY.as_bytes());
-    Ok(())
+    tells(alloc, tables, &question, ONE_WAY)
 }
 
 /// Takes the line from P to A out.
@@ -155,20 +151,17 @@ fn a_notice_comes_over_one_tonne_and_is_due_in_june_2011_at_the_earliest(
     rt: HostRuntime,
 ) -> Result<(), Fail> {
     let mut tables = Tables::start(rt.alloc())?;
-    asks_of_notices(&rt, rt.alloc(), &mut tables)
+    asks_of_notices(rt.alloc(), &mut tables)
 }
 
-fn asks_of_notices(rt: &impl Abort, alloc: Global, tables: &mut Tables) -> Result<(), Fail>
+fn asks_of_notices(alloc: Global, tables: &mut Tables) -> Result<(), Fail>
     requires { Sound tables.old.lists }
 {
     enter_article(alloc, tables)?;
     ship(alloc, tables, "t4", 500_000_000)?;
     let (year, day) = (2012, askable("2024-01-23")?);
     let question = Question::Reach7 { year, day };
-    let text = told(alloc, tables, &question)?;
-    assert_eq!(rt; text.as_slice(), AT_ONE_TONNE.as_bytes());
+    tells(alloc, tables, &question, AT_ONE_TONNE)?;
     ship(alloc, tables, "t5", 1)?;
-    let text = told(alloc, tables, &question)?;
-    assert_eq!(rt; text.as_slice(), OVER_ONE_TONNE.as_bytes());
-    Ok(())
+    tells(alloc, tables, &question, OVER_ONE_TONNE)
 }

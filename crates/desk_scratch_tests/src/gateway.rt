@@ -3,14 +3,13 @@
 
 ghost use Rattle.desk_history.specs.Sound.{Sound};
 
-use crate::steps::{askable, code, day, enter, enter_line, enter_part, name, some, told};
+use crate::steps::{askable, code, day, enter, enter_line, enter_part, name, some, tells};
 use desk_law::{Annex, Claim, Kind, KindSet, Rule, Terms};
 use desk_model::{Declaration, Edit, Exemption, PartSort, factor_of, units_of, year_of};
 use desk_scratch::Question;
 use desk_tables::Tables;
 use desk_text::{Cas, ExemptionNumber};
 use std::alloc::Global;
-use std::process::Abort;
 use std::test::Fail;
 
 /// Lead oxide, of whose mass the lead is counted.
@@ -167,19 +166,19 @@ fn enter_all(alloc: Global, tables: &mut Tables) -> Result<(), Fail>
 #[test]
 fn each_question_is_answered_over_tables_that_edits_built(rt: HostRuntime) -> Result<(), Fail> {
     let mut tables = Tables::start(rt.alloc())?;
-    asks_all(&rt, rt.alloc(), &mut tables)
+    asks_all(rt.alloc(), &mut tables)
 }
 
-fn asks_all(rt: &impl Abort, alloc: Global, tables: &mut Tables) -> Result<(), Fail>
+fn asks_all(alloc: Global, tables: &mut Tables) -> Result<(), Fail>
     requires { Sound tables.old.lists }
 {
     enter_all(alloc, tables)?;
-    asks_of_material(rt, alloc, tables)?;
-    asks_of_product(rt, alloc, tables)?;
-    asks_of_duties(rt, alloc, tables)?;
-    asks_of_parts(rt, alloc, tables)?;
-    asks_of_desk(rt, alloc, tables)?;
-    asks_of_nothing(rt, alloc, tables)
+    asks_of_material(alloc, tables)?;
+    asks_of_product(alloc, tables)?;
+    asks_of_duties(alloc, tables)?;
+    asks_of_parts(alloc, tables)?;
+    asks_of_desk(alloc, tables)?;
+    asks_of_nothing(alloc, tables)
 }
 
 const BRASS: &str = "> version 19
@@ -197,14 +196,17 @@ rule dibp share 0 limit 2000000000 within
 compliant
 ";
 
-fn asks_of_material(rt: &impl Abort, alloc: Global, tables: &Tables) -> Result<(), Fail>
+fn asks_of_material(alloc: Global, tables: &Tables) -> Result<(), Fail>
     requires { Sound tables.now.lists }
 {
     let kind = Kind::Telecommunications;
     let (code, day) = (code("BRASS")?, askable("2026-06-30")?);
-    let text = told(alloc, tables, &Question::Material { code, kind, day })?;
-    assert_eq!(rt; text.as_slice(), BRASS.as_bytes());
-    Ok(())
+    tells(
+        alloc,
+        tables,
+        &Question::Material { code, kind, day },
+        BRASS,
+    )
 }
 
 const ROHS: &str = "> version 19
@@ -224,16 +226,13 @@ chain GATEWAY CABLE PVC
 not-compliant
 ";
 
-fn asks_of_product(rt: &impl Abort, alloc: Global, tables: &Tables) -> Result<(), Fail>
+fn asks_of_product(alloc: Global, tables: &Tables) -> Result<(), Fail>
     requires { Sound tables.now.lists }
 {
     let (code, day) = (code("GATEWAY")?, askable("2024-07-22")?);
-    let text = told(alloc, tables, &Question::Rohs { code, day })?;
-    assert_eq!(rt; text.as_slice(), ROHS.as_bytes());
+    tells(alloc, tables, &Question::Rohs { code, day }, ROHS)?;
     let day = askable("2026-07-01")?;
-    let text = told(alloc, tables, &Question::Rohs { code, day })?;
-    assert_eq!(rt; text.as_slice(), ROHS_LATER.as_bytes());
-    Ok(())
+    tells(alloc, tables, &Question::Rohs { code, day }, ROHS_LATER)
 }
 
 const REACH33: &str = "> version 19
@@ -253,16 +252,13 @@ notice lead tonnage 1200000000000 included 2018-06-27 due 2018-12-27
 notices 1
 ";
 
-fn asks_of_duties(rt: &impl Abort, alloc: Global, tables: &Tables) -> Result<(), Fail>
+fn asks_of_duties(alloc: Global, tables: &Tables) -> Result<(), Fail>
     requires { Sound tables.now.lists }
 {
     let (code, day) = (code("GATEWAY")?, askable("2024-07-22")?);
-    let text = told(alloc, tables, &Question::Reach33 { code, day })?;
-    assert_eq!(rt; text.as_slice(), REACH33.as_bytes());
+    tells(alloc, tables, &Question::Reach33 { code, day }, REACH33)?;
     let (year, day) = (2024, askable("2024-12-31")?);
-    let text = told(alloc, tables, &Question::Reach7 { year, day })?;
-    assert_eq!(rt; text.as_slice(), REACH7.as_bytes());
-    Ok(())
+    tells(alloc, tables, &Question::Reach7 { year, day }, REACH7)
 }
 
 const PART: &str = "> version 19
@@ -281,16 +277,13 @@ user BOARD 40
 product GATEWAY kind 3
 ";
 
-fn asks_of_parts(rt: &impl Abort, alloc: Global, tables: &Tables) -> Result<(), Fail>
+fn asks_of_parts(alloc: Global, tables: &Tables) -> Result<(), Fail>
     requires { Sound tables.now.lists }
 {
     let part = code("GATEWAY")?;
-    let text = told(alloc, tables, &Question::Part { code: part })?;
-    assert_eq!(rt; text.as_slice(), PART.as_bytes());
+    tells(alloc, tables, &Question::Part { code: part }, PART)?;
     let pin = code("PIN")?;
-    let text = told(alloc, tables, &Question::Uses { code: pin })?;
-    assert_eq!(rt; text.as_slice(), USES.as_bytes());
-    Ok(())
+    tells(alloc, tables, &Question::Uses { code: pin }, USES)
 }
 
 const SUMMARY: &str = "> version 19
@@ -307,25 +300,29 @@ shipments 1
 product GATEWAY kind 3 not-compliant breaches 1 duties 2
 ";
 
-fn asks_of_desk(rt: &impl Abort, alloc: Global, tables: &Tables) -> Result<(), Fail>
+fn asks_of_desk(alloc: Global, tables: &Tables) -> Result<(), Fail>
     requires { Sound tables.now.lists }
 {
     let day = askable("2024-07-22")?;
-    let text = told(alloc, tables, &Question::Summary { day })?;
-    assert_eq!(rt; text.as_slice(), SUMMARY.as_bytes());
-    let text = told(alloc, tables, &Question::Version)?;
-    assert_eq!(rt; text.as_slice(), b"> version 19\n".as_slice());
-    Ok(())
+    tells(alloc, tables, &Question::Summary { day }, SUMMARY)?;
+    tells(alloc, tables, &Question::Version, "> version 19\n")
 }
 
-fn asks_of_nothing(rt: &impl Abort, alloc: Global, tables: &Tables) -> Result<(), Fail>
+fn asks_of_nothing(alloc: Global, tables: &Tables) -> Result<(), Fail>
     requires { Sound tables.now.lists }
 {
     let (pin, day) = (code("PIN")?, askable("2024-07-22")?);
-    let text = told(alloc, tables, &Question::Rohs { code: pin, day })?;
-    assert_eq!(rt; text.as_slice(), b"> not-a-product PIN".as_slice());
+    tells(
+        alloc,
+        tables,
+        &Question::Rohs { code: pin, day },
+        "> not-a-product PIN",
+    )?;
     let brass = code("BRASS")?;
-    let text = told(alloc, tables, &Question::Part { code: brass })?;
-    assert_eq!(rt; text.as_slice(), b"> no-such-code BRASS".as_slice());
-    Ok(())
+    tells(
+        alloc,
+        tables,
+        &Question::Part { code: brass },
+        "> no-such-code BRASS",
+    )
 }

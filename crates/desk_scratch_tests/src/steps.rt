@@ -108,3 +108,21 @@ pub(crate) fn told(alloc: Global, tables: &Tables, question: &Question) -> Resul
         }
     }
 }
+
+/// Fails unless this is told of the question.
+pub(crate) fn tells(
+    alloc: Global,
+    tables: &Tables,
+    question: &Question,
+    text: &str,
+) -> Result<(), Fail>
+    requires sound { Sound tables.now.lists }
+    requires in_range { is_question_in_range question.now ≡ true }
+{
+    let found = told(alloc, tables, question)?;
+    if found.as_slice() == text.as_bytes() {
+        return Ok(());
+    }
+    let found = String::from_utf8_lossy(alloc, found.as_slice())?;
+    Err(Fail::new(format_args!("told: {}", found.as_str())))
+}

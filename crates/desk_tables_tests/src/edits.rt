@@ -3,7 +3,6 @@ ghost use Rattle.desk_history.specs.Sound.{Sound};
 use desk_fields::read_edit_text;
 use desk_tables::{EditFault, Tables};
 use std::alloc::Global;
-use std::process::Abort;
 use std::test::Fail;
 
 /// The code of an edit's ticket, its text with `|` between its fields, and what is told of it.
@@ -85,30 +84,46 @@ fn told_at_start(alloc: Global, code: &str, text: &str) -> Result<String, Fail> 
     told(alloc, &mut tables, code, text)
 }
 
-#[test]
-fn the_first_rule_that_an_edit_breaks_is_told(rt: HostRuntime) -> Result<(), Fail> {
-    for (code, text, words) in FIRST {
-        let found = told_at_start(rt.alloc(), code, text)?;
-        assert_eq!(rt; found.as_str(), words, "of {text}");
+/// A failure that says what was told in place of what was meant, unless it is that.
+fn same(of: &str, told: &str, meant: &str) -> Result<(), Fail> {
+    if told == meant {
+        return Ok(());
+    }
+    Err(Fail::new(format_args!("{told} in place of {meant}, of {of}")))
+}
+
+/// A failure unless each edit of a desk as it starts is told so.
+fn are_told(alloc: Global, rows: &[Row]) -> Result<(), Fail> {
+    for (code, text, words) in rows {
+        let found = told_at_start(alloc, code, text)?;
+        same(text, found.as_str(), words)?;
     }
     Ok(())
 }
 
 #[test]
-fn a_repeated_edit_acts_once(rt: HostRuntime) -> Result<(), Fail> {
-    let mut tables = Tables::start(rt.alloc())?;
-    repeats(&rt, rt.alloc(), &mut tables)
+fn the_first_rule_that_an_edit_breaks_is_told(rt: HostRuntime) -> Result<(), Fail> {
+    are_told(rt.alloc(), &FIRST)
 }
 
-fn repeats(rt: &impl Abort, alloc: Global, tables: &mut Tables) -> Result<(), Fail>
+/// What is told of a declaration, of the same again and of another under its ticket, and how many edits are kept then.
+fn repeats(alloc: Global, tables: &mut Tables) -> Result<String, Fail>
     requires { Sound tables.old.lists }
 {
     let first = told(alloc, tables, "D:ACME:7", DECLARED)?;
     let again = told(alloc, tables, "D:ACME:7", DECLARED)?;
     let other = told(alloc, tables, "D:ACME:7", OTHER)?;
-    assert_eq!(rt; first.as_str(), "accepted 1");
-    assert_eq!(rt; again.as_str(), "accepted 1");
-    assert_eq!(rt; other.as_str(), "ticket-reused");
-    assert_eq!(rt; tables.number(), 1);
-    Ok(())
+    let kept = tables.number();
+    Ok(format!(in alloc; "{first}, {again}, {other}, {kept} kept")?)
+}
+
+#[test]
+fn a_repeated_edit_acts_once(rt: HostRuntime) -> Result<(), Fail> {
+    let mut tables = Tables::start(rt.alloc())?;
+    let told = repeats(rt.alloc(), &mut tables)?;
+    same(
+        "a repeated edit",
+        told.as_str(),
+        "accepted 1, accepted 1, ticket-reused, 1 kept",
+    )
 }

@@ -10,8 +10,6 @@ mod memory;
 mod name;
 mod number;
 mod picture;
-#[cfg(test)]
-mod tests;
 mod word;
 
 pub use bytes::Bytes;

@@ -8,8 +8,6 @@ mod plan;
 mod product_load;
 mod product_mass;
 mod sums;
-#[cfg(test)]
-mod tests;
 mod yearly;
 
 pub use entry::Entry;
@@ -17,4 +15,5 @@ pub use fault::{MassFault, TakeFault, TonnageFault};
 pub use plan::{AddPlan, MassPlan};
 pub use product_load::ProductLoad;
 pub use product_mass::ProductMass;
+pub use sums::{carried_by, entries_of_year};
 pub use yearly::{UNITS_LIMIT, Yearly};

@@ -1,6 +1,6 @@
 //! The commands that write or fill a store whole, and the sample.
 
-use crate::session_steps::{outcome, outcome_over, stream_of};
+use crate::session_steps::{check, empty_shelf, is_told, outcome, outcome_over, stream_of};
 use crate::session_tests::GATEWAY;
 use crate::store_tests::shelf_of;
 use desk_edge::{MapShelf, MemoryLink};
@@ -28,62 +28,106 @@ fn written<R: Wait + Sync + Threads>(
     Ok(text)
 }
 
-/// Whether the export of a new store fills another store, once, which is exported as the same bytes.
-fn is_filled_once<R: Wait + Sync + Threads>(rt: &R, alloc: Global) -> Result<bool, Fail> {
-    let mut shelf = MapShelf::new(alloc, Vec::new(alloc), Vec::new(alloc));
-    let lines = written(rt, alloc, &["export", "--store", "y"], b"", &mut shelf)?;
+/// Fails unless the lines fill a store named `z` once, which is exported as the same lines.
+fn fill_once<R: Wait + Sync + Threads>(
+    rt: &R,
+    alloc: Global,
+    lines: &[u8],
+    shelf: &mut MapShelf,
+) -> Result<(), Fail> {
     let import = ["import", "--store=z"];
-    let said = written(rt, alloc, &import, lines.as_slice(), &mut shelf)?;
-    let (status, refused) = outcome(rt, alloc, &import, lines.as_slice(), 7, &mut shelf)?;
-    let again = written(rt, alloc, &["export", "--store", "z"], b"", &mut shelf)?;
-    Ok(
-        lines.starts_with(b"1\tbbp\t1\tButyl benzyl phthalate (BBP)\t85-68-7\n")
-            && said.as_slice() == b"imported 20\n".as_slice()
-            && status == 6
-            && refused.as_slice() == b"refused not-empty\n".as_slice()
-            && again == lines,
-    )
+    let filled = is_told(
+        rt,
+        alloc,
+        &import,
+        lines,
+        1000,
+        shelf,
+        (0, b"imported 20\n"),
+    )?;
+    check(filled, "the store isn't filled")?;
+    let refused = is_told(
+        rt,
+        alloc,
+        &import,
+        lines,
+        7,
+        shelf,
+        (6, b"refused not-empty\n"),
+    )?;
+    check(refused, "the store is filled again")?;
+    let export = ["export", "--store", "z"];
+    let same = is_told(rt, alloc, &export, b"", 1000, shelf, (0, lines))?;
+    check(same, "the other store has other lines")
+}
+
+/// Fails unless the export of a new store fills another store, once, which is exported as the same bytes.
+fn is_filled_once<R: Wait + Sync + Threads>(rt: &R, alloc: Global) -> Result<(), Fail> {
+    let mut shelf = empty_shelf(alloc);
+    let lines = written(rt, alloc, &["export", "--store", "y"], b"", &mut shelf)?;
+    let first = b"1\tbbp\t1\tButyl benzyl phthalate (BBP)\t85-68-7\n";
+    check(lines.starts_with(first), "another first line")?;
+    fill_once(rt, alloc, lines.as_slice(), &mut shelf)
 }
 
 #[test]
 fn what_a_new_store_exports_fills_another_store_once(rt: HostRuntime) -> Result<(), Fail> {
-    assert!(rt; is_filled_once(&rt, rt.alloc())?);
-    Ok(())
+    is_filled_once(&rt, rt.alloc())
 }
 
-/// Whether a copy of an ordinary desk is exported, audited and served as the desk itself.
-fn is_copied<R: Wait + Sync + Threads>(rt: &R, alloc: Global) -> Result<bool, Fail> {
+/// The lines that a store named `a` is exported as once a session over it took the stream.
+fn lines_of<R: Wait + Sync + Threads>(
+    rt: &R,
+    alloc: Global,
+    stream: &[u8],
+    shelf: &mut MapShelf,
+) -> Result<Vec<u8>, Fail> {
+    written(rt, alloc, &["session", "--store", "a"], stream, shelf)?;
+    written(rt, alloc, &["export", "--store", "a"], b"", shelf)
+}
+
+/// Fails unless a store named `b` that these lines fill is exported as the lines, and audited as the ordinary desk.
+fn copy_is_audited<R: Wait + Sync + Threads>(
+    rt: &R,
+    alloc: Global,
+    lines: &[u8],
+    shelf: &mut MapShelf,
+) -> Result<(), Fail> {
+    written(rt, alloc, &["import", "--store", "b"], lines, shelf)?;
+    let export = ["export", "--store", "b"];
+    let same = is_told(rt, alloc, &export, b"", 1000, shelf, (0, lines))?;
+    check(same, "the copy has other lines")?;
+    let summary = GATEWAY.last().map_or("", |turn| turn.said).as_bytes();
+    let audit = ["audit", "2024-07-22", "--store", "b"];
+    let same = is_told(rt, alloc, &audit, b"", 1000, shelf, (0, summary))?;
+    check(same, "the copy has another summary")
+}
+
+/// Whether sessions over the stores named `a` and `b` answer the stream alike.
+fn are_served_alike<R: Wait + Sync + Threads>(
+    rt: &R,
+    alloc: Global,
+    stream: &[u8],
+    shelf: &mut MapShelf,
+) -> Result<bool, Fail> {
+    let first = written(rt, alloc, &["session", "--store", "a"], stream, shelf)?;
+    let second = written(rt, alloc, &["session", "--store", "b"], stream, shelf)?;
+    Ok(first == second)
+}
+
+/// Fails unless a copy of an ordinary desk is exported, audited and served as the desk itself.
+fn is_copied<R: Wait + Sync + Threads>(rt: &R, alloc: Global) -> Result<(), Fail> {
     let (stream, _) = stream_of(alloc, GATEWAY)?;
-    let mut shelf = MapShelf::new(alloc, Vec::new(alloc), Vec::new(alloc));
-    let serve_first = ["session", "--store", "a"];
-    let serve_copy = ["session", "--store", "b"];
-    written(rt, alloc, &serve_first, stream.as_bytes(), &mut shelf)?;
-    let lines = written(rt, alloc, &["export", "--store", "a"], b"", &mut shelf)?;
-    written(
-        rt,
-        alloc,
-        &["import", "--store", "b"],
-        lines.as_slice(),
-        &mut shelf,
-    )?;
-    let copy = written(rt, alloc, &["export", "--store", "b"], b"", &mut shelf)?;
-    let summary = written(
-        rt,
-        alloc,
-        &["audit", "2024-07-22", "--store", "b"],
-        b"",
-        &mut shelf,
-    )?;
-    let first = written(rt, alloc, &serve_first, stream.as_bytes(), &mut shelf)?;
-    let second = written(rt, alloc, &serve_copy, stream.as_bytes(), &mut shelf)?;
-    let told = GATEWAY.last().map(|turn| turn.said.as_bytes());
-    Ok(copy == lines && told == Some(summary.as_slice()) && first == second)
+    let mut shelf = empty_shelf(alloc);
+    let lines = lines_of(rt, alloc, stream.as_bytes(), &mut shelf)?;
+    copy_is_audited(rt, alloc, lines.as_slice(), &mut shelf)?;
+    let alike = are_served_alike(rt, alloc, stream.as_bytes(), &mut shelf)?;
+    check(alike, "the copy is served otherwise")
 }
 
 #[test]
 fn a_copy_of_a_desk_answers_as_the_desk(rt: HostRuntime) -> Result<(), Fail> {
-    assert!(rt; is_copied(&rt, rt.alloc())?);
-    Ok(())
+    is_copied(&rt, rt.alloc())
 }
 
 /// The summary of the smallest sample.
@@ -95,7 +139,7 @@ const NOTHING: &str =
     "version 0\nday 2024-07-22\nsubstances 10\nmembers 10\nmaterials 0\nparts 0\nlines 0\nproducts 0\nexemptions 0\ncandidates 0\nshipments 0\n";
 
 /// Commands over a new store or over none, with their input, their status and what they write.
-const COMMANDS: [(&[&str], &str, u8, &str); 7] = [
+const COMMANDS: &[(&[&str], &str, u8, &str)] = &[
     (&["sample", "1"], "x", 0, SAMPLE),
     (&["audit", "--store=desk", "2024-07-22"], "x", 0, NOTHING),
     (&["import", "--store", "desk"], "", 0, "imported 0\n"),
@@ -125,63 +169,125 @@ const COMMANDS: [(&[&str], &str, u8, &str); 7] = [
     ),
 ];
 
-#[test]
-fn each_command_writes_its_answer_or_its_refusal(rt: HostRuntime) -> Result<(), Fail> {
-    let alloc = rt.alloc();
-    for (words, input, status, text) in COMMANDS {
+/// Fails at the first command that doesn't end so over no store or a new one, however its input is cut.
+fn are_told<R: Wait + Sync + Threads>(
+    rt: &R,
+    alloc: Global,
+    commands: &[(&[&str], &str, u8, &str)],
+) -> Result<(), Fail> {
+    for (place, &(words, input, status, text)) in commands.iter().enumerate() {
+        let (input, told) = (input.as_bytes(), (status, text.as_bytes()));
         for piece in [1, 7, 100_000] {
-            let mut shelf = MapShelf::new(alloc, Vec::new(alloc), Vec::new(alloc));
-            let told = outcome(&rt, alloc, words, input.as_bytes(), piece, &mut shelf)?;
-            assert_eq!(rt; told.0, status);
-            assert_eq!(rt; told.1.as_slice(), text.as_bytes());
+            let mut shelf = empty_shelf(alloc);
+            if !is_told(rt, alloc, words, input, piece, &mut shelf, told)? {
+                return Err(Fail::new(format_args!("command {place} by {piece}")));
+            }
         }
     }
     Ok(())
 }
 
+#[test]
+fn each_command_writes_its_answer_or_its_refusal(rt: HostRuntime) -> Result<(), Fail> {
+    are_told(&rt, rt.alloc(), COMMANDS)
+}
+
 /// The commands over a store named `desk`.
-const OVER_A_STORE: [&[&str]; 3] = [
+const OVER_A_STORE: &[&[&str]] = &[
     &["export", "--store", "desk"],
     &["audit", "2024-07-22", "--store", "desk"],
     &["import", "--store", "desk"],
 ];
 
+/// The status of a command over a shelf that refuses its store.
+fn status_of_refused<R: Wait + Sync + Threads>(
+    rt: &R,
+    alloc: Global,
+    words: &[&str],
+) -> Result<u8, Fail> {
+    let mut shelf = MapShelf::new(alloc, Vec::new(alloc), Vec::from_array(alloc, [1])?);
+    let refused = outcome(rt, alloc, words, b"", 1, &mut shelf)?;
+    Ok(refused.0)
+}
+
+/// Whether the command tells that its store fails, where it fails at the call of this number.
+fn tells_of_store<R: Wait + Sync + Threads>(
+    rt: &R,
+    alloc: Global,
+    words: &[&str],
+    call: u64,
+) -> Result<bool, Fail> {
+    let mut shelf = shelf_of(alloc, &[], &[call])?;
+    is_told(rt, alloc, words, b"", 1, &mut shelf, (4, b"desk: store\n"))
+}
+
+/// Whether the command ends with status 4 where the shelf refuses the store, where the store refuses to be read, and where it
+/// refuses to be filled.
+fn fails_with_store<R: Wait + Sync + Threads>(
+    rt: &R,
+    alloc: Global,
+    words: &[&str],
+) -> Result<bool, Fail> {
+    Ok(
+        status_of_refused(rt, alloc, words)? == 4
+            && tells_of_store(rt, alloc, words, 1)?
+            && tells_of_store(rt, alloc, words, 2)?,
+    )
+}
+
+/// The place of the first command that ends otherwise where its store fails.
+fn first_without_4<R: Wait + Sync + Threads>(
+    rt: &R,
+    alloc: Global,
+    commands: &[&[&str]],
+) -> Result<Option<usize>, Fail> {
+    for (place, words) in commands.iter().enumerate() {
+        if !fails_with_store(rt, alloc, words)? {
+            return Ok(Some(place));
+        }
+    }
+    Ok(None)
+}
+
 #[test]
 fn a_store_that_fails_ends_each_command_with_status_4(rt: HostRuntime) -> Result<(), Fail> {
-    let alloc = rt.alloc();
-    for words in OVER_A_STORE {
-        // The shelf refuses the store, then the store refuses to be read, and then to be filled.
-        let mut shelf = MapShelf::new(alloc, Vec::new(alloc), Vec::from_array(alloc, [1])?);
-        let refused = outcome(&rt, alloc, words, b"", 1, &mut shelf)?;
-        assert_eq!(rt; refused.0, 4);
-        for call in [1, 2] {
-            let mut shelf = shelf_of(alloc, &[], &[call])?;
-            let failed = outcome(&rt, alloc, words, b"", 1, &mut shelf)?;
-            assert_eq!(rt; failed.0, 4);
-            assert_eq!(rt; failed.1.as_slice(), b"desk: store\n".as_slice());
-        }
+    assert_eq!(rt; first_without_4(&rt, rt.alloc(), OVER_A_STORE)?, None);
+    Ok(())
+}
+
+/// What each command over a store says of one that is damaged.
+const OF_DAMAGE: &[(&[&str], u8, &str)] = &[
+    (&["export", "--store", "desk"], 5, "desk: damaged 6 P\n"),
+    (
+        &["audit", "2024-07-22", "--store", "desk"],
+        5,
+        "desk: damaged 6 P\n",
+    ),
+    (&["import", "--store", "desk"], 6, "refused not-empty\n"),
+];
+
+/// Fails at the first command that says something else of a damaged store.
+fn are_told_of_damage<R: Wait + Sync + Threads>(
+    rt: &R,
+    alloc: Global,
+    commands: &[(&[&str], u8, &'static str)],
+) -> Result<(), Fail> {
+    for &(words, status, line) in commands {
+        let mut shelf = shelf_of(alloc, &[(6, "P", "1\t3")], &[])?;
+        let told = (status, line.as_bytes());
+        let is_right = is_told(rt, alloc, words, b"", 1, &mut shelf, told)?;
+        check(is_right, line)?;
     }
     Ok(())
 }
 
 #[test]
 fn a_damaged_store_is_told_by_each_command_that_opens_it(rt: HostRuntime) -> Result<(), Fail> {
-    let alloc = rt.alloc();
-    for (words, status, line) in [
-        (OVER_A_STORE[0], 5, "desk: damaged 6 P\n"),
-        (OVER_A_STORE[1], 5, "desk: damaged 6 P\n"),
-        (OVER_A_STORE[2], 6, "refused not-empty\n"),
-    ] {
-        let mut shelf = shelf_of(alloc, &[(6, "P", "1\t3")], &[])?;
-        let told = outcome(&rt, alloc, words, b"", 1, &mut shelf)?;
-        assert_eq!(rt; told.0, status);
-        assert_eq!(rt; told.1.as_slice(), line.as_bytes());
-    }
-    Ok(())
+    are_told_of_damage(&rt, rt.alloc(), OF_DAMAGE)
 }
 
 /// Commands, and how many calls of the console each makes before the one that fails, with what is written by then.
-const CUT: [(&[&str], u64, &str); 5] = [
+const CUT: &[(&[&str], u64, &str)] = &[
     (&["sample", "1"], 1, ""),
     (&["audit", "2024-07-22", "--store", "desk"], 1, ""),
     (&["export", "--store", "desk"], 1, ""),
@@ -193,16 +299,36 @@ const CUT: [(&[&str], u64, &str); 5] = [
     (&["import", "--store", "desk"], 1, ""),
 ];
 
+/// The status of a command whose console fails at the call of this number, and what it writes.
+fn cut_at<R: Wait + Sync + Threads>(
+    rt: &R,
+    alloc: Global,
+    words: &[&str],
+    call: u64,
+) -> Result<(u8, Vec<u8>), Fail> {
+    let failing = Vec::from_array(alloc, [call])?;
+    let console = MemoryLink::new(alloc, Bytes::start(alloc), 1, ROOM, failing)?;
+    let mut shelf = empty_shelf(alloc);
+    outcome_over(rt, alloc, words, console, &mut shelf)
+}
+
+/// The place of the first command that doesn't end with status 3, or wrote something else.
+fn first_not_cut<R: Wait + Sync + Threads>(
+    rt: &R,
+    alloc: Global,
+    commands: &[(&[&str], u64, &str)],
+) -> Result<Option<usize>, Fail> {
+    for (place, &(words, call, text)) in commands.iter().enumerate() {
+        let (status, written) = cut_at(rt, alloc, words, call)?;
+        if status != 3 || written.as_slice() != text.as_bytes() {
+            return Ok(Some(place));
+        }
+    }
+    Ok(None)
+}
+
 #[test]
 fn a_failing_console_ends_each_command_with_status_3(rt: HostRuntime) -> Result<(), Fail> {
-    let alloc = rt.alloc();
-    for (words, call, text) in CUT {
-        let failing = Vec::from_array(alloc, [call])?;
-        let console = MemoryLink::new(alloc, Bytes::start(alloc), 1, ROOM, failing)?;
-        let mut shelf = MapShelf::new(alloc, Vec::new(alloc), Vec::new(alloc));
-        let told = outcome_over(&rt, alloc, words, console, &mut shelf)?;
-        assert_eq!(rt; told.0, 3);
-        assert_eq!(rt; told.1.as_slice(), text.as_bytes());
-    }
+    assert_eq!(rt; first_not_cut(&rt, rt.alloc(), CUT)?, None);
     Ok(())
 }

@@ -1,13 +1,10 @@
 //! Steps of the tests of sessions.
 
-ghost use Rattle.std.specs.Prelude.{◌≤◌};
-
 use crate::run::run;
 use desk_edge::{Link, MapShelf, MemoryLink, Shelf};
 use desk_text::Bytes;
 use std::alloc::Global;
 use std::fmt::Write;
-use std::process::Abort;
 use std::sync::Wait;
 use std::test::Fail;
 use std::thread::Threads;
@@ -62,7 +59,17 @@ pub(crate) fn stream_of(alloc: Global, turns: &[Turn]) -> Result<(String, String
     Ok((stream, replies))
 }
 
-/// The status of a command, and what it writes, where the input comes by pieces of this length.
+/// A failure that says what is wrong, unless it holds.
+pub(crate) fn check(holds: bool, what: &'static str) -> Result<(), Fail> {
+    if holds { Ok(()) } else { Err(Fail::new(what)) }
+}
+
+/// A shelf without a store, which opens each that is asked for.
+pub(crate) fn empty_shelf(alloc: Global) -> MapShelf {
+    MapShelf::new(alloc, Vec::new(alloc), Vec::new(alloc))
+}
+
+/// The status of a command, and what it writes, where the input comes by pieces of this length, or of one byte for 0.
 pub(crate) fn outcome<R: Wait + Sync + Threads>(
     rt: &R,
     alloc: Global,
@@ -70,12 +77,24 @@ pub(crate) fn outcome<R: Wait + Sync + Threads>(
     stream: &[u8],
     piece: usize,
     shelf: &mut MapShelf,
-) -> Result<(u8, Vec<u8>), Fail>
-    requires { 1 ≤ piece }
-{
+) -> Result<(u8, Vec<u8>), Fail> {
     let input = Bytes::from(stream.to_vec(alloc)?);
-    let console = MemoryLink::new(alloc, input, piece, ROOM, Vec::new(alloc))?;
+    let console = MemoryLink::new(alloc, input, piece.max(1), ROOM, Vec::new(alloc))?;
     outcome_over(rt, alloc, words, console, shelf)
+}
+
+/// Whether the command ends with the status and writes just this text, where the input comes by pieces of this length.
+pub(crate) fn is_told<R: Wait + Sync + Threads>(
+    rt: &R,
+    alloc: Global,
+    words: &[&str],
+    stream: &[u8],
+    piece: usize,
+    shelf: &mut MapShelf,
+    told: (u8, &[u8]),
+) -> Result<bool, Fail> {
+    let (status, written) = outcome(rt, alloc, words, stream, piece, shelf)?;
+    Ok(status == told.0 && written.as_slice() == told.1)
 }
 
 /// The status of a command. It has no clause, and is written for any console and shelf, so that the proof of a test doesn't
@@ -106,25 +125,43 @@ pub(crate) fn outcome_over<R: Wait + Sync + Threads>(
     Ok((status, console.written().to_vec(alloc)?))
 }
 
+/// How many bytes both begin with.
+fn common_length(first: &[u8], second: &[u8]) -> usize {
+    first
+        .iter()
+        .zip(second)
+        .take_while(|(one, other)| one == other)
+        .count()
+}
+
+/// Fails unless a session without a store ends with status 0 and writes just these replies, and says up to which byte they were.
+fn is_replied<R: Wait + Sync + Threads>(
+    rt: &R,
+    alloc: Global,
+    stream: &[u8],
+    piece: usize,
+    replies: &[u8],
+) -> Result<(), Fail> {
+    let mut shelf = empty_shelf(alloc);
+    let (status, written) = outcome(rt, alloc, &["session"], stream, piece, &mut shelf)?;
+    if status == 0 && written.as_slice() == replies {
+        return Ok(());
+    }
+    let right = common_length(written.as_slice(), replies);
+    Err(Fail::new(format_args!(
+        "by {piece}: status {status}, and the replies are right up to byte {right}"
+    )))
+}
+
 /// Fails unless each request of a session without a store gets its reply, however the stream is cut.
-pub(crate) fn answers_each<R: Wait + Sync + Threads + Abort>(
+pub(crate) fn answers_each<R: Wait + Sync + Threads>(
     rt: &R,
     alloc: Global,
     turns: &[Turn],
 ) -> Result<(), Fail> {
     let (stream, replies) = stream_of(alloc, turns)?;
-    let mut shelf = MapShelf::new(alloc, Vec::new(alloc), Vec::new(alloc));
     for piece in [1, 7, 100_000] {
-        let (status, written) = outcome(
-            rt,
-            alloc,
-            &["session"],
-            stream.as_bytes(),
-            piece,
-            &mut shelf,
-        )?;
-        assert_eq!(rt; written.as_slice(), replies.as_bytes(), "by {piece}");
-        assert_eq!(rt; status, 0);
+        is_replied(rt, alloc, stream.as_bytes(), piece, replies.as_bytes())?;
     }
     Ok(())
 }

@@ -1,6 +1,6 @@
 //! Sessions over a store: what is kept, and what a store that fails or is damaged ends with.
 
-use crate::session_steps::{Turn, outcome, stream_of};
+use crate::session_steps::{Turn, check, is_told, stream_of};
 use desk_edge::{Change, Keeper, MapKeeper, MapShelf, Record};
 use desk_text::Bytes;
 use std::alloc::Global;
@@ -47,16 +47,35 @@ const AGAIN: &[Turn] = &[
     },
 ];
 
-/// Whether a session over the shelf's store ends with the status and writes just the replies of these turns.
+/// Fails unless a session over the shelf's store ends with status 0 and writes just the replies of these turns.
 fn is_served<R: Wait + Sync + Threads>(
     rt: &R,
     alloc: Global,
     turns: &[Turn],
     shelf: &mut MapShelf,
-) -> Result<bool, Fail> {
+    what: &'static str,
+) -> Result<(), Fail> {
     let (stream, replies) = stream_of(alloc, turns)?;
-    let (status, written) = outcome(rt, alloc, &WORDS, stream.as_bytes(), 7, shelf)?;
-    Ok(status == 0 && written.as_slice() == replies.as_bytes())
+    let told = (0, replies.as_bytes());
+    let is_right = is_told(rt, alloc, &WORDS, stream.as_bytes(), 7, shelf, told)?;
+    check(is_right, what)
+}
+
+/// Puts records, as kinds, codes and bodies, into the keeper.
+fn put_all(
+    alloc: Global,
+    keeper: &mut MapKeeper,
+    records: &[(u8, &str, &str)],
+) -> Result<(), Fail> {
+    let mut batch = Vec::new(alloc);
+    for (kind, code, body) in records {
+        let code = Bytes::from(code.as_bytes().to_vec(alloc)?);
+        let body = Bytes::from(body.as_bytes().to_vec(alloc)?);
+        let kind = *kind;
+        batch.push(Change::Put(Record { kind, code, body }))?;
+    }
+    keeper.commit(alloc, batch.as_slice())?;
+    Ok(())
 }
 
 /// A shelf with one store, of these records as kinds, codes and bodies, whose calls of these numbers fail.
@@ -67,74 +86,95 @@ pub(crate) fn shelf_of(
 ) -> Result<MapShelf, Fail> {
     let mut keeper = MapKeeper::new(Vec::new(alloc), failing.to_vec(alloc)?);
     if !records.is_empty() {
-        let mut batch = Vec::new(alloc);
-        for (kind, code, body) in records {
-            batch.push(Change::Put(Record {
-                kind: *kind,
-                code: Bytes::from(code.as_bytes().to_vec(alloc)?),
-                body: Bytes::from(body.as_bytes().to_vec(alloc)?),
-            }))?;
-        }
-        if keeper.commit(alloc, batch.as_slice()).is_err() {
-            return Err(Fail::new("the records weren't put"));
-        }
+        put_all(alloc, &mut keeper, records)?;
     }
     let mut stores = Vec::new(alloc);
     stores.push((Bytes::from("desk".as_bytes().to_vec(alloc)?), keeper))?;
     Ok(MapShelf::new(alloc, stores, Vec::new(alloc)))
 }
 
-/// Whether two sessions over one store give kept numbers and the answers of one desk.
-fn is_kept<R: Wait + Sync + Threads>(rt: &R, alloc: Global) -> Result<bool, Fail> {
+/// Fails unless two sessions over one store give kept numbers and the answers of one desk.
+fn is_kept<R: Wait + Sync + Threads>(rt: &R, alloc: Global) -> Result<(), Fail> {
     let mut shelf = shelf_of(alloc, &[], &[])?;
-    Ok(is_served(rt, alloc, FIRST, &mut shelf)? && is_served(rt, alloc, AGAIN, &mut shelf)?)
+    is_served(rt, alloc, FIRST, &mut shelf, "the first session")?;
+    is_served(rt, alloc, AGAIN, &mut shelf, "the second session")
 }
 
 #[test]
 fn a_session_goes_on_with_the_desk_of_its_store(rt: HostRuntime) -> Result<(), Fail> {
-    assert!(rt; is_kept(&rt, rt.alloc())?);
-    Ok(())
+    is_kept(&rt, rt.alloc())
 }
 
-/// The status over this shelf, and what is written where a part is to be entered.
-fn told_of<R: Wait + Sync + Threads>(
+/// Fails unless a session over this shelf, where a part is to be entered, ends with the status and writes just this line.
+fn is_refused<R: Wait + Sync + Threads>(
     rt: &R,
     alloc: Global,
     mut shelf: MapShelf,
-) -> Result<(u8, Vec<u8>), Fail> {
+    status: u8,
+    line: &str,
+    what: &'static str,
+) -> Result<(), Fail> {
     let (stream, _) = stream_of(alloc, FIRST)?;
-    outcome(rt, alloc, &WORDS, stream.as_bytes(), 100_000, &mut shelf)
+    let told = (status, line.as_bytes());
+    let is_right = is_told(
+        rt,
+        alloc,
+        &WORDS,
+        stream.as_bytes(),
+        100_000,
+        &mut shelf,
+        told,
+    )?;
+    check(is_right, what)
+}
+
+/// Fails unless a session ends with status 4 where its store fails at the call of this number.
+fn fails_at<R: Wait + Sync + Threads>(
+    rt: &R,
+    alloc: Global,
+    call: u64,
+    what: &'static str,
+) -> Result<(), Fail> {
+    let shelf = shelf_of(alloc, &[], &[call])?;
+    is_refused(rt, alloc, shelf, 4, "desk: store\n", what)
+}
+
+/// Fails unless a session ends with status 4 where the shelf refuses its store.
+fn fails_without_a_store<R: Wait + Sync + Threads>(rt: &R, alloc: Global) -> Result<(), Fail> {
+    let shelf = MapShelf::new(alloc, Vec::new(alloc), Vec::from_array(alloc, [1])?);
+    is_refused(rt, alloc, shelf, 4, "desk: store\n", "the store is refused")
 }
 
 #[test]
 fn a_store_that_cannot_be_opened_ends_with_status_4(rt: HostRuntime) -> Result<(), Fail> {
-    let alloc = rt.alloc();
-    let refused = MapShelf::new(alloc, Vec::new(alloc), Vec::from_array(alloc, [1])?);
-    let (status, line) = told_of(&rt, alloc, refused)?;
-    assert_eq!(rt; status, 4);
-    assert_eq!(rt; line.as_slice(), b"desk: store\n".as_slice());
-    // Reading the records fails, and then the commit of the start tables.
-    for call in [1, 2] {
-        let (status, line) = told_of(&rt, alloc, shelf_of(alloc, &[], &[call])?)?;
-        assert_eq!(rt; status, 4);
-        assert_eq!(rt; line.as_slice(), b"desk: store\n".as_slice());
+    fails_without_a_store(&rt, rt.alloc())?;
+    fails_at(&rt, rt.alloc(), 1, "reading the records fails")?;
+    fails_at(&rt, rt.alloc(), 2, "the commit of the start tables fails")
+}
+
+/// One record of a store that is damaged, and the line that tells it.
+const DAMAGED: &[((u8, &str, &str), &str)] = &[
+    ((11, "X", "1"), "desk: damaged 11 X\n"),
+    ((4, "P", "01\tassembly\tPump"), "desk: damaged 4 P\n"),
+    ((6, "P", "1\t3"), "desk: damaged 6 P\n"),
+];
+
+/// Fails at the first record that isn't told by its line.
+fn are_told_damaged<R: Wait + Sync + Threads>(
+    rt: &R,
+    alloc: Global,
+    rows: &[((u8, &str, &str), &'static str)],
+) -> Result<(), Fail> {
+    for &(record, line) in rows {
+        let shelf = shelf_of(alloc, &[record], &[])?;
+        is_refused(rt, alloc, shelf, 5, line, line)?;
     }
     Ok(())
 }
 
 #[test]
 fn a_damaged_store_is_told_by_a_record(rt: HostRuntime) -> Result<(), Fail> {
-    let alloc = rt.alloc();
-    for (records, told) in [
-        ([(11, "X", "1")], "desk: damaged 11 X\n"),
-        ([(4, "P", "01\tassembly\tPump")], "desk: damaged 4 P\n"),
-        ([(6, "P", "1\t3")], "desk: damaged 6 P\n"),
-    ] {
-        let (status, line) = told_of(&rt, alloc, shelf_of(alloc, &records, &[])?)?;
-        assert_eq!(rt; status, 5);
-        assert_eq!(rt; line.as_slice(), told.as_bytes());
-    }
-    Ok(())
+    are_told_damaged(&rt, rt.alloc(), DAMAGED)
 }
 
 /// The second edit isn't kept, and then it is sent again.
@@ -156,19 +196,16 @@ const UNKEPT: &[Turn] = &[
     },
 ];
 
-/// Whether an edit that the store refuses is told, isn't made, and can be sent again.
-fn is_sent_again<R: Wait + Sync + Threads>(rt: &R, alloc: Global) -> Result<bool, Fail> {
+/// Fails unless an edit that the store refuses is told, isn't made, and can be sent again.
+fn is_sent_again<R: Wait + Sync + Threads>(rt: &R, alloc: Global) -> Result<(), Fail> {
     // Two calls open the store, the third keeps the part.
     let mut shelf = shelf_of(alloc, &[], &[4])?;
-    Ok(
-        is_served(rt, alloc, UNKEPT, &mut shelf)?
-            && is_served(rt, alloc, AGAIN, &mut shelf)?
-            && shelf.faults() == 1,
-    )
+    is_served(rt, alloc, UNKEPT, &mut shelf, "the session with a fault")?;
+    is_served(rt, alloc, AGAIN, &mut shelf, "the session behind it")?;
+    check(shelf.faults() == 1, "not one fault")
 }
 
 #[test]
 fn an_edit_that_the_store_refuses_can_be_sent_again(rt: HostRuntime) -> Result<(), Fail> {
-    assert!(rt; is_sent_again(&rt, rt.alloc())?);
-    Ok(())
+    is_sent_again(&rt, rt.alloc())
 }

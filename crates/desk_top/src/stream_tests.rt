@@ -1,10 +1,8 @@
 //! Sessions over streams that no good client sends, and over a console that fails.
 
-ghost use Rattle.std.specs.Prelude.{◌≤◌};
-
-use crate::session_steps::{exit_status_of, outcome, stream_of};
+use crate::session_steps::{check, empty_shelf, exit_status_of, is_told, outcome, stream_of};
 use crate::session_tests::GATEWAY;
-use desk_edge::{MapShelf, MemoryLink};
+use desk_edge::MemoryLink;
 use desk_text::Bytes;
 use std::alloc::Global;
 use std::fmt::Write;
@@ -30,12 +28,10 @@ fn ends_so<R: Wait + Sync + Threads>(
     piece: usize,
     ended: u8,
     replies: &str,
-) -> Result<bool, Fail>
-    requires { 1 ≤ piece }
-{
-    let mut shelf = MapShelf::new(alloc, Vec::new(alloc), Vec::new(alloc));
-    let (status, written) = outcome(rt, alloc, &["session"], stream, piece, &mut shelf)?;
-    Ok(status == ended && written.as_slice() == replies.as_bytes())
+) -> Result<bool, Fail> {
+    let mut shelf = empty_shelf(alloc);
+    let told = (ended, replies.as_bytes());
+    is_told(rt, alloc, &["session"], stream, piece, &mut shelf, told)
 }
 
 /// A stream, and of the one reply to it the status, further lines and the body.
@@ -54,7 +50,7 @@ const LONG_HEAD: &[u8] = b"GET /version HTTP/1.1\r\n\
     A:b\r\nA:b\r\nA:b\r\nA:b\r\nA:b\r\nA:b\r\nA:b\r\nA:b\r\nA:b\r\nA:b\r\nA:b\r\nA:b\r\nA:b\r\n\
     \r\nGET /version HTTP/1.1\r\n\r\n";
 
-const ROWS: [Row; 12] = [
+const ROWS: &[Row] = &[
     (
         b"POST /edit HTTP/1.1\r\nContent-Length: 7\r\nContent-Length: 7\r\n\r\n{\"a\":1}",
         BAD_LENGTH,
@@ -129,15 +125,34 @@ const ROWS: [Row; 12] = [
     ),
 ];
 
-#[test]
-fn a_hostile_request_gets_its_refusal(rt: HostRuntime) -> Result<(), Fail> {
-    for (stream, status, lines, said) in ROWS {
-        let mut reply = String::new(rt.alloc());
-        push_reply(&mut reply, status, lines, said)?;
-        for piece in [1, 100_000] {
-            assert!(rt; ends_so(&rt, rt.alloc(), stream, piece, 0, reply.as_str())?);
+/// Whether the row's stream gets just its reply, however it is cut.
+fn is_refused<R: Wait + Sync + Threads>(rt: &R, alloc: Global, row: &Row) -> Result<bool, Fail> {
+    let (stream, status, lines, said) = *row;
+    let mut reply = String::new(alloc);
+    push_reply(&mut reply, status, lines, said)?;
+    Ok(
+        ends_so(rt, alloc, stream, 1, 0, reply.as_str())?
+            && ends_so(rt, alloc, stream, 100_000, 0, reply.as_str())?,
+    )
+}
+
+/// The place of the first row whose stream gets another reply.
+fn first_unrefused<R: Wait + Sync + Threads>(
+    rt: &R,
+    alloc: Global,
+    rows: &[Row],
+) -> Result<Option<usize>, Fail> {
+    for (place, row) in rows.iter().enumerate() {
+        if !is_refused(rt, alloc, row)? {
+            return Ok(Some(place));
         }
     }
+    Ok(None)
+}
+
+#[test]
+fn a_hostile_request_gets_its_refusal(rt: HostRuntime) -> Result<(), Fail> {
+    assert_eq!(rt; first_unrefused(&rt, rt.alloc(), ROWS)?, None);
     Ok(())
 }
 
@@ -156,41 +171,51 @@ fn posted(alloc: Global, path: &str, length: usize, byte: u8, count: usize) -> R
     Ok(stream)
 }
 
+/// Fails unless a session over this stream, in one piece, ends with status 0 and writes one reply of status 400.
+fn is_bad<R: Wait + Sync + Threads>(
+    rt: &R,
+    alloc: Global,
+    stream: &[u8],
+    said: &'static str,
+) -> Result<(), Fail> {
+    let mut reply = String::new(alloc);
+    push_reply(&mut reply, "400 Bad Request", "", said)?;
+    let is_right = ends_so(rt, alloc, stream, 100_000, 0, reply.as_str())?;
+    check(is_right, said)
+}
+
+/// Fails unless a body that lacks its last byte is cut.
+fn is_cut<R: Wait + Sync + Threads>(rt: &R, alloc: Global) -> Result<(), Fail> {
+    let cut = posted(alloc, "/edit", 65_536, b'[', 65_535)?;
+    let is_right = ends_so(rt, alloc, cut.as_slice(), 100_000, 6, "")?;
+    check(is_right, "a body that lacks its last byte")
+}
+
 #[test]
 fn the_longest_body_is_read_to_its_last_byte(rt: HostRuntime) -> Result<(), Fail> {
-    let cut = posted(rt.alloc(), "/edit", 65_536, b'[', 65_535)?;
-    assert!(rt; ends_so(&rt, rt.alloc(), cut.as_slice(), 100_000, 6, "")?);
+    is_cut(&rt, rt.alloc())?;
     let commas = posted(rt.alloc(), "/declare", 65_536, b',', 65_536)?;
-    let mut reply = String::new(rt.alloc());
-    push_reply(
-        &mut reply,
-        "400 Bad Request",
-        "",
+    is_bad(
+        &rt,
+        rt.alloc(),
+        commas.as_slice(),
         "bad-declaration no-head\n",
-    )?;
-    assert!(rt;
-        ends_so(
-            &rt,
-            rt.alloc(),
-            commas.as_slice(),
-            100_000,
-            0,
-            reply.as_str()
-        )?
-    );
-    Ok(())
+    )
+}
+
+/// A request with a list in a list, two hundred deep.
+fn deep(alloc: Global) -> Result<Bytes, Fail> {
+    let mut deep = posted(alloc, "/edit", 400, b'[', 200)?;
+    for _ in 0..200 {
+        deep.push_all(b"]")?;
+    }
+    Ok(deep)
 }
 
 #[test]
 fn a_deep_value_is_no_edit(rt: HostRuntime) -> Result<(), Fail> {
-    let mut deep = posted(rt.alloc(), "/edit", 400, b'[', 200)?;
-    for _ in 0..200 {
-        deep.push_all(b"]")?;
-    }
-    let mut reply = String::new(rt.alloc());
-    push_reply(&mut reply, "400 Bad Request", "", "bad-edit not-json\n")?;
-    assert!(rt; ends_so(&rt, rt.alloc(), deep.as_slice(), 100_000, 0, reply.as_str())?);
-    Ok(())
+    let deep = deep(rt.alloc())?;
+    is_bad(&rt, rt.alloc(), deep.as_slice(), "bad-edit not-json\n")
 }
 
 /// A thousand requests for the version, and their replies.
@@ -204,20 +229,16 @@ fn thousand(alloc: Global) -> Result<(Bytes, String), Fail> {
     Ok((stream, replies))
 }
 
+/// Whether a thousand requests at once get a thousand replies.
+fn are_thousand<R: Wait + Sync + Threads>(rt: &R, alloc: Global) -> Result<bool, Fail> {
+    let (stream, replies) = thousand(alloc)?;
+    ends_so(rt, alloc, stream.as_slice(), 100_000, 0, replies.as_str())
+}
+
 #[test]
 fn a_thousand_requests_at_once_get_a_thousand_replies(rt: HostRuntime) -> Result<(), Fail> {
-    let (stream, replies) = thousand(rt.alloc())?;
-    assert!(rt;
-        ends_so(
-            &rt,
-            rt.alloc(),
-            stream.as_slice(),
-            100_000,
-            0,
-            replies.as_str()
-        )?
-    );
-    Ok(())
+    let are_all = are_thousand(&rt, rt.alloc())?;
+    check(are_all, "other replies")
 }
 
 /// What a session writes for the edits and the questions of an ordinary desk, four times over, by pieces of this length.
@@ -225,15 +246,13 @@ fn hundred_mixed<R: Wait + Sync + Threads>(
     rt: &R,
     alloc: Global,
     piece: usize,
-) -> Result<(u8, Vec<u8>), Fail>
-    requires { 1 ≤ piece }
-{
+) -> Result<(u8, Vec<u8>), Fail> {
     let (requests, _) = stream_of(alloc, GATEWAY)?;
     let mut stream = String::new(alloc);
     for _ in 0..4 {
         stream.push_str(requests.as_str())?;
     }
-    let mut shelf = MapShelf::new(alloc, Vec::new(alloc), Vec::new(alloc));
+    let mut shelf = empty_shelf(alloc);
     outcome(
         rt,
         alloc,
@@ -244,17 +263,32 @@ fn hundred_mixed<R: Wait + Sync + Threads>(
     )
 }
 
+/// Fails unless the replies to a hundred mixed requests begin with those of an ordinary desk, and are the same however they are cut.
+fn are_mixed_alike<R: Wait + Sync + Threads>(rt: &R, alloc: Global) -> Result<(), Fail> {
+    let (_, replies) = stream_of(alloc, GATEWAY)?;
+    let by_bytes = hundred_mixed(rt, alloc, 1)?;
+    let begins = by_bytes.1.starts_with(replies.as_bytes());
+    check(by_bytes.0 == 0 && begins, "another beginning")?;
+    let at_once = hundred_mixed(rt, alloc, 100_000)?;
+    check(at_once == by_bytes, "other replies where they are cut")
+}
+
 #[test]
 fn a_hundred_mixed_requests_are_answered_alike_however_they_are_cut(
     rt: HostRuntime,
 ) -> Result<(), Fail> {
-    let alloc = rt.alloc();
-    let (status, written) = hundred_mixed(&rt, alloc, 1)?;
-    let (_, replies) = stream_of(alloc, GATEWAY)?;
-    assert_eq!(rt; status, 0);
-    assert!(rt; written.starts_with(replies.as_bytes()));
-    assert!(rt; hundred_mixed(&rt, alloc, 100_000)? == (0, written));
-    Ok(())
+    are_mixed_alike(&rt, rt.alloc())
+}
+
+/// Two requests for the version, and their replies.
+fn two_versions(alloc: Global) -> Result<(Bytes, String), Fail> {
+    let mut stream = Bytes::start(alloc);
+    let mut replies = String::new(alloc);
+    for _ in 0..2 {
+        stream.push_all(b"GET /version HTTP/1.1\r\n\r\n")?;
+        push_reply(&mut replies, "200 OK", "", "version 0\n")?;
+    }
+    Ok((stream, replies))
 }
 
 /// The status of a session whose console fails at a call, and whether what was written is a beginning of the replies.
@@ -263,32 +297,38 @@ fn failing_at<R: Wait + Sync + Threads>(
     alloc: Global,
     piece: usize,
     call: u64,
-) -> Result<(u8, bool), Fail>
-    requires { 1 ≤ piece }
-{
-    let stream = Bytes::from(
-        b"GET /version HTTP/1.1\r\n\r\nGET /version HTTP/1.1\r\n\r\n".to_vec(alloc)?,
-    );
-    let mut replies = String::new(alloc);
-    push_reply(&mut replies, "200 OK", "", "version 0\n")?;
-    push_reply(&mut replies, "200 OK", "", "version 0\n")?;
+) -> Result<(u8, bool), Fail> {
+    let (stream, replies) = two_versions(alloc)?;
     let failing = Vec::from_array(alloc, [call])?;
-    let mut console = MemoryLink::new(alloc, stream, piece, 100_000, failing)?;
-    let mut words = Vec::new(alloc);
-    words.push("session".to_string(alloc)?)?;
-    let mut shelf = MapShelf::new(alloc, Vec::new(alloc), Vec::new(alloc));
+    let mut console = MemoryLink::new(alloc, stream, piece.max(1), 100_000, failing)?;
+    let words = Vec::from_array(alloc, ["session".to_string(alloc)?])?;
+    let mut shelf = empty_shelf(alloc);
     let status = exit_status_of(rt, alloc, &words, &mut console, &mut shelf);
     Ok((status, replies.as_bytes().starts_with(console.written())))
+}
+
+/// The first call up to one past so many whose failure ends a session otherwise: with status 3 and a beginning of the replies, and
+/// with 0 past them.
+fn first_unheard<R: Wait + Sync + Threads>(
+    rt: &R,
+    alloc: Global,
+    piece: usize,
+    calls: u64,
+) -> Result<Option<u64>, Fail> {
+    for call in 1..=calls.saturating_add(1) {
+        let status = if call <= calls { 3 } else { 0 };
+        if failing_at(rt, alloc, piece, call)? != (status, true) {
+            return Ok(Some(call));
+        }
+    }
+    Ok(None)
 }
 
 #[test]
 fn a_failing_call_of_the_console_ends_with_status_3(rt: HostRuntime) -> Result<(), Fail> {
     // One read, one write, and the read that finds the end; by single bytes, 50 reads and two writes before it.
-    for (piece, calls) in [(100_000, 3), (1, 53)] {
-        for call in 1..=calls {
-            assert_eq!(rt; failing_at(&rt, rt.alloc(), piece, call)?, (3, true));
-        }
-        assert_eq!(rt; failing_at(&rt, rt.alloc(), piece, calls + 1)?, (0, true));
-    }
+    let at_once = first_unheard(&rt, rt.alloc(), 100_000, 3)?;
+    let by_bytes = first_unheard(&rt, rt.alloc(), 1, 53)?;
+    assert_eq!(rt; (at_once, by_bytes), (None, None));
     Ok(())
 }

@@ -6,7 +6,16 @@ use desk_model::LineRow;
 use desk_text::Code;
 use desk_totals::Links;
 use std::alloc::Global;
+use std::fmt::Debug;
 use std::test::Fail;
+
+/// A failure that says what was found in place of what was wanted, unless it is that.
+fn same<T: Copy + Debug + PartialEq>(found: T, wanted: T) -> Result<(), Fail> {
+    if found == wanted {
+        return Ok(());
+    }
+    Err(Fail::new(format_args!("{found:?} in place of {wanted:?}")))
+}
 
 /// Whether the code is one of these.
 fn is_among(code: &Code, codes: &[Code]) -> bool
@@ -102,38 +111,72 @@ fn masses(alloc: Global, bill: &Links) -> Result<Vec<Option<u128>>, Fail> {
     Ok(bill.rolled_up(alloc, &own)?)
 }
 
-/// Whether the chain is that of these words.
-fn is_chain(bill: &Links, alloc: Global, words: &[&str]) -> Result<bool, Fail> {
-    let chain = codes(alloc, words)?;
-    let (Some(from), Some(target)) = (chain.first(), chain.last()) else {
-        return Err(Fail::new("no chain"));
-    };
-    let found = bill.chain(alloc, from, target)?;
-    Ok(found.as_slice() == chain.as_slice())
+/// A failure unless the nodes weigh this, where copper weighs 10 and plastic 5.
+fn weigh(alloc: Global, bill: &Links, wanted: &[Option<u128>]) -> Result<(), Fail> {
+    let masses = masses(alloc, bill)?;
+    same(masses.as_slice(), wanted)
+}
+
+/// A failure unless the parts that reach the node of each word are marked so.
+fn are_marked(alloc: Global, bill: &Links, rows: &[(&str, [bool; 5])]) -> Result<(), Fail> {
+    for (word, wanted) in rows {
+        let target = Code::read(word.as_bytes())?;
+        let marks = bill.marks(alloc, &target)?;
+        if marks.as_slice() != wanted.as_slice() {
+            return Err(Fail::new(format_args!("marks {marks:?} of {word}")));
+        }
+    }
+    Ok(())
+}
+
+/// A failure unless of each two words the first reaches the second, or does not.
+fn do_reach(alloc: Global, bill: &Links, rows: &[(&str, &str, bool)]) -> Result<(), Fail> {
+    for (from, target, wanted) in rows {
+        let (start, end) = (Code::read(from.as_bytes())?, Code::read(target.as_bytes())?);
+        if bill.does_reach(alloc, &start, &end)? != *wanted {
+            return Err(Fail::new(format_args!("otherwise from {from} to {target}")));
+        }
+    }
+    Ok(())
 }
 
 #[test]
 fn parts_reach_what_their_lines_lead_to(rt: HostRuntime) -> Result<(), Fail> {
-    let alloc = rt.alloc();
-    let bill = kettle(alloc)?;
-    let marks = bill.marks(alloc, &Code::read(b"cu")?)?;
-    assert_eq!(rt;
-        marks.as_slice(),
-        [false, false, true, true, true].as_slice()
-    );
-    let marks = bill.marks(alloc, &Code::read(b"plug")?)?;
-    assert_eq!(rt;
-        marks.as_slice(),
-        [false, false, false, true, false].as_slice()
-    );
-    let glass = Code::read(b"glass")?;
-    let marks = bill.marks(alloc, &glass)?;
-    assert_eq!(rt; marks.as_slice(), [false; 5].as_slice());
-    let (kettle, copper) = (Code::read(b"kettle")?, Code::read(b"cu")?);
-    assert!(rt; bill.does_reach(alloc, &kettle, &copper)?);
-    assert!(rt; !bill.does_reach(alloc, &copper, &kettle)?);
-    assert!(rt; !bill.does_reach(alloc, &kettle, &kettle)?);
-    assert!(rt; !bill.does_reach(alloc, &glass, &copper)?);
+    let bill = kettle(rt.alloc())?;
+    are_marked(
+        rt.alloc(),
+        &bill,
+        &[
+            ("cu", [false, false, true, true, true]),
+            ("plug", [false, false, false, true, false]),
+            ("glass", [false; 5]),
+        ],
+    )?;
+    do_reach(
+        rt.alloc(),
+        &bill,
+        &[
+            ("kettle", "cu", true),
+            ("cu", "kettle", false),
+            ("kettle", "kettle", false),
+            ("glass", "cu", false),
+        ],
+    )
+}
+
+/// Two words, and those of the chain from the first to the second.
+type ChainRow<'a> = (&'a str, &'a str, &'a [&'a str]);
+
+/// A failure unless from each word to the other there is its chain.
+fn are_chains(alloc: Global, bill: &Links, rows: &[ChainRow]) -> Result<(), Fail> {
+    for (from, target, words) in rows {
+        let (start, end) = (Code::read(from.as_bytes())?, Code::read(target.as_bytes())?);
+        let found = bill.chain(alloc, &start, &end)?;
+        let wanted = codes(alloc, words)?;
+        if found.as_slice() != wanted.as_slice() {
+            return Err(Fail::new(format_args!("another chain from {from} to {target}")));
+        }
+    }
     Ok(())
 }
 
@@ -141,54 +184,51 @@ fn parts_reach_what_their_lines_lead_to(rt: HostRuntime) -> Result<(), Fail> {
 fn a_chain_takes_the_first_child_and_ends_alone_where_there_is_none(
     rt: HostRuntime,
 ) -> Result<(), Fail> {
-    let alloc = rt.alloc();
-    let bill = kettle(alloc)?;
-    assert!(rt; is_chain(&bill, alloc, &["kettle", "cable", "cu"])?);
-    assert!(rt; is_chain(&bill, alloc, &["kettle", "plug"])?);
-    assert!(rt; is_chain(&bill, alloc, &["cu"])?);
-    let (plug, cable) = (Code::read(b"plug")?, Code::read(b"cable")?);
-    let chain = bill.chain(alloc, &plug, &cable)?;
-    assert_eq!(rt; chain.as_slice(), [plug].as_slice());
-    let glass = Code::read(b"glass")?;
-    assert_eq!(rt;
-        bill.chain(alloc, &glass, &plug)?.as_slice(),
-        [glass].as_slice()
-    );
-    Ok(())
+    let bill = kettle(rt.alloc())?;
+    are_chains(
+        rt.alloc(),
+        &bill,
+        &[
+            ("kettle", "cu", &["kettle", "cable", "cu"]),
+            ("kettle", "plug", &["kettle", "plug"]),
+            ("cu", "cu", &["cu"]),
+            ("plug", "cable", &["plug"]),
+            ("glass", "plug", &["glass"]),
+        ],
+    )
 }
 
 #[test]
 fn a_kettle_weighs_its_cable_twice(rt: HostRuntime) -> Result<(), Fail> {
-    let alloc = rt.alloc();
-    let bill = kettle(alloc)?;
-    let wanted = [Some(10), Some(5), Some(40), Some(110), Some(30)];
-    assert_eq!(rt; masses(alloc, &bill)?.as_slice(), wanted.as_slice());
-    Ok(())
+    let bill = kettle(rt.alloc())?;
+    weigh(
+        rt.alloc(),
+        &bill,
+        &[Some(10), Some(5), Some(40), Some(110), Some(30)],
+    )
 }
 
 #[test]
 fn parts_that_reach_each_node_are_counted(rt: HostRuntime) -> Result<(), Fail> {
-    let alloc = rt.alloc();
-    let bill = kettle(alloc)?;
-    assert_eq!(rt; bill.nodes().len(), 5);
-    let counts = bill.reach_counts(alloc, &[4, 0, 1, 2, 3, 0])?;
-    assert_eq!(rt; counts.as_slice(), [1, 3, 3, 1, 0, 3].as_slice());
-    Ok(())
+    let bill = kettle(rt.alloc())?;
+    if bill.nodes().len() != 5 {
+        return Err(Fail::new("not five nodes"));
+    }
+    let counts = bill.reach_counts(rt.alloc(), &[4, 0, 1, 2, 3, 0])?;
+    same(counts.as_slice(), [1, 3, 3, 1, 0, 3].as_slice())
 }
 
 #[test]
 fn what_a_node_is_or_reaches_is_told_target_by_target(rt: HostRuntime) -> Result<(), Fail> {
-    let alloc = rt.alloc();
-    let bill = kettle(alloc)?;
-    assert_eq!(rt; bill.nodes().len(), 5);
-    let marks = bill.reached_among(alloc, 4, &[4, 0, 2, 1, 3])?;
-    assert_eq!(rt;
-        marks.as_slice(),
-        [true, true, false, true, false].as_slice()
-    );
-    let marks = bill.reached_among(alloc, 0, &[0, 1])?;
-    assert_eq!(rt; marks.as_slice(), [true, false].as_slice());
-    Ok(())
+    let bill = kettle(rt.alloc())?;
+    if bill.nodes().len() != 5 {
+        return Err(Fail::new("not five nodes"));
+    }
+    let marks = bill.reached_among(rt.alloc(), 4, &[4, 0, 2, 1, 3])?;
+    let wanted = [true, true, false, true, false];
+    same(marks.as_slice(), wanted.as_slice())?;
+    let marks = bill.reached_among(rt.alloc(), 0, &[0, 1])?;
+    same(marks.as_slice(), [true, false].as_slice())
 }
 
 /// A line that is set, put in or taken out at a place.
@@ -230,22 +270,29 @@ fn changed(alloc: Global, change: Change) -> Result<Links, Fail> {
 fn a_changed_line_changes_the_masses_above_it(rt: HostRuntime) -> Result<(), Fail> {
     let alloc = rt.alloc();
     let bill = changed(alloc, Change::Set(5, line("plug", "cable", 1)?))?;
-    let wanted = [Some(10), Some(5), Some(40), Some(130), Some(50)];
-    assert_eq!(rt; masses(alloc, &bill)?.as_slice(), wanted.as_slice());
+    weigh(
+        alloc,
+        &bill,
+        &[Some(10), Some(5), Some(40), Some(130), Some(50)],
+    )?;
     let bill = changed(alloc, Change::Remove(3))?;
-    let wanted = [Some(10), Some(5), Some(40), Some(80), Some(30)];
-    assert_eq!(rt; masses(alloc, &bill)?.as_slice(), wanted.as_slice());
-    Ok(())
+    weigh(
+        alloc,
+        &bill,
+        &[Some(10), Some(5), Some(40), Some(80), Some(30)],
+    )
 }
 
 #[test]
 fn a_line_on_a_cycle_is_told(rt: HostRuntime) -> Result<(), Fail> {
     let alloc = rt.alloc();
-    assert_eq!(rt; kettle(alloc)?.line_on_cycle(alloc)?, None);
+    same(kettle(alloc)?.line_on_cycle(alloc)?, None)?;
     let bill = changed(alloc, Change::Insert(1, line("cable", "kettle", 1)?))?;
     let place = bill.line_on_cycle(alloc)?;
-    assert!(rt; place == Some(1) || place == Some(3));
-    Ok(())
+    if place == Some(1) || place == Some(3) {
+        return Ok(());
+    }
+    Err(Fail::new(format_args!("the line at {place:?}")))
 }
 
 /// Two materials, and layers of two parts above them, each of which has two lines to the layer below.
@@ -270,61 +317,84 @@ fn layers(alloc: Global, many: u8, count: u32) -> Result<Links, Fail> {
     bill_of(alloc, nodes, 2, lines.as_slice())
 }
 
-#[test]
-fn forty_layers_count_each_shared_part_as_often_as_it_is_used(rt: HostRuntime) -> Result<(), Fail> {
-    let alloc = rt.alloc();
-    let bill = layers(alloc, 40, 1)?;
-    let own = [1; 2];
-    let mut own = Vec::from_slice(alloc, &own)?;
-    own.resize(bill.nodes().len(), 0)?;
-    assert_eq!(rt; own.len(), 82);
-    let masses = bill.rolled_up(alloc, own.as_slice())?;
-    assert_eq!(rt; masses[2], Some(2));
-    assert_eq!(rt; masses[81], Some(1 << 40));
-    let marks = bill.marks(alloc, &Code::read(b"120a")?)?;
-    assert_eq!(rt; marks.iter().filter(|mark| **mark).count(), 40);
-    Ok(())
-}
-
-/// Of the last part of so many layers what it weighs, where each line has a count of 1,000,000 and materials weigh 1.
-fn heavy(alloc: Global, many: u8) -> Result<Option<u128>, Fail> {
-    let bill = layers(alloc, many, 1_000_000)?;
+/// The masses where the two materials of a bill weigh 1.
+fn masses_of_ones(alloc: Global, bill: &Links) -> Result<Vec<Option<u128>>, Fail> {
     let mut own: Vec<u128> = Vec::from_slice(alloc, &[1; 2])?;
     own.resize(bill.nodes().len(), 0)?;
     if own.len() != bill.nodes().len() {
         return Err(Fail::new("other nodes"));
     }
-    let masses = bill.rolled_up(alloc, own.as_slice())?;
+    Ok(bill.rolled_up(alloc, own.as_slice())?)
+}
+
+/// The first of these places at which something else stands in a list.
+fn first_other<T: PartialEq>(list: &[T], rows: &[(usize, T)]) -> Option<usize> {
+    for (place, one) in rows {
+        if list.get(*place) != Some(one) {
+            return Some(*place);
+        }
+    }
+    None
+}
+
+/// How many marks are set.
+fn count_set(marks: &[bool]) -> usize {
+    marks.iter().filter(|mark| **mark).count()
+}
+
+#[test]
+fn forty_layers_count_each_shared_part_as_often_as_it_is_used(rt: HostRuntime) -> Result<(), Fail> {
+    let bill = layers(rt.alloc(), 40, 1)?;
+    let masses = masses_of_ones(rt.alloc(), &bill)?;
+    same(masses.len(), 82)?;
+    same(
+        first_other(masses.as_slice(), &[(2, Some(2)), (81, Some(1 << 40))]),
+        None,
+    )?;
+    let marks = bill.marks(rt.alloc(), &Code::read(b"120a")?)?;
+    same(count_set(marks.as_slice()), 40)
+}
+
+/// Of the last part of so many layers what it weighs, where each line has a count of 1,000,000 and materials weigh 1.
+fn heavy(alloc: Global, many: u8) -> Result<Option<u128>, Fail> {
+    let bill = layers(alloc, many, 1_000_000)?;
+    let masses = masses_of_ones(alloc, &bill)?;
     match masses.last() {
         Some(mass) => Ok(*mass),
         None => Err(Fail::new("no nodes")),
     }
 }
 
-#[test]
-fn what_weighs_too_much_has_no_mass(rt: HostRuntime) -> Result<(), Fail> {
-    let alloc = rt.alloc();
-    assert_eq!(rt;
-        heavy(alloc, 6)?,
-        Some(64_000_000_000_000_000_000_000_000_000_000_000_000)
-    );
-    assert_eq!(rt; heavy(alloc, 7)?, None);
-    assert_eq!(rt; heavy(alloc, 40)?, None);
+/// What a material of this mass weighs, and then a pair of it and a single one.
+fn pair_and_single(alloc: Global, own: u128) -> Result<Vec<Option<u128>>, Fail> {
     let nodes = codes(alloc, &["m", "pair", "single"])?;
     let lines = [line("pair", "m", 2)?, line("single", "m", 1)?];
     let bill = bill_of(alloc, nodes, 1, &lines)?;
-    assert_eq!(rt; bill.nodes().len(), 3);
-    let masses = bill.rolled_up(alloc, &[1 << 127, 0, 0])?;
-    assert_eq!(rt;
-        masses.as_slice(),
-        [Some(1 << 127), None, Some(1 << 127)].as_slice()
-    );
-    let masses = bill.rolled_up(alloc, &[u128::MAX, 0, 0])?;
-    assert_eq!(rt;
-        masses.as_slice(),
-        [Some(u128::MAX), None, Some(u128::MAX)].as_slice()
-    );
+    if bill.nodes().len() != 3 {
+        return Err(Fail::new("not three nodes"));
+    }
+    Ok(bill.rolled_up(alloc, &[own, 0, 0])?)
+}
+
+/// A failure unless a pair of a material of each mass weighs too much, and one of it doesn't.
+fn pairs_have_no_mass(alloc: Global, masses: &[u128]) -> Result<(), Fail> {
+    for mass in masses {
+        let found = pair_and_single(alloc, *mass)?;
+        if found.as_slice() != [Some(*mass), None, Some(*mass)].as_slice() {
+            return Err(Fail::new(format_args!("masses {found:?}")));
+        }
+    }
     Ok(())
+}
+
+#[test]
+fn what_weighs_too_much_has_no_mass(rt: HostRuntime) -> Result<(), Fail> {
+    let alloc = rt.alloc();
+    let six = 64_000_000_000_000_000_000_000_000_000_000_000_000;
+    same(heavy(alloc, 6)?, Some(six))?;
+    same(heavy(alloc, 7)?, None)?;
+    same(heavy(alloc, 40)?, None)?;
+    pairs_have_no_mass(alloc, &[1 << 127, u128::MAX])
 }
 
 /// All places below this one.
@@ -344,11 +414,22 @@ fn more_nodes_are_counted_than_a_number_has_bits(rt: HostRuntime) -> Result<(), 
     let bill = layers(alloc, 40, 3)?;
     let places = places_below(alloc, bill.nodes().len())?;
     let counts = bill.reach_counts(alloc, places.as_slice())?;
-    assert_eq!(rt; counts.len(), 82);
-    assert_eq!(rt; (counts[0], counts[1]), (80, 80));
-    assert_eq!(rt; (counts[2], counts[63], counts[64]), (78, 18, 16));
-    assert_eq!(rt; (counts[80], counts[81]), (0, 0));
-    Ok(())
+    same(counts.len(), 82)?;
+    same(
+        first_other(
+            counts.as_slice(),
+            &[
+                (0, 80),
+                (1, 80),
+                (2, 78),
+                (63, 18),
+                (64, 16),
+                (80, 0),
+                (81, 0),
+            ],
+        ),
+        None,
+    )
 }
 
 #[test]
@@ -361,7 +442,6 @@ fn more_targets_are_told_than_a_number_has_bits(rt: HostRuntime) -> Result<(), F
         return Err(Fail::new("too few layers"));
     }
     let marks = bill.reached_among(alloc, 40, places.as_slice())?;
-    assert_eq!(rt; marks.len(), 82);
-    assert_eq!(rt; marks.iter().filter(|mark| **mark).count(), 41);
-    Ok(())
+    same(marks.len(), 82)?;
+    same(count_set(marks.as_slice()), 41)
 }

@@ -49,180 +49,227 @@ fn read(alloc: Global, line: &str) -> Result<String, Fail> {
     told(alloc, read_command(alloc, words.as_slice()))
 }
 
+/// The first line that is read as another command.
+fn first_read_otherwise<'a>(
+    alloc: Global,
+    rows: &[(&'a str, &str)],
+) -> Result<Option<&'a str>, Fail> {
+    for (line, command) in rows {
+        if read(alloc, line)?.as_str() != *command {
+            return Ok(Some(line));
+        }
+    }
+    Ok(None)
+}
+
+/// Lines, and the command of each.
+const LINES: [(&str, &str); 26] = [
+    ("check 2024-01-23 3", "check 2024-01-23 3"),
+    ("check 2014-07-22 7t", "check 2014-07-22 7t"),
+    ("check -- 2024-01-23 3", "check 2024-01-23 3"),
+    ("check 2024-01-23 -- 3", "check 2024-01-23 3"),
+    ("check 2024-01-23 3 --", "check 2024-01-23 3"),
+    ("session", "session"),
+    ("session --", "session"),
+    ("session --store a", "session [97]"),
+    ("session --store a --", "session [97]"),
+    ("session --store=a", "session [97]"),
+    ("session --store=-", "session [45]"),
+    ("session --store=--", "session [45, 45]"),
+    ("session --store==x", "session [61, 120]"),
+    ("session --store a=b", "session [97, 61, 98]"),
+    (
+        "session --store session",
+        "session [115, 101, 115, 115, 105, 111, 110]",
+    ),
+    ("export --store a", "export [97]"),
+    ("export --store=a", "export [97]"),
+    ("export --store a --", "export [97]"),
+    ("import --store a", "import [97]"),
+    ("import --store=a", "import [97]"),
+    ("audit 2024-01-23 --store a", "audit 2024-01-23 [97]"),
+    ("audit --store a 2024-01-23", "audit 2024-01-23 [97]"),
+    ("audit --store=a -- 2024-01-23", "audit 2024-01-23 [97]"),
+    ("sample 1", "sample 1"),
+    ("sample 2000", "sample 2000"),
+    ("sample -- 12", "sample 12"),
+];
+
 #[test]
 fn lines_of_the_grammar_are_read(rt: HostRuntime) -> Result<(), Fail> {
-    for (line, command) in [
-        ("check 2024-01-23 3", "check 2024-01-23 3"),
-        ("check 2014-07-22 7t", "check 2014-07-22 7t"),
-        ("check -- 2024-01-23 3", "check 2024-01-23 3"),
-        ("check 2024-01-23 -- 3", "check 2024-01-23 3"),
-        ("check 2024-01-23 3 --", "check 2024-01-23 3"),
-        ("session", "session"),
-        ("session --", "session"),
-        ("session --store a", "session [97]"),
-        ("session --store a --", "session [97]"),
-        ("session --store=a", "session [97]"),
-        ("session --store=-", "session [45]"),
-        ("session --store=--", "session [45, 45]"),
-        ("session --store==x", "session [61, 120]"),
-        ("session --store a=b", "session [97, 61, 98]"),
-        (
-            "session --store session",
-            "session [115, 101, 115, 115, 105, 111, 110]",
-        ),
-        ("export --store a", "export [97]"),
-        ("export --store=a", "export [97]"),
-        ("export --store a --", "export [97]"),
-        ("import --store a", "import [97]"),
-        ("import --store=a", "import [97]"),
-        ("audit 2024-01-23 --store a", "audit 2024-01-23 [97]"),
-        ("audit --store a 2024-01-23", "audit 2024-01-23 [97]"),
-        ("audit --store=a -- 2024-01-23", "audit 2024-01-23 [97]"),
-        ("sample 1", "sample 1"),
-        ("sample 2000", "sample 2000"),
-        ("sample -- 12", "sample 12"),
-    ] {
-        assert_eq!(rt; read(rt.alloc(), line)?.as_str(), command, "of {line}");
-    }
+    assert_eq!(rt; first_read_otherwise(rt.alloc(), &LINES)?, None);
     Ok(())
 }
+
+/// The first line that is not refused.
+fn first_not_refused<'a>(alloc: Global, lines: &[&'a str]) -> Result<Option<&'a str>, Fail> {
+    for line in lines {
+        if read(alloc, line)?.as_str() != "refused" {
+            return Ok(Some(line));
+        }
+    }
+    Ok(None)
+}
+
+const OTHER_LINES: [&str; 28] = [
+    "",
+    "fly",
+    "sess",
+    "Session",
+    "help",
+    "help check",
+    "--help",
+    "-h",
+    "--version",
+    "-V",
+    "-- check 2024-01-23 3",
+    "--store a session",
+    "check",
+    "check 2024-01-23",
+    "check 2024-01-23 12",
+    "check 2024-02-30 3",
+    "check 2014-07-21 3",
+    "check 2024-01-23 3 3",
+    "check 2024-01-23 3 -- 3",
+    "check 2024-01-23 -3",
+    "check -- 2024-01-23 -3",
+    "check 2024-01-23 3 -- --",
+    "check 2024-01-23 3 --store a",
+    "check 2024-01-23 3 --help",
+    "check --help",
+    "check -h",
+    "check help",
+    "check 3 2024-01-23",
+];
 
 #[test]
 fn other_lines_are_refused(rt: HostRuntime) -> Result<(), Fail> {
-    for line in [
-        "",
-        "fly",
-        "sess",
-        "Session",
-        "help",
-        "help check",
-        "--help",
-        "-h",
-        "--version",
-        "-V",
-        "-- check 2024-01-23 3",
-        "--store a session",
-        "check",
-        "check 2024-01-23",
-        "check 2024-01-23 12",
-        "check 2024-02-30 3",
-        "check 2014-07-21 3",
-        "check 2024-01-23 3 3",
-        "check 2024-01-23 3 -- 3",
-        "check 2024-01-23 -3",
-        "check -- 2024-01-23 -3",
-        "check 2024-01-23 3 -- --",
-        "check 2024-01-23 3 --store a",
-        "check 2024-01-23 3 --help",
-        "check --help",
-        "check -h",
-        "check help",
-        "check 3 2024-01-23",
-    ] {
-        assert_eq!(rt; read(rt.alloc(), line)?.as_str(), "refused", "of {line}");
-    }
+    assert_eq!(rt; first_not_refused(rt.alloc(), &OTHER_LINES)?, None);
     Ok(())
 }
+
+const OTHER_SESSIONS: [&str; 28] = [
+    "session session",
+    "session a",
+    "session -- a",
+    "session --store",
+    "session --store=",
+    "session --store= x",
+    "session --store -",
+    "session --store -a",
+    "session --store --",
+    "session --store -- x",
+    "session --store --store",
+    "session --store --store=a",
+    "session --store a b",
+    "session --store a --store b",
+    "session --store a --store=b",
+    "session --store=a --store=b",
+    "session --store=a --store",
+    "session --sto x",
+    "session --stores x",
+    "session --Store x",
+    "session -s x",
+    "session -store x",
+    "session ---store x",
+    "session --=x",
+    "session --port 1",
+    "session --port=1",
+    "session --help",
+    "session help",
+];
 
 #[test]
 fn other_sessions_are_refused(rt: HostRuntime) -> Result<(), Fail> {
-    for line in [
-        "session session",
-        "session a",
-        "session -- a",
-        "session --store",
-        "session --store=",
-        "session --store= x",
-        "session --store -",
-        "session --store -a",
-        "session --store --",
-        "session --store -- x",
-        "session --store --store",
-        "session --store --store=a",
-        "session --store a b",
-        "session --store a --store b",
-        "session --store a --store=b",
-        "session --store=a --store=b",
-        "session --store=a --store",
-        "session --sto x",
-        "session --stores x",
-        "session --Store x",
-        "session -s x",
-        "session -store x",
-        "session ---store x",
-        "session --=x",
-        "session --port 1",
-        "session --port=1",
-        "session --help",
-        "session help",
-    ] {
-        assert_eq!(rt; read(rt.alloc(), line)?.as_str(), "refused", "of {line}");
-    }
+    assert_eq!(rt; first_not_refused(rt.alloc(), &OTHER_SESSIONS)?, None);
     Ok(())
 }
+
+const OTHER_EXPORTS_AND_IMPORTS: [&str; 13] = [
+    "export",
+    "export a",
+    "export --",
+    "export -- --store a",
+    "export --store a b",
+    "export --port 1",
+    "export --store a --store a",
+    "import",
+    "import a",
+    "import --store",
+    "import --store=",
+    "import --store a --seats 1",
+    "import --store=a --store=a",
+];
 
 #[test]
 fn other_exports_and_imports_are_refused(rt: HostRuntime) -> Result<(), Fail> {
-    for line in [
-        "export",
-        "export a",
-        "export --",
-        "export -- --store a",
-        "export --store a b",
-        "export --port 1",
-        "export --store a --store a",
-        "import",
-        "import a",
-        "import --store",
-        "import --store=",
-        "import --store a --seats 1",
-        "import --store=a --store=a",
-    ] {
-        assert_eq!(rt; read(rt.alloc(), line)?.as_str(), "refused", "of {line}");
-    }
+    assert_eq!(rt;
+        first_not_refused(rt.alloc(), &OTHER_EXPORTS_AND_IMPORTS)?,
+        None
+    );
     Ok(())
 }
 
+const OTHER_AUDITS_AND_SAMPLES: [&str; 21] = [
+    "audit",
+    "audit 2024-01-23",
+    "audit --store a",
+    "audit 2014-07-21 --store a",
+    "audit 2024-01-23 --store a b",
+    "audit 2024-01-23 2024-01-23 --store a",
+    "audit 2024-01-23 --store 2024-01-23 --store a",
+    "audit 2024-01-23 -- --store a",
+    "audit 2024-01-23 --port 1",
+    "sample",
+    "sample 0",
+    "sample 01",
+    "sample 2001",
+    "sample 4294967297",
+    "sample +1",
+    "sample -1",
+    "sample -- -1",
+    "sample 1x",
+    "sample 1 1",
+    "sample 1 --store a",
+    "sample --seats 1",
+];
+
 #[test]
 fn other_audits_and_samples_are_refused(rt: HostRuntime) -> Result<(), Fail> {
-    for line in [
-        "audit",
-        "audit 2024-01-23",
-        "audit --store a",
-        "audit 2014-07-21 --store a",
-        "audit 2024-01-23 --store a b",
-        "audit 2024-01-23 2024-01-23 --store a",
-        "audit 2024-01-23 --store 2024-01-23 --store a",
-        "audit 2024-01-23 -- --store a",
-        "audit 2024-01-23 --port 1",
-        "sample",
-        "sample 0",
-        "sample 01",
-        "sample 2001",
-        "sample 4294967297",
-        "sample +1",
-        "sample -1",
-        "sample -- -1",
-        "sample 1x",
-        "sample 1 1",
-        "sample 1 --store a",
-        "sample --seats 1",
-    ] {
-        assert_eq!(rt; read(rt.alloc(), line)?.as_str(), "refused", "of {line}");
-    }
+    assert_eq!(rt;
+        first_not_refused(rt.alloc(), &OTHER_AUDITS_AND_SAMPLES)?,
+        None
+    );
     Ok(())
+}
+
+/// Whether a command is read with a store of this name.
+fn is_read_with(alloc: Global, command: &str, name: &str) -> Result<bool, AllocError> {
+    let mut words = words(alloc, command)?;
+    words.push(String::from_str(alloc, "--store")?)?;
+    words.push(String::from_str(alloc, name)?)?;
+    Ok(read_command(alloc, words.as_slice()).is_ok())
+}
+
+/// The first command that is read otherwise with a store whose name has so many letters.
+fn first_wrong_length(
+    alloc: Global,
+    lengths: &[(usize, bool)],
+) -> Result<Option<(usize, &'static str)>, AllocError> {
+    for (length, is_read) in lengths {
+        let name = "n".repeat(alloc, *length)?;
+        for command in ["session", "export", "import"] {
+            if is_read_with(alloc, command, name.as_str())? != *is_read {
+                return Ok(Some((*length, command)));
+            }
+        }
+    }
+    Ok(None)
 }
 
 #[test]
 fn a_store_has_a_name_of_1_to_200_bytes(rt: HostRuntime) -> Result<(), Fail> {
-    for (length, is_read) in [(0, false), (1, true), (200, true), (201, false)] {
-        let name = "n".repeat(rt.alloc(), length)?;
-        for command in ["session", "export", "import"] {
-            let mut words = words(rt.alloc(), command)?;
-            words.push(String::from_str(rt.alloc(), "--store")?)?;
-            words.push(name.clone()?)?;
-            assert_eq!(rt; read_command(rt.alloc(), words.as_slice()).is_ok(), is_read);
-        }
-    }
+    let lengths = [(0, false), (1, true), (200, true), (201, false)];
+    assert_eq!(rt; first_wrong_length(rt.alloc(), &lengths)?, None);
     Ok(())
 }

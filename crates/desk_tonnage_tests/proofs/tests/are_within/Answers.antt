@@ -4,7 +4,7 @@ use Rattle.std.proofs.lemmas.List.{at_drop_all, at_drop_more}
 use Rattle.desk_tonnage.specs.declared.entry.Entry.{Entry}
 use Rattle.desk_tonnage.specs.declared.product_load.ProductLoad.{ProductLoad}
 use Rattle.desk_tonnage.specs.Tonnage.{carried_by}
-use Rattle.desk_tonnage.proofs.tests.are_within.Goals as goal
+use Rattle.desk_tonnage_tests.proofs.tests.are_within.Goals as goal
 
 -- no unit of the entry carries more than it weighs
 abbrev IsWithin : List ProductLoad → Entry → Type 0

@@ -1,7 +1,7 @@
 use Rattle.std.proofs.Common.{◌≤◌, drop}
 use Rattle.std.specs.List.{AllByRecursion}
 use Rattle.desk_tonnage.specs.Tonnage.{carried_by}
-use Rattle.desk_tonnage.proofs.tests.are_within.Given as goal
+use Rattle.desk_tonnage_tests.proofs.tests.are_within.Given as goal
 
 -- what holds of the entries that are left holds of all
 abbrev pub invariant-loop-entry : goal.invariant-loop-entry

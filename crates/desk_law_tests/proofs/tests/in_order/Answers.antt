@@ -4,7 +4,7 @@ use Rattle.std.specs.Ordering.{is_le, is_lt}
 use Rattle.std.specs.List.Sorted.{IsSortedByKey}
 use Rattle.desk_text.specs.Code.{code_cmp}
 use Rattle.desk_law.specs.declared.terms.Terms.{Terms}
-use Rattle.desk_law.proofs.tests.in_order.Goals as goal
+use Rattle.desk_law_tests.proofs.tests.in_order.Goals as goal
 
 two_in_order : (a b : Terms) → is_lt (code_cmp b.row a.row) ≡ false → IsSortedByKey (λ row. row.row) code_cmp (a ∷ b ∷ [])
 two_in_order a b h zero d low inside = h
