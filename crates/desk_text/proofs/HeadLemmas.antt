@@ -3,7 +3,7 @@ use Rattle.std.proofs.Common.{◌≡◌, ℕ, zero, suc, ◌+◌, ◌*◌, ◌<�
 use Rattle.std.proofs.lemmas.Bool.Decides.{nat_tests}
 use Rattle.std.proofs.lemmas.Cmp.{ranked}
 use Rattle.std.specs.Cmp.Lexicographic.{slice_cmp}
-use Rattle.std.specs.Int.{w64, from_be_bytes}
+use Rattle.std.specs.Int.{w128, from_be_bytes}
 use Rattle.std.specs.Ordering.{nat_cmp, ordering_then}
 use Rattle.std.specs.Str.{IsAscii}
 use Rattle.std.specs.declared.cmp.Ordering.{Ordering}
@@ -77,8 +77,37 @@ first_bytes-take zero p text = refl
 first_bytes-take (suc n) p [] = refl
 first_bytes-take (suc n) p (x ∷ text) = first_bytes-take n (p * 256 + x) text
 
--- eight bytes are the number that the library reads of them
-pub first_bytes-be : (bytes : List ℕ) → length bytes ≡ 8 → from_be_bytes w64 bytes ≡ first_bytes 8 0 bytes
+both_longer : (m n : ℕ) → nat_cmp m n ≡ nat_cmp (suc m) (suc n)
+both_longer m n = grind (arith, nat_tests)
+
+-- texts no longer than their first bytes that have the same number of them differ at most in zeros at the end of one
+pub first_bytes-same : (n p : ℕ) (a b : List ℕ) → IsAscii a → IsAscii b → length a ≤ n → length b ≤ n → first_bytes n p a ≡ first_bytes n p b
+    → slice_cmp nat_cmp a b ≡ nat_cmp (length a) (length b)
+first_bytes-same n p [] [] in_a in_b short_a short_b same = refl
+first_bytes-same n p [] (y ∷ b) in_a in_b short_a short_b same = sym (less_by_nat 0 (suc (length b)) (omega arith))
+first_bytes-same n p (x ∷ a) [] in_a in_b short_a short_b same = sym (greater_by_nat (suc (length a)) 0 (omega arith))
+first_bytes-same zero p (x ∷ a) (y ∷ b) in_a in_b short_a short_b same = absurd (omega (arith, short_a))
+first_bytes-same (suc n) p (x ∷ a) (y ∷ b) in_a in_b short_a short_b same =
+    by (nat_cmp x y) refl
+    (λ equal. first_bytes-same n (p * 256 + x) a b tail_a tail_b (omega (arith, short_a)) (omega (arith, short_b)) (same ∙ ap (λ byte. first_bytes n (p * 256 + byte) b) (sym equal)))
+  where
+    tail_a : IsAscii a
+    tail_a i = in_a (suc i)
+
+    tail_b : IsAscii b
+    tail_b i = in_b (suc i)
+
+    by : (o : Ordering) → o ≡ nat_cmp x y → (x ≡ y → slice_cmp nat_cmp a b ≡ nat_cmp (length a) (length b)) → ordering_then o (slice_cmp nat_cmp a b) ≡ nat_cmp (suc (length a)) (suc (length b))
+    by Less is rest =
+        let less : x < y = ranked x y Less is in
+        absurd (omega (arith, same, before_decides n (p * 256 + x) (p * 256 + y) a b tail_a tail_b (omega arith)))
+    by Greater is rest =
+        let more : y < x = ranked x y Greater is in
+        absurd (omega (arith, same, before_decides n (p * 256 + y) (p * 256 + x) b a tail_b tail_a (omega arith)))
+    by Equal is rest = rest (ranked x y Equal is) ∙ both_longer (length a) (length b)
+
+-- sixteen bytes are the number that the library reads of them
+pub first_bytes-be : (bytes : List ℕ) → length bytes ≡ 16 → from_be_bytes w128 bytes ≡ first_bytes 16 0 bytes
 first_bytes-be [] long = absurd (omega arith)
 first_bytes-be (a ∷ []) long = absurd (omega arith)
 first_bytes-be (a ∷ b ∷ []) long = absurd (omega arith)
@@ -87,5 +116,13 @@ first_bytes-be (a ∷ b ∷ c ∷ d ∷ []) long = absurd (omega arith)
 first_bytes-be (a ∷ b ∷ c ∷ d ∷ e ∷ []) long = absurd (omega arith)
 first_bytes-be (a ∷ b ∷ c ∷ d ∷ e ∷ f ∷ []) long = absurd (omega arith)
 first_bytes-be (a ∷ b ∷ c ∷ d ∷ e ∷ f ∷ g ∷ []) long = absurd (omega arith)
-first_bytes-be (a ∷ b ∷ c ∷ d ∷ e ∷ f ∷ g ∷ h ∷ []) long = omega arith
-first_bytes-be (a ∷ b ∷ c ∷ d ∷ e ∷ f ∷ g ∷ h ∷ i ∷ rest) long = absurd (omega arith)
+first_bytes-be (a ∷ b ∷ c ∷ d ∷ e ∷ f ∷ g ∷ h ∷ []) long = absurd (omega arith)
+first_bytes-be (a ∷ b ∷ c ∷ d ∷ e ∷ f ∷ g ∷ h ∷ i ∷ []) long = absurd (omega arith)
+first_bytes-be (a ∷ b ∷ c ∷ d ∷ e ∷ f ∷ g ∷ h ∷ i ∷ j ∷ []) long = absurd (omega arith)
+first_bytes-be (a ∷ b ∷ c ∷ d ∷ e ∷ f ∷ g ∷ h ∷ i ∷ j ∷ k ∷ []) long = absurd (omega arith)
+first_bytes-be (a ∷ b ∷ c ∷ d ∷ e ∷ f ∷ g ∷ h ∷ i ∷ j ∷ k ∷ l ∷ []) long = absurd (omega arith)
+first_bytes-be (a ∷ b ∷ c ∷ d ∷ e ∷ f ∷ g ∷ h ∷ i ∷ j ∷ k ∷ l ∷ m ∷ []) long = absurd (omega arith)
+first_bytes-be (a ∷ b ∷ c ∷ d ∷ e ∷ f ∷ g ∷ h ∷ i ∷ j ∷ k ∷ l ∷ m ∷ n ∷ []) long = absurd (omega arith)
+first_bytes-be (a ∷ b ∷ c ∷ d ∷ e ∷ f ∷ g ∷ h ∷ i ∷ j ∷ k ∷ l ∷ m ∷ n ∷ o ∷ []) long = absurd (omega arith)
+first_bytes-be (a ∷ b ∷ c ∷ d ∷ e ∷ f ∷ g ∷ h ∷ i ∷ j ∷ k ∷ l ∷ m ∷ n ∷ o ∷ p ∷ []) long = omega arith
+first_bytes-be (a ∷ b ∷ c ∷ d ∷ e ∷ f ∷ g ∷ h ∷ i ∷ j ∷ k ∷ l ∷ m ∷ n ∷ o ∷ p ∷ q ∷ rest) long = absurd (omega arith)

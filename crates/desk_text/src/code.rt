@@ -48,6 +48,7 @@ pub enum CodeFault {
 
 impl Code {
     ghost use Rattle.desk_text.specs.Code.{code_of};
+    ghost use Rattle.desk_text.specs.Word.{first_bytes};
 
     /// The code that these bytes spell. The faults are tried in the order in which `CodeFault` lists them.
     #[tactic(auto, unfolding(crate::specs::Code::code_of))]
@@ -65,6 +66,14 @@ impl Code {
         ensures form { code_of self.now ≡ Ok self.now }
     {
         self.word.as_bytes()
+    }
+
+    /// The first sixteen bytes as one number: an earlier byte counts for more, and zero stands in the place of each that the code
+    /// lacks. Of two codes the one that stands first has no greater number, and most codes that differ differ in it.
+    pub fn head(&self) -> u128
+        ensures { result ≡ first_bytes 16 0 self.now }
+    {
+        self.word.head()
     }
 }
 

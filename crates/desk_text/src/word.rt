@@ -102,6 +102,13 @@ impl<const N: usize> Word<N> {
         &self.places[..self.len as usize]
     }
 
+    /// How many bytes there are.
+    fn len(&self) -> usize
+        ensures { result ≡ length self.now }
+    {
+        self.as_bytes().len()
+    }
+
     /// The word as a text.
     pub fn as_str(&self) -> &str
         ensures { result.now ≡ self.now }
@@ -112,19 +119,19 @@ impl<const N: usize> Word<N> {
 }
 
 /// How many bytes the head of a word has.
-const HEAD_LEN: usize = 8;
+const HEAD_LEN: usize = 16;
 
 impl<const N: usize> Word<N> {
     ghost use Rattle.desk_text.specs.Word.{first_bytes};
 
     /// The first places of the word as one number, by which most words that differ are told apart at once.
-    fn head(&self) -> u64
-        requires { 8 ≤ N }
-        ensures value { result ≡ first_bytes 8 0 self.now }
+    pub(crate) fn head(&self) -> u128
+        requires { 16 ≤ N }
+        ensures value { result ≡ first_bytes 16 0 self.now }
         ensures ascii { IsAscii self.now }
     {
         match self.places.first_chunk() {
-            Some(places) => u64::from_be_bytes(*places),
+            Some(places) => u128::from_be_bytes(*places),
             None => unreachable!(),
         }
     }
@@ -168,6 +175,11 @@ impl<const N: usize> Ord for Word<N> {
             let (head, other_head) = (self.head(), other.head());
             if head != other_head {
                 return head.cmp(&other_head);
+            }
+            let (len, other_len) = (self.len(), other.len());
+            if len <= HEAD_LEN && other_len <= HEAD_LEN {
+                // All that they have is in their heads, but for bytes that are zero.
+                return len.cmp(&other_len);
             }
         }
         self.as_bytes().cmp(&other.as_bytes())

@@ -13,14 +13,14 @@ returns-clause-value g c =
     let places : List ℕ = c.self.inside.places in
     let text : List ℕ = take c.self.inside.len places in
     let chunk : List ℕ = c.in-Some.places.now in
-    let first : chunk ≡ take 8 places = c.in-Some.ensures.cases.same in
-    let long : length chunk ≡ 8 = ap length first ∙ length-take-le 8 places c.in-Some.ensures.cases.enough in
+    let first : chunk ≡ take 16 places = c.in-Some.ensures.cases.same in
+    let long : length chunk ≡ 16 = ap length first ∙ length-take-le 16 places c.in-Some.ensures.cases.enough in
     let whole : text ++ replicate (g.row.N - length text) 0 ≡ places =
     padded-text g.row.N c.self.inside.len places (record { size = c.self.invariant.size; fits = c.self.invariant.fits; ascii = c.self.invariant.ascii; padding = c.self.invariant.padding }) in
     c.from_be_bytes.ensures
     ∙ first_bytes-be chunk long
-    ∙ ap (first_bytes 8 0) first
-    ∙ first_bytes-take 8 0 places
-    ∙ ap (first_bytes 8 0) (sym whole)
-    ∙ first_bytes-padded 8 0 (g.row.N - length text) text
-    ∙ ap (first_bytes 8 0) c.self.view_is
+    ∙ ap (first_bytes 16 0) first
+    ∙ first_bytes-take 16 0 places
+    ∙ ap (first_bytes 16 0) (sym whole)
+    ∙ first_bytes-padded 16 0 (g.row.N - length text) text
+    ∙ ap (first_bytes 16 0) c.self.view_is
