@@ -1,7 +1,7 @@
 -- Codes of which none stands twice: the values of such nodes, read and written at a place.
 use Rattle.std.proofs.Common.{◌≡◌, ℕ, zero, suc, ◌+◌, ◌<◌, Bool, true, false, not, cond, ◌||◌, List, [], ◌∷◌, length, map, get_or, set, drop, refl, sym, ap, ◌∙◌, inl, inr, arith}
 use Rattle.std.specs.List.{AllByRecursion, list_all, list_any}
-use Rattle.std.proofs.lemmas.Bool.{and_from, and_parts, both_ways, cases_Bool, false≢true, not-true, or_cases, or_parts}
+use Rattle.std.proofs.lemmas.Bool.{and_from, and_parts, false≢true, not-true, or_cases}
 use Rattle.std.proofs.lemmas.List.{at_drop_more}
 use Rattle.desk_text.specs.Code.{same_code}
 use Rattle.desk_text.proofs.CodeLemmas.{same_code_itself}

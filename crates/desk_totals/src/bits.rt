@@ -1,4 +1,4 @@
-ghost use Rattle.std.specs.Prelude.{◌≡◌, ◌+◌, true, bit_or, length, map, vec_len, IfOk};
+ghost use Rattle.std.specs.Prelude.{◌≡◌, ◌+◌, true, length, IfOk};
 ghost use Rattle.desk_totals.specs.Linked.{IsLinked};
 ghost use Rattle.desk_totals.specs.Rounds.{IsSettled, round, rounds};
 ghost use Rattle.desk_totals.specs.Marks.{with_bits};

@@ -1,4 +1,4 @@
-ghost use Rattle.std.specs.Prelude.{◌≡◌, ◌+◌, ◌<◌, ℕ, List, [], ◌∷◌, None, Some, length, map, replicate, slice_index_or, if◌then◌else◌, IfOk, IfSome};
+ghost use Rattle.std.specs.Prelude.{◌≡◌, ◌+◌, ◌<◌, ℕ, List, [], ◌∷◌, None, Some, length, replicate, slice_index_or, if◌then◌else◌, IfOk, IfSome};
 ghost use Rattle.desk_text.specs.Code.{same_code};
 ghost use Rattle.desk_model.specs.declared.rows.line.LineRow.{LineRow};
 ghost use Rattle.desk_model.specs.Lists.{Lists};

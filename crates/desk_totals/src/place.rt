@@ -10,17 +10,36 @@ use std::alloc::Global;
 
 /// The place of the code among the nodes.
 ///
-/// It takes a binary search where the codes of materials and those of parts each stand in order, and else looks at all nodes.
+/// It takes a binary search or two where the codes of materials and those of parts each stand in order, and else looks at all nodes.
 pub(crate) fn place_of(nodes: &[Code], material_count: usize, code: &Code) -> Option<usize>
     requires { material_count ≤ length nodes.now }
     ensures { MatchOption result (is_among code.now nodes.now ≡ false)
         (λ place. (place < length nodes.now) × (node_at nodes.now place ≡ code.now)) }
 {
+    let near = place_by_head(nodes, material_count, code);
+    if stands_at(nodes, near, code) {
+        return Some(near);
+    }
     let guess = guessed_place(nodes, material_count, code);
     if stands_at(nodes, guess, code) {
         return Some(guess);
     }
     first_place_of(nodes, code)
+}
+
+/// Where a code stands that begins as this one does, as far as a guess goes. Where no other begins so it is this one's place.
+fn place_by_head(nodes: &[Code], material_count: usize, code: &Code) -> usize
+    requires { material_count ≤ length nodes.now }
+{
+    let head = code.head();
+    let (materials, parts) = nodes.split_at(material_count);
+    match materials.binary_search_by(|node| node.head().cmp(&head)) {
+        Ok(place) => place,
+        Err(_) => match parts.binary_search_by(|node| node.head().cmp(&head)) {
+            Ok(place) => material_count.saturating_add(place),
+            Err(_) => nodes.len(),
+        },
+    }
 }
 
 /// Where the code stands, as far as a guess goes.

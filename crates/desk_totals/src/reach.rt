@@ -4,8 +4,8 @@ ghost use Rattle.desk_model.specs.Lists.{Lists};
 ghost use Rattle.desk_findings.specs.Bill.{IsBill};
 ghost use Rattle.desk_findings.specs.Reaches.{reaches};
 ghost use Rattle.desk_totals.specs.Linked.{IsBillOf, are_distinct};
-ghost use Rattle.desk_totals.specs.Marks.{has_bit, with_bits};
-ghost use Rattle.desk_totals.specs.Rounds.{IsSettled, value_of};
+ghost use Rattle.desk_totals.specs.Marks.{has_bit};
+ghost use Rattle.desk_totals.specs.Rounds.{value_of};
 
 use crate::bits::settled_bits;
 use crate::links::Links;
