@@ -1,6 +1,5 @@
 -- The bytes that are held at the front of a buffer.
-use Rattle.std.proofs.Common.{◌≡◌, ℕ, ◌+◌, ◌-◌, ◌≤◌, List, [], ◌++◌, take, drop, length, refl, sym, ap, ◌∙◌, subst, append_assoc, arith, rules, length-append}
-use Rattle.std.specs.Io.KnownBytes.{Consumes, IsAtEnd}
+use Rattle.std.proofs.Common.{◌≡◌, ℕ, ◌+◌, ◌-◌, ◌≤◌, List, ◌++◌, take, drop, length, refl, ap, ◌∙◌, subst, arith, rules, length-append}
 use Rattle.std.proofs.lemmas.List.{length-drop, length-take, take-append-le, take_at}
 use Rattle.std.proofs.lemmas.Slice.{between_is}
 use borrow.Rule.Slice.PartMut.{put_mid}

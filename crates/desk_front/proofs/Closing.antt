@@ -2,7 +2,7 @@
 use Rattle.std.proofs.Common.{◌≡◌, ◌≢◌, ℕ, List, [], Option, refl}
 use Rattle.std.specs.Io.KnownBytes.{Consumes}
 use Rattle.desk_http.specs.Rest.{Message}
-use Rattle.desk_front.specs.Served.{Serves, ServedInPart, ServedWhole}
+use Rattle.desk_front.specs.Served.{Serves, ServedWhole}
 use Rattle.desk_front.specs.Service.{Replies}
 use Rattle.desk_front.specs.declared.served.Served.{Served}
 use Rattle.desk_front.specs.declared.served.Served.TheVariants as served

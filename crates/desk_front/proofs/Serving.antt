@@ -1,17 +1,17 @@
 -- A stream that is read piece by piece, and how the serving of it ends.
-use Rattle.std.proofs.Common.{◌≡◌, ℕ, lit<, zero-add, ◌+◌, ◌-◌, ◌<◌, ◌≤◌, Bool, false, true, List, [], ◌∷◌, ◌++◌, Option, length, refl, sym, ap, ◌∙◌, subst, inl, inr, append_assoc, append-nil, arith, IsTrue, take, length-append}
+use Rattle.std.proofs.Common.{◌≡◌, ℕ, lit<, zero-add, ◌+◌, ◌-◌, ◌<◌, ◌≤◌, false, List, [], ◌∷◌, ◌++◌, Option, length, refl, sym, ap, ◌∙◌, subst, inl, inr, append-nil, arith, take, length-append}
 use Rattle.std.specs.Io.KnownBytes.{Appends, Consumes, IsAtEnd, Keeps}
 use Rattle.std.proofs.KnownBytes.{Consumes-kept, Consumes-nil, Consumes-trans}
 use Rattle.std.proofs.lemmas.List.{take_at}
 use Rattle.desk_edge.specs.Transfer.{AppendsBeginning, AppendsPart}
 use Rattle.desk_http.specs.Front.{LeadsTo, last_reply, open_end}
-use Rattle.desk_http.specs.Rest.{IsNotYet, Message}
+use Rattle.desk_http.specs.Rest.{Message}
 use Rattle.desk_http.specs.Stream.{End, EndsAs, IsStream, is_ended, is_refusal}
 use Rattle.desk_http.specs.Stream as stream
 use Rattle.desk_http.proofs.AnswerLemmas.{not_yet_len}
 use Rattle.desk_http.proofs.FrontLemmas.{ends_open, leads_stream}
 use Rattle.desk_front.specs.Held.{ReadMore, held_limit}
-use Rattle.desk_front.specs.Served.{EndsAsServed, IsWrittenInPart, Serves, ServedInPart, ServedWhole, end_served, stream_limit}
+use Rattle.desk_front.specs.Served.{EndsAsServed, IsWrittenInPart, Serves, ServedWhole, end_served, stream_limit}
 use Rattle.desk_front.specs.Service.{AreFirst, BreaksOff, GoesOn, IsBroken, IsOver, LeavesSo, Outgoing, Replies, Sends, Service, service}
 use Rattle.desk_front.specs.declared.round.Round.TheVariants as round
 use Rattle.desk_front.specs.declared.served.Served.{Served}

@@ -1,7 +1,7 @@
 -- Requests that are answered one after another, and how a stream ends behind them.
-use Rattle.std.proofs.Common.{◌≡◌, ℕ, ◌<◌, ◌≤◌, Bool, true, false, ◌||◌, List, [], ◌∷◌, ◌++◌, length, refl, sym, ap, ◌∙◌, subst, inl, inr, append_assoc, append-nil, arith, IsTrue, ◌≢◌, Some, None, ◌+◌, ◌-◌, drop, length-drop}
+use Rattle.std.proofs.Common.{◌≡◌, ℕ, ◌≤◌, Bool, true, false, ◌||◌, List, [], ◌∷◌, ◌++◌, length, refl, sym, ap, ◌∙◌, subst, inl, inr, append_assoc, append-nil, arith, IsTrue, ◌≢◌, Some, None, ◌+◌, ◌-◌, drop, length-drop}
 use Rattle.std.proofs.lemmas.Bool.{cases_Bool}
-use Rattle.desk_http.specs.Front.{LeadsTo, last_reply, open_end, refusal_at, refusal_of}
+use Rattle.desk_http.specs.Front.{LeadsTo, last_reply, refusal_at, refusal_of}
 use Rattle.desk_http.specs.Reply.{allow_of, fixed_reply}
 use Rattle.desk_http.specs.Rest.{BeginsWith, IsNotYet, Message}
 use Rattle.desk_http.specs.Taken.{Takes}
@@ -11,13 +11,13 @@ use Rattle.desk_http.specs.declared.method.Method.TheVariants as method
 use Rattle.desk_http.specs.declared.request.Request.{Request}
 use Rattle.desk_http.specs.declared.taken.Taken.{Taken}
 use Rattle.desk_http.specs.declared.taken.Taken.TheVariants as taken
-use Rattle.desk_http.specs.Stream.{End, EndsAs, IsStream, is_ended, is_refusal}
+use Rattle.desk_http.specs.Stream.{End, IsStream, is_ended, is_refusal}
 use Rattle.desk_http.specs.Stream as stream
-use Rattle.desk_http.proofs.FrontLemmas.{ends_open, ends_refused, leads_later, leads_onward, leads_stream}
+use Rattle.desk_http.proofs.FrontLemmas.{ends_refused, leads_later, leads_onward, leads_stream}
 use Rattle.std.proofs.lemmas.List.{drop-drop}
 use Rattle.desk_front.specs.declared.first.First.TheVariants as first
 use Rattle.desk_front.specs.declared.round.Round.TheVariants as round
-use Rattle.desk_front.specs.Service.{AreFirst, BeginsSo, BreaksOff, GoesOn, GoesSo, IsBroken, IsOver, Outgoing, Replies, Sends, Service}
+use Rattle.desk_front.specs.Service.{AreFirst, BeginsSo, BreaksOff, GoesOn, GoesSo, IsBroken, IsOver, Replies, Sends, Service}
 use Rattle.desk_front.proofs.Sending.{breaks_onward, sends_nothing, sends_onward}
 
 pub replies_onward : {A : Type 0} (R : A → Message → List ℕ → A → Type 0) (old mid new : A) (ms ns : List Message) (said more : List ℕ)

@@ -1,5 +1,5 @@
 -- A conversation with a clerk, and the one list that its replies are from.
-use Rattle.std.proofs.Common.{◌≡◌, ◌≢◌, ◌⊎◌, ℕ, ◌+◌, ◌≤◌, Bool, true, List, [], ◌∷◌, ◌++◌, Option, None, Some, Result, Ok, Err, length, take, refl, sym, ap, ◌∙◌, subst, inl, inr, append_assoc, append-nil, arith, length-append}
+use Rattle.std.proofs.Common.{◌≡◌, ◌≢◌, ◌⊎◌, ℕ, ◌+◌, ◌≤◌, true, List, [], ◌∷◌, ◌++◌, Option, None, Some, Result, Ok, Err, refl, sym, ap, ◌∙◌, subst, inl, inr, append_assoc, arith, length-append}
 use Rattle.std.specs.List.{AllByRecursion}
 use Rattle.desk_clerk.specs.Clerk.{number_at}
 use Rattle.desk_declare.specs.declared.declare_fault.DeclareFault.{DeclareFault}
@@ -7,7 +7,7 @@ use Rattle.desk_edge.specs.Faults.{Rose}
 use Rattle.desk_edits.specs.declared.json_fault.JsonFault.{JsonFault}
 use Rattle.desk_declare.specs.Declaration.{declaration_of}
 use Rattle.desk_edits.specs.Edit.{edit_of}
-use Rattle.desk_history.specs.History.{AreAccepted, Begins, History, IsAccepted, IsHistory, after, number_of, tables_after, up_to}
+use Rattle.desk_history.specs.History.{AreAccepted, Begins, History, after, number_of, tables_after, up_to}
 use Rattle.desk_history.specs.Refused.{refused}
 use Rattle.desk_history.specs.Sound.{Sound}
 use Rattle.desk_history.specs.Step.{kept_number, step}
@@ -20,7 +20,7 @@ use Rattle.desk_http.specs.declared.ask.Ask.TheVariants as ask
 use Rattle.desk_http.specs.declared.fixed.Fixed.TheVariants as refusal
 use Rattle.desk_http.specs.declared.http_fault.HttpFault.{HttpFault}
 use Rattle.desk_http.specs.declared.http_fault.HttpFault.TheVariants as fault
-use Rattle.desk_model.specs.Effect.{entered, next_number}
+use Rattle.desk_model.specs.Effect.{next_number}
 use Rattle.desk_model.specs.Forms.{is_edit_in_form}
 use Rattle.desk_model.specs.Lists.{Lists}
 use Rattle.desk_model.specs.declared.edit.Edit.{Edit}
@@ -28,10 +28,10 @@ use Rattle.desk_model.specs.declared.rule_fault.RuleFault.{RuleFault}
 use Rattle.desk_scratch.specs.Eval.{eval}
 use Rattle.desk_scratch.specs.declared.ask_fault.AskFault.{AskFault}
 use Rattle.desk_front.specs.Asked.{Asked, asked_of, edit, nothing, of_csv, of_json, of_route, question}
-use Rattle.desk_front.specs.Replies.{Reply, all_bytes, answer_at, bytes_of, evaluated, fixed, reply_to_edit, no_ask}
+use Rattle.desk_front.specs.Replies.{Reply, all_bytes, answer_at, bytes_of, evaluated, fixed, reply_to_edit}
 use Rattle.desk_front.specs.Service.{Replies}
 use Rattle.desk_front.specs.Talk.{Follows, IsJudged, IsTold, IsToldOfMemory, Talk}
-use Rattle.desk_front.specs.Turn.{AnswersRequest, Conversation, Converses, FailsToKeep, LacksMemory, Standing, Turn, Turns, added_at, if_new, list_with}
+use Rattle.desk_front.specs.Turn.{Conversation, Converses, Standing, Turn, Turns, added_at, if_new}
 
 -- ---- what a turn adds to the list
 

@@ -5,7 +5,6 @@ use Rattle.std.specs.List.{AllByRecursion}
 use Rattle.std.specs.Option.{option_and_then, option_map_or}
 use Rattle.std.specs.Prelude.{codes, option_map}
 use Rattle.std.specs.Str.{bytes_eq}
-use Rattle.desk_text.specs.Day.{Date}
 use Rattle.desk_law.specs.declared.kind.Kind.{Kind}
 use Rattle.desk_clerk.specs.Clerk.{number_at}
 use Rattle.desk_http.specs.Query.{Pair, day_in, kind_in, pairs_of}
@@ -23,7 +22,6 @@ use Rattle.desk_http.specs.declared.fixed.Fixed.{Fixed}
 use Rattle.desk_http.specs.declared.fixed.Fixed.TheVariants as refusal
 use Rattle.desk_http.specs.declared.method.Method.TheVariants as method
 use Rattle.desk_model.specs.Forms.{is_edit_in_form}
-use Rattle.desk_model.specs.Lists.{Lists}
 use Rattle.desk_model.specs.declared.edit.Edit.{Edit}
 use Rattle.desk_model.specs.declared.rule_fault.RuleFault.{RuleFault}
 use Rattle.desk_scratch.specs.declared.question.Question.{Question}

@@ -1,5 +1,5 @@
 -- How the serving of a stream ends, and what was written then.
-use Rattle.std.specs.Prelude.{◌≡◌, ◌≢◌, ℕ, ◌<◌, ◌^◌, ◌⊎◌, false, List, [], ◌∷◌, ◌++◌, IsTrue, Option, length}
+use Rattle.std.specs.Prelude.{◌≡◌, ℕ, ◌<◌, ◌⊎◌, false, List, [], ◌∷◌, ◌++◌, IsTrue, Option, length}
 use Rattle.std.specs.Io.KnownBytes.{Appends, IsAtEnd}
 use Rattle.desk_edge.specs.Transfer.{AppendsBeginning, AppendsPart}
 use Rattle.desk_http.specs.Front.{LeadsTo, last_reply}

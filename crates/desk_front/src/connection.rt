@@ -3,9 +3,8 @@ ghost use Rattle.desk_clerk.specs.Clerk.{keeper_of, whole};
 ghost use Rattle.desk_declare.specs.Declaration.{declaration_of};
 ghost use Rattle.desk_edits.specs.Edit.{edit_of};
 ghost use Rattle.desk_front.specs.Asked.{a_question, an_edit, of_csv, of_json};
-ghost use Rattle.desk_front.specs.Turn.{Says, Standing, Turns};
+ghost use Rattle.desk_front.specs.Turn.{Says, Turns};
 ghost use Rattle.desk_http.specs.Reply.{allow_of, fixed_reply};
-ghost use Rattle.desk_http.specs.Taken.{IsTakenFrom, message_of};
 ghost use Rattle.desk_http.specs.declared.method.Method.TheVariants as method;
 ghost use Rattle.desk_scratch.specs.Questions.{is_question_in_range};
 
@@ -39,7 +38,6 @@ impl<K: Keeper> Answerer for Connection<'_, K> {
     ghost use Rattle.std.specs.Prelude.{◌≡◌, ℕ, List};
     ghost use Rattle.desk_clerk.specs.Clerk.{keeper_of, whole};
     ghost use Rattle.desk_front.specs.Turn.{Turns};
-    ghost use Rattle.desk_http.specs.Rest.{Message};
 
     ghost replies = { λ old request said new. (new.clerk.ghost_name ≡ old.clerk.ghost_name)
         × (K.Tells (keeper_of new.clerk.now) → K.Tells (keeper_of old.clerk.now))

@@ -1,16 +1,14 @@
-ghost use Rattle.std.specs.Prelude.{◌≡◌, ◌≤◌, [], OnErr, OnOk};
+ghost use Rattle.std.specs.Prelude.{◌≡◌, [], OnErr, OnOk};
 ghost use Rattle.desk_front.specs.Service.{BreaksOff, Sends};
 
 use desk_edge::{Failed, Link, write_all};
 use desk_text::Bytes;
-use std::alloc::Global;
-use std::mem;
 
 /// Replies are put together up to about so many bytes before they are written.
 const MOST_WAITING: usize = 65_536;
 
 /// Writes the replies that wait. Their room is kept for the next ones.
-pub(crate) fn flush<L: Link>(alloc: Global, link: &mut L, waiting: &mut Bytes) -> Result<(), Failed>
+pub(crate) fn flush<L: Link>(link: &mut L, waiting: &mut Bytes) -> Result<(), Failed>
     ensures ok { OnOk result (Sends
         (record { waiting = waiting.old; written = L.written link.old; faults = L.faults link.old }) []
         (record { waiting = waiting.new; written = L.written link.new; faults = L.faults link.new })) }
@@ -21,16 +19,12 @@ pub(crate) fn flush<L: Link>(alloc: Global, link: &mut L, waiting: &mut Bytes) -
     ensures input_stays { L.unread link.new ≡ L.unread link.old }
 {
     write_all(link, waiting.as_slice())?;
-    clear(alloc, waiting);
+    waiting.truncate(0);
     Ok(())
 }
 
 /// Writes the replies that wait, where there are many.
-pub(crate) fn flush_if_many<L: Link>(
-    alloc: Global,
-    link: &mut L,
-    waiting: &mut Bytes,
-) -> Result<(), Failed>
+pub(crate) fn flush_if_many<L: Link>(link: &mut L, waiting: &mut Bytes) -> Result<(), Failed>
     ensures ok { OnOk result (Sends
         (record { waiting = waiting.old; written = L.written link.old; faults = L.faults link.old }) []
         (record { waiting = waiting.new; written = L.written link.new; faults = L.faults link.new })) }
@@ -42,16 +36,11 @@ pub(crate) fn flush_if_many<L: Link>(
     if waiting.len() < MOST_WAITING {
         return Ok(());
     }
-    flush(alloc, link, waiting)
+    flush(link, waiting)
 }
 
 /// Says these bytes: they wait with the replies before them, or are written behind them where there is no memory to wait in.
-pub(crate) fn say<L: Link>(
-    alloc: Global,
-    link: &mut L,
-    waiting: &mut Bytes,
-    said: &[u8],
-) -> Result<(), Failed>
+pub(crate) fn say<L: Link>(link: &mut L, waiting: &mut Bytes, said: &[u8]) -> Result<(), Failed>
     ensures ok { OnOk result (Sends
         (record { waiting = waiting.old; written = L.written link.old; faults = L.faults link.old }) said.now
         (record { waiting = waiting.new; written = L.written link.new; faults = L.faults link.new })) }
@@ -62,17 +51,12 @@ pub(crate) fn say<L: Link>(
 {
     match waiting.push_all(said) {
         Ok(()) => Ok(()),
-        Err(_) => say_now(alloc, link, waiting, said),
+        Err(_) => say_now(link, waiting, said),
     }
 }
 
 /// Writes the replies that wait, and these bytes behind them. It takes no memory.
-pub(crate) fn say_now<L: Link>(
-    alloc: Global,
-    link: &mut L,
-    waiting: &mut Bytes,
-    said: &[u8],
-) -> Result<(), Failed>
+pub(crate) fn say_now<L: Link>(link: &mut L, waiting: &mut Bytes, said: &[u8]) -> Result<(), Failed>
     ensures ok { OnOk result (Sends
         (record { waiting = waiting.old; written = L.written link.old; faults = L.faults link.old }) said.now
         (record { waiting = waiting.new; written = L.written link.new; faults = L.faults link.new })) }
@@ -81,15 +65,6 @@ pub(crate) fn say_now<L: Link>(
         (record { waiting = waiting.new; written = L.written link.new; faults = L.faults link.new })) }
     ensures input_stays { L.unread link.new ≡ L.unread link.old }
 {
-    flush(alloc, link, waiting)?;
+    flush(link, waiting)?;
     write_all(link, said)
-}
-
-/// Takes all bytes out, and keeps their room.
-fn clear(alloc: Global, bytes: &mut Bytes)
-    ensures { bytes.new ≡ [] }
-{
-    let mut list = mem::replace(bytes, Bytes::start(alloc)).into_vec();
-    list.clear();
-    *bytes = Bytes::from(list);
 }

@@ -106,14 +106,14 @@ fn answer_held<R: Wait + Sync, L: Link, A: Answerer>(
     ensures input_stays { L.unread link.new ≡ L.unread link.old }
 {
     match answer_all(rt, alloc, link, answerer, held.as_slice(), waiting) {
-        Round::Open(used) => match flush(alloc, link, waiting) {
+        Round::Open(used) => match flush(link, waiting) {
             Ok(()) => {
                 held.drop_front(used);
                 Round::Open(used)
             }
             Err(_) => Round::LinkFault,
         },
-        Round::Over => match flush(alloc, link, waiting) {
+        Round::Over => match flush(link, waiting) {
             Ok(()) => Round::Over,
             Err(_) => Round::LinkFault,
         },
@@ -165,7 +165,7 @@ fn answer_first<R: Wait + Sync, L: Link, A: Answerer>(
     let Some(refusal) = taken.refusal() else {
         return First::NotYet;
     };
-    match say_now(alloc, link, waiting, fixed_reply(refusal, true)) {
+    match say_now(link, waiting, fixed_reply(refusal, true)) {
         Ok(()) => First::Over,
         Err(_) => First::LinkFault,
     }
@@ -213,7 +213,7 @@ fn answer_request<R: Wait + Sync, L: Link, A: Answerer>(
     ensures input_stays { L.unread link.new ≡ L.unread link.old }
 {
     match answerer.reply(rt, alloc, bytes, request, waiting) {
-        Ok(()) => flush_if_many(alloc, link, waiting),
-        Err(fixed) => say(alloc, link, waiting, fixed_reply(fixed, request.close)),
+        Ok(()) => flush_if_many(link, waiting),
+        Err(fixed) => say(link, waiting, fixed_reply(fixed, request.close)),
     }
 }

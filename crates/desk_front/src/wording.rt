@@ -22,20 +22,14 @@ use http::StatusCode;
 use std::alloc::Global;
 
 /// Appends a reply with a body. Where there is no memory for it, that is the reply.
-fn tell(
-    alloc: Global,
-    status: StatusCode,
-    body: &[u8],
-    close: bool,
-    out: &mut Bytes,
-) -> Result<(), Fixed>
+fn tell(status: StatusCode, body: &[u8], close: bool, out: &mut Bytes) -> Result<(), Fixed>
     requires status { IsTrue (is_reply_status status) }
     requires allows_none { status ≢ 405 }
     ensures ok { OnOk result (out.new ≡ out.old ++ bytes_with close (with_body status body.now)) }
     ensures memory { IfErr result (λ told. told ≡ refusal.Memory) }
     ensures err { OnErr result (out.new ≡ out.old) }
 {
-    match write_reply(alloc, status, body, None, close, out) {
+    match write_reply(status, body, None, close, out) {
         Ok(()) => Ok(()),
         Err(_) => Err(Fixed::Memory),
     }
@@ -57,7 +51,7 @@ pub(crate) fn tell_answer(
 {
     let mut body = Bytes::start(alloc);
     match answer_plain(alloc, tables, question, &mut body) {
-        Ok(()) => tell(alloc, StatusCode::OK, body.as_slice(), close, out),
+        Ok(()) => tell(StatusCode::OK, body.as_slice(), close, out),
         Err(AskFault::OutOfMemory) => Err(Fixed::Memory),
         Err(fault) => tell_no_answer(alloc, tables, &fault, close, out),
     }
@@ -80,7 +74,7 @@ fn tell_no_answer(
     let Ok(body) = format!(in alloc; "version {number}\n{fault}\n") else {
         return Err(Fixed::Memory);
     };
-    tell(alloc, StatusCode::NOT_FOUND, body.as_bytes(), close, out)
+    tell(StatusCode::NOT_FOUND, body.as_bytes(), close, out)
 }
 
 /// Appends that an edit is accepted, to one who had met the number before.
@@ -100,7 +94,7 @@ pub(crate) fn tell_accepted(
     let Ok(body) = format!(in alloc; "version {whole}\nseen {met}\naccepted {number}\n") else {
         return Err(Fixed::Memory);
     };
-    tell(alloc, StatusCode::OK, body.as_bytes(), close, out)
+    tell(StatusCode::OK, body.as_bytes(), close, out)
 }
 
 /// Appends that a rule refuses an edit, at a list of this number, to one who had met the other before.
@@ -120,7 +114,7 @@ pub(crate) fn tell_refused(
     let Ok(body) = format!(in alloc; "version {whole}\nseen {met}\nrefused {fault}\n") else {
         return Err(Fixed::Memory);
     };
-    tell(alloc, StatusCode::CONFLICT, body.as_bytes(), close, out)
+    tell(StatusCode::CONFLICT, body.as_bytes(), close, out)
 }
 
 /// Appends why a body in JSON is no edit.
@@ -141,7 +135,7 @@ pub(crate) fn tell_bad_edit(
     let Ok(body) = format!(in alloc; "bad-edit {fault}\n") else {
         return Err(Fixed::Memory);
     };
-    tell(alloc, StatusCode::BAD_REQUEST, body.as_bytes(), close, out)
+    tell(StatusCode::BAD_REQUEST, body.as_bytes(), close, out)
 }
 
 /// Appends why a body in CSV is no declaration.
@@ -162,7 +156,7 @@ pub(crate) fn tell_bad_declaration(
     let Ok(body) = format!(in alloc; "bad-declaration {fault}\n") else {
         return Err(Fixed::Memory);
     };
-    tell(alloc, StatusCode::BAD_REQUEST, body.as_bytes(), close, out)
+    tell(StatusCode::BAD_REQUEST, body.as_bytes(), close, out)
 }
 
 /// Appends why a request asks nothing, where that takes a body of its own.
@@ -197,5 +191,5 @@ fn tell_bad_query(alloc: Global, key: QueryKey, close: bool, out: &mut Bytes) ->
     let Ok(body) = format!(in alloc; "{fault}\n") else {
         return Err(Fixed::Memory);
     };
-    tell(alloc, StatusCode::BAD_REQUEST, body.as_bytes(), close, out)
+    tell(StatusCode::BAD_REQUEST, body.as_bytes(), close, out)
 }

@@ -1,8 +1,8 @@
 -- Requests at the front of bytes, and what is left behind them.
-use Rattle.std.proofs.Common.{◌≡◌, ℕ, ◌<◌, Bool, true, false, List, [], ◌∷◌, ◌++◌, length, refl, sym, ap, ◌∙◌, arith, subst, Some, None, MatchBool}
+use Rattle.std.proofs.Common.{◌≡◌, ℕ, Bool, true, false, List, [], ◌∷◌, ◌++◌, refl, sym, ap, ◌∙◌, arith, subst, Some, MatchBool}
 use Rattle.desk_http.specs.Front.{LeadsTo, last_reply, open_end, refusal_at, refusal_of}
 use Rattle.desk_http.specs.Reply.{fixed_reply}
-use Rattle.desk_http.specs.Rest.{BeginsWith, IsNotYet, Message}
+use Rattle.desk_http.specs.Rest.{IsNotYet, Message}
 use Rattle.desk_http.specs.Stream.{End, EndsAs, IsStream}
 use Rattle.desk_http.specs.Stream as stream
 use Rattle.desk_http.specs.Taken.{Takes}

@@ -16,7 +16,7 @@ use Rattle.desk_http.specs.Rest.{HasHead, IsHopeless, IsUnfinished, IsInDoubt, I
 use Rattle.desk_http.specs.Stream as stream
 use Rattle.desk_http.specs.Stream.{End, EndsAs, IsStream, HasRequests, may_count_as, IsSameEnd, is_refusal, is_ended}
 use Rattle.desk_http.specs.Taken as answers
-use Rattle.desk_http.specs.Taken.{PlainAnswer, Takes, answer_of}
+use Rattle.desk_http.specs.Taken.{PlainAnswer, Takes}
 use Rattle.desk_http.specs.Reader.{Event, came, took, bytes_of, pieces_of, requests_of, Reads, IsReadAs}
 use Rattle.desk_http.proofs.AnswerLemmas.{head_answer, headed, answer_whole, in_doubt, no_head, same_request}
 use Rattle.desk_http.proofs.HeadLemmas.{print_request_len}

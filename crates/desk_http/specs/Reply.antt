@@ -1,5 +1,5 @@
 -- The bytes of replies.
-use Rattle.std.specs.Prelude.{ℕ, Bool, true, false, not, List, [], ◌∷◌, ◌++◌, length, Option, Some, None, ◌==◌, codes, find}
+use Rattle.std.specs.Prelude.{◌≡◌, ℕ, Bool, true, false, not, List, [], ◌∷◌, ◌++◌, length, Option, Some, None, ◌==◌, codes, find}
 use Rattle.std.specs.Fmt.{decimal}
 use Rattle.std.specs.List.{list_any}
 use Rattle.std.specs.Option.{option_map_or}
@@ -69,6 +69,10 @@ close_line false = []
 unfoldable pub reply : ℕ → List ℕ → Option Method → Bool → List ℕ
 reply status body allow close =
     status_line status ++ body_lines (length body) ++ allow_line allow ++ close_line close ++ crlf_bytes ++ body
+
+-- a list of bytes that grew at its end
+abbrev pub GrewTo : List ℕ → List ℕ → Type 0
+GrewTo old new = (more : List ℕ) × (new ≡ old ++ more)
 
 -- the status of a refusal whose body is fixed
 abbrev pub status_of : Fixed → ℕ

@@ -1,7 +1,7 @@
 //! The head of a request, as the parser reads it.
 
-ghost use Rattle.std.specs.Prelude.{◌≡◌, ℕ, ◌≤◌, List, length, take, All};
-ghost use Rattle.httparse.specs.Grammar.{RequestHead, ReadsRequest};
+ghost use Rattle.std.specs.Prelude.{◌≤◌, length};
+ghost use Rattle.httparse.specs.Grammar.{RequestHead};
 ghost use Rattle.httparse.specs.Spans.{IsRequestWithin, IsRequestAt, RequestOverflows};
 ghost use Rattle.desk_http.specs.Limits.{head_limit, line_limit};
 ghost use Rattle.desk_http.specs.Head.{Finds, IsHeadAt};
@@ -12,6 +12,9 @@ use crate::method::{Method, method_named};
 use crate::span::Span;
 use httparse::spans::{EMPTY_HEADER_SPAN, HeaderSpan, RequestSpans, parse_request};
 use httparse::{Error, Status};
+
+/// As many lines as most heads have at most.
+const USUAL_LINES: usize = 16;
 
 /// More lines than a head within its bound can have: each takes three bytes or more.
 const MOST_LINES: usize = HEAD_BYTES / 3;
@@ -38,6 +41,20 @@ pub(crate) enum Found {
 
 /// Looks for a head at the front of some bytes.
 pub(crate) fn find_head(bytes: &[u8]) -> Found
+    requires { length bytes.now ≤ head_limit }
+    ensures { Finds bytes.now result }
+{
+    let mut lines = [EMPTY_HEADER_SPAN; USUAL_LINES];
+    match parse_request(bytes, &mut lines) {
+        Ok(Status::Complete(spans)) => Found::Whole(head_of(bytes, spans, &lines)),
+        Ok(Status::Partial) => Found::Unfinished,
+        Err(Error::TooManyHeaders) => find_long_head(bytes),
+        Err(_) => Found::Hopeless,
+    }
+}
+
+/// The same for a head with more lines than most have, which alone pays for the room for all that are allowed.
+fn find_long_head(bytes: &[u8]) -> Found
     requires { length bytes.now ≤ head_limit }
     ensures { Finds bytes.now result }
 {

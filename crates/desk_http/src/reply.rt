@@ -1,21 +1,16 @@
 ghost use Rattle.std.specs.Prelude.{◌≡◌, ◌++◌, IsTrue, OnOk, OnErr};
-ghost use Rattle.desk_http.specs.Reply.{is_reply_status, fits_status, phrase_of, status_line, body_lines, allow_line, close_line, reply};
+ghost use Rattle.httparse.specs.Ascii.{crlf_bytes};
+ghost use Rattle.desk_http.specs.Reply.{GrewTo, is_reply_status, fits_status, status_line, body_lines, allow_line, close_line, reply};
 
 use crate::method::Method;
 use desk_text::{Bytes, OutOfMemory, push_u128};
 use http::StatusCode;
-use std::alloc::Global;
-
-/// Room for the head of any reply.
-const MOST_HEAD_BYTES: usize = 160;
 
 /// Appends a reply to `out`, or leaves it as it was where memory runs out.
 ///
 /// The status is one of the ten that the desk answers. 405 allows one of the two methods that the desk
 /// knows, and no other status allows one. Where `close` is set, the reply says that the connection ends.
-#[tactic(auto, unfolding(crate::specs::Reply::reply))]
 pub fn write_reply(
-    alloc: Global,
     status: StatusCode,
     body: &[u8],
     allow: Option<Method>,
@@ -27,44 +22,65 @@ pub fn write_reply(
     ensures ok { OnOk result (out.new ≡ out.old ++ reply status body.now allow close) }
     ensures err { OnErr result (out.new ≡ out.old) }
 {
-    let room = body.len().saturating_add(MOST_HEAD_BYTES);
-    let mut reply = Bytes::from(Vec::with_capacity(alloc, room)?);
-    push_status_line(&mut reply, status)?;
-    push_body_lines(&mut reply, body.len())?;
-    reply.push_all(allow_line(allow).as_bytes())?;
-    reply.push_all(close_line(close).as_bytes())?;
-    reply.push_all(b"\r\n")?;
-    reply.push_all(body)?;
-    out.push_all(reply.as_slice())
+    let len = out.len();
+    match push_reply(status, body, allow, close, out) {
+        Ok(()) => Ok(()),
+        Err(fault) => {
+            out.truncate(len);
+            Err(fault)
+        }
+    }
 }
 
-/// The line that a reply begins with.
-fn push_status_line(reply: &mut Bytes, status: StatusCode) -> Result<(), OutOfMemory>
-    requires { IsTrue (is_reply_status status) }
-    ensures { OnOk result (reply.new ≡ reply.old ++ status_line status) }
+/// Appends a reply, or a beginning of it where memory runs out.
+#[tactic(auto, unfolding(crate::specs::Reply::reply))]
+fn push_reply(
+    status: StatusCode,
+    body: &[u8],
+    allow: Option<Method>,
+    close: bool,
+    out: &mut Bytes,
+) -> Result<(), OutOfMemory>
+    requires status { IsTrue (is_reply_status status) }
+    requires allow { IsTrue (fits_status status allow) }
+    ensures ok { OnOk result (out.new ≡ out.old ++ reply status body.now allow close) }
+    ensures err { OnErr result (GrewTo out.old out.new) }
 {
-    reply.push_all(b"HTTP/1.1 ")?;
-    reply.push_all(status.as_str().as_bytes())?;
-    reply.push_all(b" ")?;
-    reply.push_all(phrase_of(status).as_bytes())?;
-    reply.push_all(b"\r\n")
+    out.push_all(status_line(status).as_bytes())?;
+    push_body_lines(out, body.len())?;
+    out.push_all(allow_line(allow).as_bytes())?;
+    out.push_all(head_end(close).as_bytes())?;
+    out.push_all(body)
+}
+
+/// The line that a reply begins with. It is one text, as each reply has one, and to write its five pieces takes longer.
+fn status_line(status: StatusCode) -> &'static str
+    requires { IsTrue (is_reply_status status) }
+    ensures { result.now ≡ status_line status }
+{
+    match status.as_u16() {
+        200 => "HTTP/1.1 200 OK\r\n",
+        400 => "HTTP/1.1 400 Bad Request\r\n",
+        404 => "HTTP/1.1 404 Not Found\r\n",
+        405 => "HTTP/1.1 405 Method Not Allowed\r\n",
+        409 => "HTTP/1.1 409 Conflict\r\n",
+        411 => "HTTP/1.1 411 Length Required\r\n",
+        413 => "HTTP/1.1 413 Payload Too Large\r\n",
+        431 => "HTTP/1.1 431 Request Header Fields Too Large\r\n",
+        503 => "HTTP/1.1 503 Service Unavailable\r\n",
+        507 => "HTTP/1.1 507 Insufficient Storage\r\n",
+        _ => unreachable!(),
+    }
 }
 
 /// The lines that say what the body is and how long.
 fn push_body_lines(reply: &mut Bytes, body_len: usize) -> Result<(), OutOfMemory>
-    ensures { OnOk result (reply.new ≡ reply.old ++ body_lines body_len) }
+    ensures ok { OnOk result (reply.new ≡ reply.old ++ body_lines body_len) }
+    ensures err { OnErr result (GrewTo reply.old reply.new) }
 {
     reply.push_all(b"Content-Type: text/plain; charset=utf-8\r\nContent-Length: ")?;
     push_u128(reply, body_len as u128)?;
     reply.push_all(b"\r\n")
-}
-
-/// The phrase that goes with a status that the desk answers.
-fn phrase_of(status: StatusCode) -> &'static str
-    requires { IsTrue (is_reply_status status) }
-    ensures { result.now ≡ phrase_of status }
-{
-    status.canonical_reason().unwrap_or("")
 }
 
 /// The line that names the method allowed.
@@ -78,9 +94,13 @@ fn allow_line(allow: Option<Method>) -> &'static str
     }
 }
 
-/// The line that says that the connection ends.
-fn close_line(close: bool) -> &'static str
-    ensures { result.now ≡ close_line close }
+/// What stands behind the lines of a head: the line that says that the connection ends, where it does, and the empty line.
+fn head_end(close: bool) -> &'static str
+    ensures { result.now ≡ close_line close ++ crlf_bytes }
 {
-    if close { "Connection: close\r\n" } else { "" }
+    if close {
+        "Connection: close\r\n\r\n"
+    } else {
+        "\r\n"
+    }
 }

@@ -275,16 +275,15 @@ fn every_cut_gives_the_same_requests(rt: HostRuntime) -> Result<(), Fail> {
 }
 
 /// Three replies, one behind the other.
-fn three_replies(alloc: Global, out: &mut Bytes) -> Result<(), OutOfMemory> {
-    append(alloc, StatusCode::OK, b"version 1\n", None, false, out)?;
-    append(alloc, StatusCode::CONFLICT, b"", None, true, out)?;
+fn three_replies(out: &mut Bytes) -> Result<(), OutOfMemory> {
+    append(StatusCode::OK, b"version 1\n", None, false, out)?;
+    append(StatusCode::CONFLICT, b"", None, true, out)?;
     let refused = StatusCode::METHOD_NOT_ALLOWED;
-    append(alloc, refused, b"wrong-method\n", Some(POST), true, out)
+    append(refused, b"wrong-method\n", Some(POST), true, out)
 }
 
 /// Appends a reply. It says nothing of what is appended, so that the proof of a test doesn't carry that.
 fn append(
-    alloc: Global,
     status: StatusCode,
     body: &[u8],
     allow: Option<Method>,
@@ -294,13 +293,13 @@ fn append(
     requires status { IsTrue (is_reply_status status) }
     requires allow { IsTrue (fits_status status allow) }
 {
-    write_reply(alloc, status, body, allow, close, out)
+    write_reply(status, body, allow, close, out)
 }
 
 #[test]
 fn replies_are_written_so(rt: HostRuntime) -> Result<(), Fail> {
     let mut out = Bytes::start(rt.alloc());
-    three_replies(rt.alloc(), &mut out)?;
+    three_replies(&mut out)?;
     let wanted = "\
         HTTP/1.1 200 OK\r\nContent-Type: text/plain; charset=utf-8\r\nContent-Length: 10\r\n\r\nversion 1\n\
         HTTP/1.1 409 Conflict\r\nContent-Type: text/plain; charset=utf-8\r\nContent-Length: 0\r\n\
@@ -314,8 +313,8 @@ fn replies_are_written_so(rt: HostRuntime) -> Result<(), Fail> {
 /// How many bytes two replies with this body have, and whether they end with it.
 fn written_twice(alloc: Global, body: &[u8]) -> Result<(usize, bool), OutOfMemory> {
     let mut out = Bytes::start(alloc);
-    append(alloc, StatusCode::OK, body, None, false, &mut out)?;
-    append(alloc, StatusCode::OK, body, None, false, &mut out)?;
+    append(StatusCode::OK, body, None, false, &mut out)?;
+    append(StatusCode::OK, body, None, false, &mut out)?;
     Ok((out.len(), out.as_slice().ends_with(body)))
 }
 
@@ -345,51 +344,30 @@ const STATUSES: &[(&str, &str)] = &[
 ];
 
 /// Appends a reply of each status, up to one of the length.
-fn first_statuses(alloc: Global, out: &mut Bytes) -> Result<(), OutOfMemory> {
-    append(alloc, StatusCode::OK, b"x\n", None, true, out)?;
-    append(alloc, StatusCode::BAD_REQUEST, b"x\n", None, false, out)?;
-    append(alloc, StatusCode::NOT_FOUND, b"x\n", None, false, out)?;
+fn first_statuses(out: &mut Bytes) -> Result<(), OutOfMemory> {
+    append(StatusCode::OK, b"x\n", None, true, out)?;
+    append(StatusCode::BAD_REQUEST, b"x\n", None, false, out)?;
+    append(StatusCode::NOT_FOUND, b"x\n", None, false, out)?;
     let other_method = StatusCode::METHOD_NOT_ALLOWED;
-    append(alloc, other_method, b"x\n", Some(GET), false, out)?;
-    append(alloc, StatusCode::CONFLICT, b"x\n", None, false, out)
+    append(other_method, b"x\n", Some(GET), false, out)?;
+    append(StatusCode::CONFLICT, b"x\n", None, false, out)
 }
 
 /// Appends a reply of each status that is left.
-fn last_statuses(alloc: Global, out: &mut Bytes) -> Result<(), OutOfMemory> {
-    append(alloc, StatusCode::LENGTH_REQUIRED, b"x\n", None, true, out)?;
-    append(
-        alloc,
-        StatusCode::PAYLOAD_TOO_LARGE,
-        b"x\n",
-        None,
-        true,
-        out,
-    )?;
+fn last_statuses(out: &mut Bytes) -> Result<(), OutOfMemory> {
+    append(StatusCode::LENGTH_REQUIRED, b"x\n", None, true, out)?;
+    append(StatusCode::PAYLOAD_TOO_LARGE, b"x\n", None, true, out)?;
     let too_large = StatusCode::REQUEST_HEADER_FIELDS_TOO_LARGE;
-    append(alloc, too_large, b"x\n", None, true, out)?;
-    append(
-        alloc,
-        StatusCode::SERVICE_UNAVAILABLE,
-        b"x\n",
-        None,
-        false,
-        out,
-    )?;
-    append(
-        alloc,
-        StatusCode::INSUFFICIENT_STORAGE,
-        b"x\n",
-        None,
-        false,
-        out,
-    )
+    append(too_large, b"x\n", None, true, out)?;
+    append(StatusCode::SERVICE_UNAVAILABLE, b"x\n", None, false, out)?;
+    append(StatusCode::INSUFFICIENT_STORAGE, b"x\n", None, false, out)
 }
 
 /// A reply of each status.
 fn each_status(alloc: Global) -> Result<Bytes, OutOfMemory> {
     let mut out = Bytes::start(alloc);
-    first_statuses(alloc, &mut out)?;
-    last_statuses(alloc, &mut out)?;
+    first_statuses(&mut out)?;
+    last_statuses(&mut out)?;
     Ok(out)
 }
 

@@ -1,4 +1,4 @@
-ghost use Rattle.std.specs.Prelude.{◌≡◌, ◌↔◌, [], ◌++◌, length, IsTrue, IfOk, OnOk, OnErr};
+ghost use Rattle.std.specs.Prelude.{◌≡◌, ◌↔◌, [], ◌++◌, length, take, IsTrue, IfOk, OnOk, OnErr};
 ghost use Rattle.std.proofs.Common.{rules};
 ghost use Rattle.std.specs.Cmp.Lexicographic.{slice_cmp};
 ghost use Rattle.std.specs.Cmp.Rules.{comparing};
@@ -45,6 +45,13 @@ impl Bytes {
     {
         self.list.extend_from_slice(bytes)?;
         Ok(())
+    }
+
+    /// Takes out all but the first `len` bytes. Their room is kept.
+    pub fn truncate(&mut self, len: usize)
+        ensures { self.new ≡ take len self.old }
+    {
+        self.list.truncate(len);
     }
 
     /// The bytes, in order.

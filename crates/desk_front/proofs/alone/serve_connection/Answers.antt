@@ -1,7 +1,6 @@
 -- A connection converses with its clerk, which stays the same.
-use Rattle.std.proofs.Common.{◌≡◌, ◌≤◌, ℕ, List, arith}
+use Rattle.std.proofs.Common.{◌≤◌, arith}
 use Rattle.desk_clerk.specs.Clerk.{keeper_of, number_at, whole}
-use Rattle.desk_front.specs.Served.{Serves}
 use Rattle.desk_front.specs.Service.{Replies}
 use Rattle.desk_front.specs.Turn.{Converses, Standing}
 use Rattle.desk_front.specs.contracts.connection.ConnectionAnswerer.TheImpl.{ghosts}

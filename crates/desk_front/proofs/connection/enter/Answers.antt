@@ -1,9 +1,8 @@
 -- How an edit was judged is told, or why it isn't.
-use Rattle.std.proofs.Common.{◌≡◌, ◌≢◌, ◌∙◌, refl, ap, subst, sym, Err, Ok, IsErrOf, ℕ, Result}
+use Rattle.std.proofs.Common.{◌≡◌, ◌≢◌, refl, ap, Err, IsErrOf, ℕ, Result}
 use Rattle.desk_clerk.specs.Clerk.{keeper_of, whole}
 use Rattle.desk_clerk.specs.declared.submit_fault.SubmitFault.{SubmitFault}
 use Rattle.desk_clerk.specs.declared.submit_fault.SubmitFault.TheVariants as fault
-use Rattle.desk_edge.specs.Faults.{Rose}
 use Rattle.desk_history.proofs.Steps.{refused-leaves}
 use Rattle.desk_clerk.specs.declared.accepted.Accepted.{Accepted}
 use Rattle.desk_http.specs.declared.fixed.Fixed.TheVariants as refusal

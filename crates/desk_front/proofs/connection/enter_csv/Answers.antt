@@ -1,5 +1,5 @@
 -- A body that is no declaration is told, or there is no memory for that.
-use Rattle.std.proofs.Common.{◌≡◌, ◌≢◌, ◌∙◌, ap, sym, Result, Err}
+use Rattle.std.proofs.Common.{◌≡◌, ◌≢◌, ap, sym, Result, Err}
 use Rattle.desk_clerk.specs.Clerk.{keeper_of, whole}
 use Rattle.desk_declare.specs.Declaration.{declaration_of}
 use Rattle.desk_declare.specs.declared.declare_fault.DeclareFault.{DeclareFault}

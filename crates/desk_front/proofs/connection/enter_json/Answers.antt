@@ -1,5 +1,5 @@
 -- A body that is no edit is told, or there is no memory for that.
-use Rattle.std.proofs.Common.{◌≡◌, ◌≢◌, ◌∙◌, ap, sym, Result, Err}
+use Rattle.std.proofs.Common.{◌≡◌, ◌≢◌, ap, sym, Result, Err}
 use Rattle.desk_clerk.specs.Clerk.{keeper_of, whole}
 use Rattle.desk_edits.specs.Edit.{edit_of}
 use Rattle.desk_edits.specs.declared.json_fault.JsonFault.{JsonFault}

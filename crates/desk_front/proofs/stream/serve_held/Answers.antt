@@ -1,5 +1,5 @@
 -- Each read is answered before the next.
-use Rattle.std.proofs.Common.{[], refl, ◌<◌, ◌≤◌, arith, length, subst, sym, ap, ◌-◌}
+use Rattle.std.proofs.Common.{[], refl, ◌≤◌, arith, subst, sym, ap, ◌-◌}
 use Rattle.desk_front.specs.Served.{stream_limit}
 use Rattle.desk_front.specs.Service.{service}
 use Rattle.desk_front.specs.declared.served.Served.TheVariants as served

@@ -1,5 +1,5 @@
 -- What is behind the bytes that are taken out is moved to the front.
-use Rattle.std.proofs.Common.{◌≡◌, ◌≤◌, ◌-◌, ◌∙◌, ap, drop, take, length, vec_len, arith}
+use Rattle.std.proofs.Common.{◌≡◌, ◌≤◌, ◌-◌, ◌∙◌, ap, drop, take, length, arith}
 use Rattle.std.proofs.lemmas.List.{length-take, with_items_is}
 use Rattle.desk_front.proofs.Buffers.{moved}
 use Rattle.desk_front.proofs.held.Held.drop_front.Goals as goal

@@ -1,5 +1,5 @@
 -- What is read stands behind what was held.
-use Rattle.std.proofs.Common.{◌≡◌, ◌≤◌, ◌+◌, ◌-◌, ◌∙◌, ap, drop, take, length, vec_len, arith, sym, ◌++◌, ℕ}
+use Rattle.std.proofs.Common.{◌≡◌, ◌≤◌, ◌+◌, ◌-◌, ◌∙◌, ap, drop, take, length, arith, sym, ◌++◌, ℕ}
 use borrow.Rule.Slice.PartMut.{put_mid}
 use Rattle.std.proofs.lemmas.List.{length-drop, length-take-le, with_items_is}
 use Rattle.desk_front.proofs.Buffers.{came_behind, filled_len}
