@@ -1,26 +1,26 @@
 -- What is found going down from a part.
-use Rattle.std.proofs.Common.{◌≡◌, ℕ, ◌+◌, ◌*◌, ◌<◌, ◌≤◌, List, [], get_or, length, map, take, sum_by, Some, None, Option, is_some, false, true, sym, ap, subst, ◌∙◌, arith}
+use Rattle.std.proofs.Common.{◌≡◌, ℕ, ◌*◌, ◌<◌, ◌≤◌, List, [], get_or, length, map, take, sum_by, Some, None, Option, is_some, sym, ap, subst, ◌∙◌, arith}
 use Rattle.std.proofs.Math.Seq.{take-length}
 use Rattle.std.proofs.lemmas.List.{get_or-map, get_or-take, length-map, length-take-le}
 use Rattle.std.specs.Option.{IfSome, SomeIff, option_map_or}
 use Rattle.desk_model.specs.declared.rows.material.MaterialRow.{MaterialRow}
-use Rattle.desk_model.specs.Lists.{Lists, is_material, material_row}
+use Rattle.desk_model.specs.Lists.{Lists, material_row}
 use Rattle.desk_findings.specs.Mass.{mass, own_mass}
 use Rattle.desk_findings.specs.Reaches.{lines_of}
-use Rattle.desk_findings.proofs.Bill.{has_parents, lines_of-none}
+use Rattle.desk_findings.proofs.Bill.{lines_of-none}
 use Rattle.desk_findings.proofs.Children.{not_part}
 use Rattle.desk_findings.proofs.Loads.{mass-step}
 use Rattle.desk_history.specs.Sound.{Sound}
 use Rattle.desk_history.proofs.SoundClauses.{bill_of, parents_of}
-use Rattle.desk_scratch.specs.Below.{AreOf}
+use Rattle.desk_scratch.specs.SubBill.{AreOf}
 
 -- the amount at a place is that of the code there
-pub amount_at : (amount : List ℕ → ℕ) (amounts : List ℕ) (codes : List (List ℕ)) (seat d : ℕ) → AreOf amount amounts codes → seat < length amounts → get_or amounts seat d ≡ amount (get_or codes seat [])
-amount_at amount amounts codes seat d are inside =
+pub amount_at : (amount : List ℕ → ℕ) (amounts : List ℕ) (codes : List (List ℕ)) (place d : ℕ) → AreOf amount amounts codes → place < length amounts → get_or amounts place d ≡ amount (get_or codes place [])
+amount_at amount amounts codes place d are inside =
     let size : length amounts ≡ length (take (length amounts) codes) = ap length are ∙ length-map (take (length amounts) codes) amount in
-    ap (λ list. get_or list seat d) are
-    ∙ get_or-map amount (take (length amounts) codes) seat [] d (subst (λ n. seat < n) size inside)
-    ∙ ap amount (get_or-take (length amounts) codes seat [] inside)
+    ap (λ list. get_or list place d) are
+    ∙ get_or-map amount (take (length amounts) codes) place [] d (subst (λ n. place < n) size inside)
+    ∙ ap amount (get_or-take (length amounts) codes place [] inside)
 
 -- amounts of all codes
 pub of_all : (amount : List ℕ → ℕ) (amounts : List ℕ) (codes : List (List ℕ)) → amounts ≡ map amount codes → AreOf amount amounts codes

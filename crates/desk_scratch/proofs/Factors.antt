@@ -1,5 +1,5 @@
 -- What a rule counts of a substance is told by the members of the substance alone.
-use Rattle.std.proofs.Common.{◌≡◌, ◌+◌, ◌*◌, ◌∙◌, ℕ, Bool, true, false, cond, List, [], ◌∷◌, Option, Some, None, filter, map, find, refl, sym, ap, sum_by, Ordering, Less, Equal, Greater, is_eq}
+use Rattle.std.proofs.Common.{◌≡◌, ◌*◌, ◌∙◌, ℕ, cond, List, [], ◌∷◌, Option, Some, filter, find, refl, sym, ap, sum_by, Ordering, Less, Equal, Greater, is_eq}
 use Rattle.std.specs.Option.{option_map_or}
 use Rattle.std.specs.Ordering.{nat_cmp, ordering_then}
 use Rattle.std.proofs.lemmas.List.Sums.{sum_by-cons}

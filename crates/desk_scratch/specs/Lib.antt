@@ -1,5 +1,4 @@
 pub mod Assessment
-pub mod Below
 pub mod Bill
 pub mod CheckText
 pub mod Eval
@@ -16,5 +15,6 @@ pub mod Reach33
 pub mod Reach7
 pub mod Rohs
 pub mod SharedLines
+pub mod SubBill
 pub mod Summary
 pub mod Uses

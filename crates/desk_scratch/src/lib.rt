@@ -6,7 +6,6 @@
 mod answer;
 mod ask_fault;
 mod assessment;
-mod below;
 mod bill;
 mod check;
 mod duties;
@@ -22,6 +21,7 @@ mod reach33;
 mod reach7;
 mod rohs;
 mod shared_lines;
+mod sub_bill;
 mod summary;
 mod uses;
 mod verdict_words;

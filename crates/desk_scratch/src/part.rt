@@ -6,8 +6,8 @@ ghost use Rattle.desk_model.specs.Lists.{is_part};
 ghost use Rattle.desk_findings.specs.Carried.{carried};
 ghost use Rattle.desk_scratch.specs.Part.{carried_in, carried_line, child_line, kind_line, part_line, part_text};
 
-use crate::below::Below;
 use crate::shared_lines::{push_name_line, push_version_line};
+use crate::sub_bill::SubBill;
 use desk_model::{CandidateRow, LineRow, PartRow, ProductRow};
 use desk_rows::run_of;
 use desk_tables::Tables;
@@ -28,14 +28,14 @@ pub(crate) fn part_text(
     requires kept { is_part tables.now.lists part.now.code ≡ true }
     ensures { IfOk result (λ text. text ≡ part_text tables.now.lists part.now) }
 {
-    let below = Below::new(alloc, tables, &part.code)?;
+    let sub_bill = SubBill::new(alloc, tables, &part.code)?;
     let mut text = String::new(alloc);
     push_version_line(&mut text, tables)?;
-    push_part_line(alloc, &mut text, &below, part)?;
+    push_part_line(alloc, &mut text, &sub_bill, part)?;
     push_name_line(&mut text, &part.name)?;
     push_kind_line(&mut text, tables.product(&part.code))?;
     push_child_lines(&mut text, run_of(tables.lines(), &part.code))?;
-    push_carried_lines(alloc, &mut text, tables.candidates(), &below, &part.code)?;
+    push_carried_lines(alloc, &mut text, tables.candidates(), &sub_bill, &part.code)?;
     Ok(Bytes::from(text.into_bytes()))
 }
 
@@ -44,14 +44,14 @@ pub(crate) fn part_text(
 fn push_part_line(
     alloc: Global,
     out: &mut String,
-    below: &Below<'_>,
+    sub_bill: &SubBill<'_>,
     part: &PartRow,
 ) -> Result<(), OutOfMemory>
-    requires { is_part below.now.lists part.now.code ≡ true }
-    ensures { OnOk result (string_bytes out.new ≡ string_bytes out.old ++ part_line below.now.lists part.now) }
+    requires { is_part sub_bill.now.lists part.now.code ≡ true }
+    ensures { OnOk result (string_bytes out.new ≡ string_bytes out.old ++ part_line sub_bill.now.lists part.now) }
 {
     let (code, sort) = (part.code, part.sort);
-    let mass = below.mass(alloc, &code)?;
+    let mass = sub_bill.mass(alloc, &code)?;
     writeln!(out, "part {code} {sort} mass {mass}")?;
     Ok(())
 }
@@ -94,16 +94,16 @@ fn push_carried_lines(
     alloc: Global,
     out: &mut String,
     candidates: &[CandidateRow],
-    below: &Below<'_>,
+    sub_bill: &SubBill<'_>,
     part: &Code,
 ) -> Result<(), OutOfMemory>
-    requires kept { is_part below.now.lists part.now ≡ true }
-    requires candidates { candidates.now ≡ below.now.lists.candidates }
+    requires kept { is_part sub_bill.now.lists part.now ≡ true }
+    requires candidates { candidates.now ≡ sub_bill.now.lists.candidates }
     ensures { OnOk result (string_bytes out.new
-        ≡ string_bytes out.old ++ flat_map (carried_line below.now.lists part.now) (carried_in below.now.lists part.now)) }
+        ≡ string_bytes out.old ++ flat_map (carried_line sub_bill.now.lists part.now) (carried_in sub_bill.now.lists part.now)) }
 {
     for candidate in candidates {
-        push_carried_line(alloc, out, below, part, candidate)?;
+        push_carried_line(alloc, out, sub_bill, part, candidate)?;
     }
     Ok(())
 }
@@ -113,16 +113,16 @@ fn push_carried_lines(
 fn push_carried_line(
     alloc: Global,
     out: &mut String,
-    below: &Below<'_>,
+    sub_bill: &SubBill<'_>,
     part: &Code,
     candidate: &CandidateRow,
 ) -> Result<(), OutOfMemory>
-    requires { is_part below.now.lists part.now ≡ true }
+    requires { is_part sub_bill.now.lists part.now ≡ true }
     ensures { OnOk result (string_bytes out.new ≡ string_bytes out.old
-        ++ (if not (carried below.now.lists candidate.now.substance part.now == 0) then carried_line below.now.lists part.now candidate.now else [])) }
+        ++ (if not (carried sub_bill.now.lists candidate.now.substance part.now == 0) then carried_line sub_bill.now.lists part.now candidate.now else [])) }
 {
     let substance = candidate.substance;
-    let load = below.load(alloc, &substance, part)?;
+    let load = sub_bill.load(alloc, &substance, part)?;
     if load == 0 {
         return Ok(());
     }

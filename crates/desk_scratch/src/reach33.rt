@@ -4,7 +4,7 @@ ghost use Rattle.std.specs.Option.{option_map_or};
 ghost use Rattle.desk_text.specs.Day.{date_text};
 ghost use Rattle.desk_history.specs.Sound.{Sound};
 ghost use Rattle.desk_model.specs.Lists.{is_part};
-ghost use Rattle.desk_scratch.specs.Reach33.{asked_part_line, duty_count_line, duty_line, duty_lines, reach33_text, substance_name};
+ghost use Rattle.desk_scratch.specs.Reach33.{asked_part_line, duty_count_line, duty_line, duty_lines, reach33_text};
 ghost use Rattle.desk_scratch.specs.SharedLines.{name_line};
 
 use crate::bill::Bill;

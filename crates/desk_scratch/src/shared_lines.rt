@@ -1,18 +1,29 @@
-ghost use Rattle.std.specs.Prelude.{◌≡◌, ◌++◌, codes, string_bytes, OnOk};
+ghost use Rattle.std.specs.Prelude.{◌≡◌, ◌++◌, codes, decimal, string_bytes, OnOk};
 ghost use Rattle.desk_scratch.specs.SharedLines.{chain_line, compliance_line, name_line, version_line};
 
 use desk_tables::Tables;
 use desk_text::{Code, Name};
+use itoa::Buffer;
 use std::alloc::AllocError;
 use std::fmt::Write;
+
+/// Appends the number in decimal digits.
+pub(crate) fn push_number(out: &mut String, number: u128) -> Result<(), AllocError>
+    ensures { OnOk result (string_bytes out.new ≡ string_bytes out.old ++ decimal number) }
+{
+    let mut buffer = Buffer::new();
+    out.push_str(buffer.format(number))
+}
 
 /// Appends the line with the number of the tables.
 #[tactic(auto, unfolding(crate::specs::SharedLines::version_line))]
 pub(crate) fn push_version_line(out: &mut String, tables: &Tables) -> Result<(), AllocError>
     ensures { OnOk result (string_bytes out.new ≡ string_bytes out.old ++ version_line tables.now.lists) }
 {
-    let number = tables.number();
-    writeln!(out, "version {number}")
+    out.push_str("version ")?;
+    push_number(out, u128::from(tables.number()))?;
+    out.push_str("\n")?;
+    Ok(())
 }
 
 /// Appends the line with a name.

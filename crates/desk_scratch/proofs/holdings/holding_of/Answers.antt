@@ -1,10 +1,9 @@
 -- The members of a substance are one run of the table.
-use Rattle.std.proofs.Common.{◌≡◌, ◌∙◌, sym, subst, refl, ap}
+use Rattle.std.proofs.Common.{sym, subst, ap}
 use Rattle.desk_text.specs.Code.{code_cmp}
 use Rattle.desk_rows.specs.Runs.{IsOneRun}
 use Rattle.desk_findings.specs.Share.{members_of}
 use Rattle.desk_findings.proofs.Groups.{members_together}
-use Rattle.desk_scratch.specs.Holdings.{Holding}
 use Rattle.desk_scratch.proofs.holdings.holding_of.Goals as goal
 
 pub returns : goal.returns

@@ -15,4 +15,4 @@ returns c =
     let lines = c.run_of.ensures (lines_of t.lines code)
     (subst (λ rows. IsOneRun (λ line. line.parent) code_cmp code rows (lines_of t.lines code)) (sym c.lines.ensures) (lines_together t c.requires.sound.consistent.ordered code)) in
     c.from.ensures ∙ rw c.into_bytes.ensures.value refl ∙ c.in_ok-push_carried_lines.ensures
-    ∙ rw (c.in_ok-push_child_lines.ensures, lines, c.in_ok-push_kind_line.ensures, c.product.ensures, c.in_ok-push_name_line.ensures, c.in_ok-push_part_line.ensures, c.in_ok-push_version_line.ensures, c.new-text.ensures.bytes, c.in_ok-below.ensures) refl
+    ∙ rw (c.in_ok-push_child_lines.ensures, lines, c.in_ok-push_kind_line.ensures, c.product.ensures, c.in_ok-push_name_line.ensures, c.in_ok-push_part_line.ensures, c.in_ok-push_version_line.ensures, c.new-text.ensures.bytes, c.in_ok-sub_bill.ensures) refl

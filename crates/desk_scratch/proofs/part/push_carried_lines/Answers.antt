@@ -9,7 +9,7 @@ use Rattle.desk_scratch.proofs.part.push_carried_lines.Goals as goal
 
 pub returns : goal.returns
 returns c =
-    let t = c.args.below.now.lists in
+    let t = c.args.sub_bill.now.lists in
     let part = c.args.part.now in
     c.loop-candidate.invariant
     ∙ ap (λ candidates. string_bytes c.args.out.now ++ flat_map (λ candidate. if not (carried t candidate.substance part == 0) then carried_line t part candidate else []) candidates)

@@ -10,4 +10,4 @@ abbrev pub invariant-loop-candidate : goal.invariant-loop-candidate
 invariant-loop-candidate l =
     string_bytes l.out
     ≡ string_bytes l.fn.out
-    ++ flat_map (λ candidate. if not (carried l.below.lists candidate.substance l.part == 0) then carried_line l.below.lists l.part candidate else []) (take l.candidate-index l.candidates)
+    ++ flat_map (λ candidate. if not (carried l.sub_bill.lists candidate.substance l.part == 0) then carried_line l.sub_bill.lists l.part candidate else []) (take l.candidate-index l.candidates)

@@ -1,5 +1,5 @@
 -- All that is held, whatever tables and material say so.
-use Rattle.std.proofs.Common.{◌≡◌, ◌∙◌, ◌*◌, refl, sym, ap, sum_by}
+use Rattle.std.proofs.Common.{◌∙◌, ◌*◌, ap, sum_by}
 use Rattle.desk_tables.proofs.Taken.{take_whole}
 use Rattle.desk_scratch.specs.Holdings.{Holding, factor_in}
 use Rattle.desk_scratch.proofs.Factors.{share_by_holdings}

@@ -1,6 +1,6 @@
 use Rattle.std.proofs.Common.{◌+◌, ◌*◌, ap, ◌∙◌, arith}
 use Rattle.desk_scratch.proofs.Descents.{known_some}
-use Rattle.desk_scratch.proofs.below.with_times.Goals as goal
+use Rattle.desk_scratch.proofs.sub_bill.with_times.Goals as goal
 
 pub returns : goal.returns
 returns c =

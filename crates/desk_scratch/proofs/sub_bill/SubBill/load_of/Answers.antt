@@ -1,10 +1,10 @@
-use Rattle.std.proofs.Common.{◌≡◌, ◌+◌, ◌*◌, ap, subst, sum_by, sym, ◌∙◌}
+use Rattle.std.proofs.Common.{◌+◌, ◌*◌, ap, subst, sum_by, sym, ◌∙◌}
 use Rattle.desk_findings.specs.Carried.{carried, own_load}
 use Rattle.desk_findings.proofs.Loads.{carried-step}
 use Rattle.desk_history.specs.Sound.{Sound}
 use Rattle.desk_history.proofs.SoundClauses.{bill_of}
 use Rattle.desk_scratch.proofs.Descents.{known_some}
-use Rattle.desk_scratch.proofs.below.Below.load_of.Goals as goal
+use Rattle.desk_scratch.proofs.sub_bill.SubBill.load_of.Goals as goal
 
 pub returns : goal.returns
 returns c =

@@ -1,7 +1,7 @@
 -- What the first lines come to, by each amount whose values these are.
 use Rattle.std.proofs.Common.{◌≡◌, ◌*◌, ℕ, List, sum_by, take}
-use Rattle.desk_scratch.specs.Below.{AreOf}
-use Rattle.desk_scratch.proofs.below.Below.sum_of.Given as goal
+use Rattle.desk_scratch.specs.SubBill.{AreOf}
+use Rattle.desk_scratch.proofs.sub_bill.SubBill.sum_of.Given as goal
 
 abbrev pub invariant-loop-line : goal.invariant-loop-line
 invariant-loop-line l =

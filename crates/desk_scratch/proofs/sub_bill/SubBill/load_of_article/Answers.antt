@@ -1,8 +1,8 @@
-use Rattle.std.proofs.Common.{◌≡◌, ◌<◌, ◌^◌, ap, sym, subst, ◌∙◌}
+use Rattle.std.proofs.Common.{◌<◌, ◌^◌, ap, sym, subst, ◌∙◌}
 use Rattle.desk_model.specs.Lists.{is_part}
 use Rattle.desk_findings.specs.Above.{content}
 use Rattle.desk_scratch.proofs.Light.{content_light}
-use Rattle.desk_scratch.proofs.below.Below.load_of_article.Goals as goal
+use Rattle.desk_scratch.proofs.sub_bill.SubBill.load_of_article.Goals as goal
 
 pub is_above-requires-clause-fits : goal.is_above-requires-clause-fits
 is_above-requires-clause-fits c =

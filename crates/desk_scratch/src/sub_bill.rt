@@ -5,7 +5,7 @@ ghost use Rattle.desk_findings.specs.Above.{content, is_above};
 ghost use Rattle.desk_findings.specs.Carried.{carried, own_load};
 ghost use Rattle.desk_findings.specs.Mass.{mass};
 ghost use Rattle.desk_findings.specs.Reaches.{lines_of};
-ghost use Rattle.desk_scratch.specs.Below.{AreOf};
+ghost use Rattle.desk_scratch.specs.SubBill.{AreOf};
 ghost use Rattle.desk_totals.specs.Places.{node_at};
 
 use crate::bill::Bill;
@@ -21,21 +21,21 @@ use std::marker::Model;
 /// It is found by going down from the part, so it costs what lies there, however large the bill is. That all of it is found
 /// isn't proved: where something lacks, the whole bill is asked.
 #[derive(Drop)]
-pub(crate) struct Below<'a> {
+pub(crate) struct SubBill<'a> {
     tables: &'a Tables,
     /// The codes of materials and parts, children first.
     codes: Vec<Code>,
     /// What each of them weighs, in micrograms.
     masses: Vec<u128>,
     /// Of each material and then of each part of the tables, where it stands among the codes, as far as a guess goes.
-    seats: Vec<usize>,
+    places: Vec<usize>,
 }
 
-impl<'a> Model for Below<'a> {
+impl<'a> Model for SubBill<'a> {
     ghost use Rattle.std.specs.Prelude.{◌≡◌, map};
     ghost use Rattle.desk_history.specs.Sound.{Sound};
     ghost use Rattle.desk_findings.specs.Mass.{mass};
-    ghost use Rattle.desk_scratch.specs.Below.{Found};
+    ghost use Rattle.desk_scratch.specs.SubBill.{Found};
 
     ghost Value = { Found };
 
@@ -44,26 +44,26 @@ impl<'a> Model for Below<'a> {
     ghost invariant = { λ b. Sound b.tables.now.lists × (b.masses.items ≡ map (mass b.tables.now.lists) b.codes.items) };
 }
 
-impl<'a> Below<'a> {
+impl<'a> SubBill<'a> {
     /// What lies at and below the part. It takes a few binary searches for each part and each line there, and some memory for
     /// each material and part of the tables.
     pub(crate) fn new(
         alloc: Global,
         tables: &'a Tables,
         part: &Code,
-    ) -> Result<Below<'a>, OutOfMemory>
+    ) -> Result<SubBill<'a>, OutOfMemory>
         requires { Sound tables.now.lists }
-        ensures { IfOk result (λ below. below.lists ≡ tables.now.lists) }
+        ensures { IfOk result (λ sub_bill. sub_bill.lists ≡ tables.now.lists) }
     {
         let node_count = tables
             .materials()
             .len()
             .saturating_add(tables.parts().len());
-        let mut below = Below {
+        let mut sub_bill = SubBill {
             tables,
             codes: Vec::new(alloc),
             masses: Vec::new(alloc),
-            seats: vec![in alloc; node_count; node_count]?,
+            places: vec![in alloc; node_count; node_count]?,
         };
         let mut open = Vec::new(alloc);
         open.push(*part)?;
@@ -73,9 +73,9 @@ impl<'a> Below<'a> {
             if open.is_empty() {
                 break;
             }
-            below.go_down(&mut open)?;
+            sub_bill.find_next(&mut open)?;
         }
-        Ok(below)
+        Ok(sub_bill)
     }
 
     /// What the part weighs, in micrograms.
@@ -111,13 +111,13 @@ impl<'a> Below<'a> {
     }
 
     /// Finds the last of the codes that are open, or opens what it needs before it.
-    fn go_down(&mut self, open: &mut Vec<Code>) -> Result<(), OutOfMemory>
+    fn find_next(&mut self, open: &mut Vec<Code>) -> Result<(), OutOfMemory>
         ensures { self.new.lists ≡ self.old.lists }
     {
         let Some(code) = open.pop() else {
             return Ok(());
         };
-        if self.seat_of(&code).is_some() {
+        if self.place_of(&code).is_some() {
             return Ok(());
         }
         match self.mass_of(&code) {
@@ -130,7 +130,7 @@ impl<'a> Below<'a> {
     fn open_children(&self, code: Code, open: &mut Vec<Code>) -> Result<(), OutOfMemory> {
         open.push(code)?;
         for line in self.lines_of(&code) {
-            if self.seat_of(&line.child).is_none() {
+            if self.place_of(&line.child).is_none() {
                 open.push(line.child)?;
             }
         }
@@ -142,13 +142,13 @@ impl<'a> Below<'a> {
         requires { weight ≡ mass self.old.lists code }
         ensures { self.new.lists ≡ self.old.lists }
     {
-        let seat = self.codes.len();
+        let place = self.codes.len();
         let node = self.node_of(&code);
         self.masses.reserve(1)?;
         self.codes.push(code)?;
         self.masses.push_reserved(weight);
-        if node < self.seats.len() {
-            self.seats[node] = seat;
+        if node < self.places.len() {
+            self.places[node] = place;
         }
         Ok(())
     }
@@ -161,18 +161,18 @@ impl<'a> Below<'a> {
             Ok(place) => place,
             Err(_) => match place_of_key(self.tables.parts(), code) {
                 Ok(place) => materials.len().saturating_add(place),
-                Err(_) => self.seats.len(),
+                Err(_) => self.places.len(),
             },
         }
     }
 
     /// Where the code stands among those that were found, if it does.
-    fn seat_of(&self, code: &Code) -> Option<usize>
-        ensures { IfSome result (λ seat. (seat < length self.now.codes) × (node_at self.now.codes seat ≡ code.now)) }
+    fn place_of(&self, code: &Code) -> Option<usize>
+        ensures { IfSome result (λ place. (place < length self.now.codes) × (node_at self.now.codes place ≡ code.now)) }
     {
-        let seat = *self.seats.get(self.node_of(code))?;
-        if self.codes.get(seat)? == code {
-            Some(seat)
+        let place = *self.places.get(self.node_of(code))?;
+        if self.codes.get(place)? == code {
+            Some(place)
         } else {
             None
         }
@@ -182,8 +182,8 @@ impl<'a> Below<'a> {
     fn amount_of(&self, code: &Code, amounts: &[u128]) -> Option<u128>
         ensures { (amount : List ℕ → ℕ) → AreOf amount amounts.now self.now.codes → IfSome result (λ its. its ≡ amount code.now) }
     {
-        let seat = self.seat_of(code)?;
-        amounts.get(seat).copied()
+        let place = self.place_of(code)?;
+        amounts.get(place).copied()
     }
 
     /// The lines of the part.
@@ -221,8 +221,8 @@ impl<'a> Below<'a> {
         ensures { IfOk result (λ loads. AreOf (carried self.now.lists substance.now) loads.items self.now.codes) }
     {
         let mut loads = Vec::with_capacity(alloc, self.codes.len())?;
-        for (seat, code) in self.codes.iter().enumerate() {
-            match self.load_of(code, self.masses[seat], substance, loads.as_slice()) {
+        for (place, code) in self.codes.iter().enumerate() {
+            match self.load_of(code, self.masses[place], substance, loads.as_slice()) {
                 Some(load) => loads.push(load)?,
                 None => break,
             }

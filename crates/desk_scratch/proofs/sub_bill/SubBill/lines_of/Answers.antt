@@ -3,7 +3,7 @@ use Rattle.desk_text.specs.Code.{code_cmp}
 use Rattle.desk_rows.specs.Runs.{IsOneRun}
 use Rattle.desk_findings.specs.Reaches.{lines_of}
 use Rattle.desk_findings.proofs.Groups.{lines_together}
-use Rattle.desk_scratch.proofs.below.Below.lines_of.Goals as goal
+use Rattle.desk_scratch.proofs.sub_bill.SubBill.lines_of.Goals as goal
 
 pub returns : goal.returns
 returns c =

@@ -1,11 +1,11 @@
-use Rattle.std.proofs.Common.{◌≡◌, ◌*◌, ap, map, subst, sum_by, sym, ◌∙◌}
+use Rattle.std.proofs.Common.{◌*◌, ap, map, subst, sum_by, sym, ◌∙◌}
 use Rattle.std.specs.Prelude.{option_copied}
 use Rattle.std.proofs.lemmas.Option.{IfSome_then}
 use Rattle.desk_model.specs.Lists.{material_row}
 use Rattle.desk_findings.specs.Mass.{mass}
 use Rattle.desk_history.specs.Sound.{Sound}
 use Rattle.desk_scratch.proofs.Descents.{lines_weigh, material_weighs, of_all}
-use Rattle.desk_scratch.proofs.below.Below.mass_of.Goals as goal
+use Rattle.desk_scratch.proofs.sub_bill.SubBill.mass_of.Goals as goal
 
 pub returns-in-Some : goal.returns-in-Some
 returns-in-Some c =
