@@ -1,4 +1,4 @@
-ghost use Rattle.std.specs.Prelude.{◌≡◌, ◌≢◌, ◌≤◌, ◌⊎◌, ℕ, List, Ok, Err, None, Some, is_ok, true, IfOk, IfErr, OnOk, OnErr, IsErrOf};
+ghost use Rattle.std.specs.Prelude.{◌≡◌, ◌≢◌, ◌≤◌, ℕ, List, Ok, Err, None, Some, is_ok, true, IfOk, IfErr, OnOk, OnErr, IsErrOf};
 ghost use Rattle.desk_clerk.specs.Clerk.{keeper_of, number_at, whole};
 ghost use Rattle.desk_clerk.specs.Opening.{IsDamagedAt, IsOpenedAs};
 ghost use Rattle.desk_edge.specs.Content.{IsSame};

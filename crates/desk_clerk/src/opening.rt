@@ -1,13 +1,12 @@
-ghost use Rattle.std.specs.Prelude.{◌≡◌, ◌≢◌, ◌+◌, ◌≤◌, ℕ, List, Err, IfOk, IsErrOf, OnErr, OnOk, length, map};
-ghost use Rattle.desk_clerk.specs.Opening.{IsDamage, IsDamagedAt, IsEmpty, IsOpenedAs, content_in, record_limit};
-ghost use Rattle.desk_edge.specs.Content.{IsSame, key_cmp, key_of};
+ghost use Rattle.std.specs.Prelude.{◌≡◌, ◌≢◌, ◌+◌, ◌≤◌, ℕ, List, Err, IfOk, IsErrOf, OnErr, map};
+ghost use Rattle.desk_clerk.specs.Opening.{IsDamagedAt, IsEmpty, IsOpenedAs};
+ghost use Rattle.desk_edge.specs.Content.{IsSame};
 ghost use Rattle.desk_edge.specs.Faults.{Rose};
 ghost use Rattle.desk_edge.specs.declared.change.Change.TheVariants.{Put};
 ghost use Rattle.desk_history.specs.Sound.{Sound};
 ghost use Rattle.desk_model.specs.Lists.{Lists};
 ghost use Rattle.desk_model.specs.Start.{start};
 ghost use Rattle.desk_records.specs.Records.{tables_content};
-ghost use Rattle.desk_rows.specs.Rows.{IsByKey};
 
 use crate::open_fault::OpenFault;
 use crate::reading::read_records;

@@ -1,6 +1,5 @@
 -- What a list of records by key keeps: what a change makes of it, and which record comes first past a key.
 use Rattle.std.proofs.Common.{◌≡◌, Bool, true, false, cond, List, [], ◌∷◌, refl, ap, sym, ◌∙◌, Ordering, Less, Equal, Greater, subst, is_eq, Option, Some, None, inl, inr}
-use Rattle.std.specs.Cmp.{IsTotalOrder}
 use Rattle.std.specs.List.{find}
 use Rattle.std.specs.Ordering.{is_lt}
 use Rattle.std.specs.Prelude.{IfSome, option_map}

@@ -1,8 +1,8 @@
 -- The first of a list that has a name, found by looking at one after the other.
-use Rattle.std.proofs.Common.{◌≡◌, ℕ, zero, suc, ◌≤◌, ◌<◌, Bool, true, false, cond, List, [], ◌∷◌, length, take, refl, ap, sym, ◌∙◌, arith, get_or, is_eq, Some, None, remove}
+use Rattle.std.proofs.Common.{◌≡◌, ℕ, zero, suc, ◌≤◌, ◌<◌, true, false, List, [], ◌∷◌, length, take, refl, ap, arith, get_or, is_eq, None}
 use Rattle.std.specs.List.{AllByRecursion}
 use Rattle.desk_edge.specs.Shelves.{StandsFirst, name_cmp}
-use Rattle.desk_rows.specs.Rows.{row_of, without_row}
+use Rattle.desk_rows.specs.Rows.{row_of}
 
 module _ {X : Type 0} (name_of : X → List ℕ) (name : List ℕ) where
   -- none of them has the name

@@ -1,14 +1,14 @@
 -- Rows that are sorted by a key that no two of them have rise by it.
-use Rattle.std.proofs.Common.{◌≡◌, ℕ, zero, suc, ◌+◌, ◌≤◌, ◌<◌, Bool, true, false, cond, List, [], ◌∷◌, length, refl, ap, sym, ◌∙◌, subst, arith, Ordering, Less, Equal, Greater, get_or, is_eq, count_by, sum_by, IsPermutation, map}
+use Rattle.std.proofs.Common.{◌≡◌, suc, ◌+◌, ◌≤◌, Bool, true, false, cond, List, [], ◌∷◌, refl, ap, sym, ◌∙◌, subst, arith, Ordering, Less, Equal, Greater, get_or, is_eq, count_by, IsPermutation}
 use Rattle.std.specs.Cmp.{IsTotalOrder}
 use Rattle.std.specs.List.Sorted.{IsSortedBy}
-use Rattle.std.specs.Ordering.{is_lt, ordering_reverse}
+use Rattle.std.specs.Ordering.{is_lt}
 use Rattle.std.proofs.lemmas.Bool.{true≢false}
 use Rattle.std.proofs.lemmas.Cmp.{tied_itself}
 use Rattle.std.proofs.lemmas.List.Sums.{sum_by-cons}
 use Rattle.std.proofs.lemmas.List.Sorted.{sum_by-IsPermutation}
 use Rattle.desk_rows.specs.Rows.{IsByKey}
-use Rattle.desk_rows.proofs.Order.{AllAbove, AllAbove-down, by_key, first_above, less_back, none_by_key}
+use Rattle.desk_rows.proofs.Order.{AllAbove-down, by_key, first_above, less_back, none_by_key}
 
 counts_one : (b : Bool) → b ≡ true → 1 ≤ cond b 1 0
 counts_one true e = omega arith

@@ -1,5 +1,5 @@
 -- A keeper in memory: what it keeps and refuses, call by call.
-use Rattle.std.specs.Prelude.{ℕ, ◌==◌, Bool, List, [], ◌∷◌, Option, Some, None, option_map, if◌then◌else◌}
+use Rattle.std.specs.Prelude.{ℕ, ◌==◌, Bool, List, [], ◌∷◌, Option, option_map}
 use Rattle.std.specs.List.{list_any, find}
 use Rattle.desk_edge.specs.Content.{Content, is_past, key_cmp, key_of}
 use Rattle.desk_edge.specs.Faults.{counted}

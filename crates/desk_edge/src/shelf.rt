@@ -1,4 +1,4 @@
-ghost use Rattle.std.specs.Prelude.{◌≡◌, ◌≢◌, ℕ, ◌<◌, ◌≤◌, List, Err, IfOk, OnErr, IsErrOf};
+ghost use Rattle.std.specs.Prelude.{◌≡◌, ◌≢◌, ℕ, ◌<◌, ◌≤◌, List, Err, IfOk, IsErrOf};
 ghost use Rattle.desk_edge.specs.Content.{Content, IsSame};
 ghost use Rattle.desk_edge.specs.Faults.{Rose};
 

@@ -1,6 +1,5 @@
-ghost use Rattle.std.specs.Prelude.{◌≡◌, Some, None, if◌then◌else◌};
+ghost use Rattle.std.specs.Prelude.{◌≡◌};
 ghost use Rattle.serde_json.specs.View.{view};
-ghost use Rattle.desk_edits.specs.Values.{a_whole_number};
 
 use crate::Ppm;
 use desk_law::{Annex, Kind, Rule};

@@ -1,6 +1,6 @@
 ghost use Rattle.std.specs.Prelude.{◌≡◌, ◌≢◌, ◌<◌, length, Some, None, Err, IfOk, IfErr};
 ghost use Rattle.serde_json.specs.View.{view};
-ghost use Rattle.desk_edits.specs.Edit.{edit_by, edit_of, edit_of_word, json_of, word_in};
+ghost use Rattle.desk_edits.specs.Edit.{edit_of, edit_of_word, json_of, word_in};
 
 use crate::edit_key::WORD_KEY;
 use crate::{JsonFault, rows};

@@ -1,5 +1,5 @@
 -- How an edit is read from its fields. No clause of a public call speaks of these words.
-use Rattle.std.specs.Prelude.{ℕ, ◌^◌, ◌-◌, List, [], ◌∷◌, codes, drop, Option, option_and_then}
+use Rattle.std.specs.Prelude.{ℕ, ◌^◌, ◌-◌, List, codes, drop, Option, option_and_then}
 use Rattle.std.specs.Option.{unwrap_or}
 use Rattle.std.specs.Ordering.{on}
 use Rattle.std.specs.declared.cmp.Ordering.{Ordering}

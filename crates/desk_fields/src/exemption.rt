@@ -1,6 +1,5 @@
 ghost use Rattle.std.specs.Prelude.{◌≡◌, ◌==◌, [], Err, IfOk, None, Some, true};
 ghost use Rattle.std.specs.List.{slice_split};
-ghost use Rattle.desk_law.specs.KindSet.{kinds_text};
 ghost use Rattle.desk_model.specs.declared.limits.TheConstants.{PPM_LIMIT};
 ghost use Rattle.desk_model.specs.Terms.{are_kinds, is_ppm};
 ghost use Rattle.desk_fields.specs.EditReading.{exemption_behind, exemption_in};

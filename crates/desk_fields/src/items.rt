@@ -1,5 +1,5 @@
-ghost use Rattle.std.specs.Prelude.{◌≡◌, ◌≤◌, Err, IfOk, None, Some, length};
-ghost use Rattle.desk_fields.specs.Reading.{counted, in_turn, rising, times};
+ghost use Rattle.std.specs.Prelude.{◌≡◌, Err, IfOk, None, Some};
+ghost use Rattle.desk_fields.specs.Reading.{in_turn, rising, times};
 
 use crate::field_fault::FieldFault;
 use crate::fields::Fields;

@@ -1,7 +1,6 @@
 ghost use Rattle.std.specs.Prelude.{◌≡◌, ◌++◌, [], ◌∷◌, decimal, drop, IfOk, OnErr, OnOk, string_bytes};
-ghost use Rattle.desk_law.specs.Rule.{rule_code};
-ghost use Rattle.desk_model.specs.EditText.{claim_fields, exemption_fields, joined, optional_field};
-ghost use Rattle.desk_model.specs.EditText.{optional_number, substance_fields, tabbed};
+ghost use Rattle.desk_model.specs.EditText.{exemption_fields, joined, optional_field};
+ghost use Rattle.desk_model.specs.EditText.{optional_number};
 ghost use Rattle.desk_model.specs.Rows.{pair_code, record_code};
 ghost use Rattle.desk_fields.specs.RowTexts.{body_text, material_row_fields, version};
 

@@ -14,8 +14,8 @@ use Rattle.desk_model.specs.declared.rows.material.MaterialRow.{MaterialRow}
 use Rattle.desk_model.specs.declared.rows.part.PartRow.{PartRow}
 use Rattle.desk_model.specs.Lists.{IsOrdered, Lists, is_material, is_part, material_row, part_row}
 use Rattle.desk_model.proofs.Anys.{count-append, count-flat_map, count-map, count-once, sum-filter-le}
-use Rattle.desk_model.proofs.Elements.{count_by-cons, each, each_filter, each_map, none_kept, sum_le, sum_zero}
-use Rattle.desk_model.proofs.Kept.{code_cmp_total, found_each, same_code-true}
+use Rattle.desk_model.proofs.Elements.{count_by-cons, each, each_map, none_kept, sum_le, sum_zero}
+use Rattle.desk_model.proofs.Kept.{code_cmp_total, same_code-true}
 use Rattle.desk_model.proofs.Times.{times, times_by_code}
 use Rattle.desk_findings.specs.Articles.{articles_in, is_article, is_article_sort, materials_in}
 use Rattle.desk_findings.specs.Bill.{are_codes_apart}

@@ -1,6 +1,6 @@
-ghost use Rattle.std.specs.Prelude.{◌≡◌, ◌≢◌, ◌+◌, ◌<◌, ◌≤◌, ℕ, true, false, [], ◌∷◌, filter, length, slice_index, vec_capacity, Ok, Err, IfOk, IfErr, OnOk, OnErr};
+ghost use Rattle.std.specs.Prelude.{◌≡◌, ◌≢◌, ◌+◌, ◌<◌, ◌≤◌, ℕ, true, false, [], filter, length, slice_index, vec_capacity, Ok, Err, IfOk, IfErr, OnOk, OnErr};
 ghost use Rattle.desk_graph.specs.Bill.{IsBill};
-ghost use Rattle.desk_graph.specs.Graph.{AreUsers, IsByLabel, has_line, is_line, label_of, lines_of};
+ghost use Rattle.desk_graph.specs.Graph.{AreUsers, IsByLabel, is_line, label_of, lines_of};
 ghost use Rattle.desk_graph.specs.Edits.{is_taken, line_answer, node_answer, with_line_in, with_node, without_line_in};
 ghost use Rattle.desk_graph.specs.Order.{HasMadeWay, HasOnce, IsSwept, has_mark, mark_of};
 ghost use Rattle.desk_graph.specs.Plan.{IsLinePlan};

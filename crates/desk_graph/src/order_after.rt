@@ -1,4 +1,4 @@
-ghost use Rattle.std.specs.Prelude.{◌≡◌, ◌+◌, ◌<◌, ◌≤◌, ◌++◌, true, false, filter, length, option_copied, vec_len, vec_capacity, IfOk};
+ghost use Rattle.std.specs.Prelude.{◌≡◌, ◌+◌, ◌<◌, ◌≤◌, true, false, length, option_copied, vec_len, vec_capacity, IfOk};
 ghost use Rattle.desk_graph.specs.Order.{HasMadeWay, HasOnce, IsMovedBehind, IsSwept};
 ghost use Rattle.desk_graph.specs.Planned.{AreIn, HasMadeWayFor, with_next};
 

@@ -1,4 +1,4 @@
-ghost use Rattle.std.specs.Prelude.{◌≡◌, ◌≢◌, ◌+◌, ◌<◌, ◌≤◌, ℕ, true, false, [], None, length, slice_set, Ok, Err, IfOk, IfErr, OnOk, OnErr};
+ghost use Rattle.std.specs.Prelude.{◌≡◌, ◌≢◌, ◌+◌, ◌<◌, ◌≤◌, ℕ, true, [], None, length, slice_set, Ok, Err, IfOk, IfErr, OnOk, OnErr};
 ghost use Rattle.desk_graph.specs.Bill.{IsBill};
 ghost use Rattle.desk_graph.specs.Edits.{is_taken, line_answer, with_line_in, with_node, without_line_in};
 ghost use Rattle.desk_graph.specs.Graph.{IsByLabel, label_of, lines_of};

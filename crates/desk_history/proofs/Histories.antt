@@ -1,6 +1,5 @@
 -- Histories: their numbers, their prefixes, and that what is kept stays kept.
-use Rattle.std.proofs.Common.{◌≡◌, ℕ, zero, suc, ◌+◌, ◌-◌, ◌<◌, ◌≤◌, Bool, true, false, cond, List, [], ◌∷◌, ◌++◌, length, take, drop, Option, Some, None, is_eq, is_some, refl, sym, ap, ◌∙◌, subst, inl, inr, arith, take-append-drop}
-use Rattle.std.proofs.lemmas.Bool.{cases_Bool, both_ways, false≢true}
+use Rattle.std.proofs.Common.{◌≡◌, ℕ, zero, suc, ◌+◌, ◌-◌, ◌≤◌, Bool, false, List, [], ◌∷◌, ◌++◌, length, take, drop, Option, Some, None, refl, sym, ap, ◌∙◌, subst, arith, take-append-drop}
 use Rattle.desk_text.specs.Code.{code_cmp, same_code}
 use Rattle.desk_rows.specs.Rows.{row_of}
 use Rattle.desk_rows.proofs.Lookups.{row_of-with_row_other}

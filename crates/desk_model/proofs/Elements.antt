@@ -1,7 +1,7 @@
 -- Facts on each element of a list, and what tests, sums and counts make of them.
 use Rattle.std.proofs.Common.{◌≡◌, ℕ, ◌+◌, ◌<◌, ◌≤◌, Bool, true, false, cond, not, ◌&&◌, ◌||◌, List, [], ◌∷◌, ◌++◌, map, filter, find, sum_by, count_by, Some, None, MatchOption, refl, sym, ap, ◌⊎◌, inl, inr, arith}
 use Rattle.std.specs.List.{AllByRecursion, flat_map, list_all, list_any}
-use Rattle.std.proofs.lemmas.Bool.{and_parts, and_from, or_left, or_parts, or_right, or_cases, cases_Bool, both_ways, false≢true, true≢false}
+use Rattle.std.proofs.lemmas.Bool.{and_parts, and_from, or_left, or_parts, or_right, or_cases, false≢true}
 use Rattle.std.proofs.lemmas.List.Sums.{sum_by-cons}
 
 pub each : {X : Type 0} (P : X → Type 0) → ((x : X) → P x) → (xs : List X) → AllByRecursion P xs

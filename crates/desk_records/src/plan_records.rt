@@ -3,7 +3,6 @@ ghost use Rattle.desk_edge.specs.Content.{IsChanged};
 ghost use Rattle.desk_edge.specs.declared.change.Change.TheVariants.{Put, Drop};
 ghost use Rattle.desk_history.specs.Sound.{Sound};
 ghost use Rattle.desk_history.specs.Step.{step};
-ghost use Rattle.desk_law.specs.Rule.{rule_code};
 ghost use Rattle.desk_model.specs.declared.edit.Edit.{Edit};
 ghost use Rattle.desk_model.specs.declared.row.Row.TheVariants.{Ticket};
 ghost use Rattle.desk_model.specs.Forms.{is_edit_in_form};

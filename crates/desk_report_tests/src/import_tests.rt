@@ -1,6 +1,4 @@
-ghost use Rattle.std.specs.Prelude.{◌≡◌, ◌≤◌, ℕ, List, None, IfOk, OnErr, OnOk, Option, length};
-ghost use Rattle.std.specs.Io.KnownBytes.{ReadConsumes, WriteAppends};
-ghost use Rattle.desk_edge.specs.Faults.{Rose};
+ghost use Rattle.std.specs.Prelude.{None, Option};
 
 use crate::outside::{DESK, Told, answer_to_import, check, link, store};
 use desk_edge::{Failed, Link, MapKeeper};

@@ -1,4 +1,4 @@
-ghost use Rattle.std.specs.Prelude.{◌≡◌, ℕ, true, [], map, IfOk, OnOk};
+ghost use Rattle.std.specs.Prelude.{◌≡◌, ℕ, true, map, IfOk, OnOk};
 ghost use Rattle.desk_graph.specs.Graph.{has_line};
 ghost use Rattle.desk_rollup.specs.Gathered.{all_hops, all_loads, own_hop, with_each, with_lines};
 ghost use Rattle.desk_rollup.specs.Places.{IsKnown, known, place_in};

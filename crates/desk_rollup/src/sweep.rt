@@ -1,4 +1,4 @@
-ghost use Rattle.std.specs.Prelude.{◌≡◌, ◌==◌, ◌+◌, ◌<◌, ◌≤◌, ℕ, length, map, nat_lt, if◌then◌else◌, IfErr, IfOk, IfSome};
+ghost use Rattle.std.specs.Prelude.{◌≡◌, ◌==◌, ◌+◌, ◌<◌, ◌≤◌, length, map, nat_lt, if◌then◌else◌, IfErr, IfOk, IfSome};
 ghost use Rattle.desk_graph.specs.Graph.{lines_of};
 ghost use Rattle.desk_rollup.specs.Places.{IsKnown, known, place_in};
 ghost use Rattle.desk_rollup.specs.Plan.{AllFit, IsAccepted, IsRefused};

@@ -1,4 +1,4 @@
-ghost use Rattle.std.specs.Prelude.{◌≡◌, ◌+◌, ◌<◌, ◌≤◌, [], ◌∷◌, length, IfOk};
+ghost use Rattle.std.specs.Prelude.{◌≡◌, ◌+◌, ◌<◌, [], IfOk};
 ghost use Rattle.desk_graph.specs.Planned.{IsBillPlan, planned};
 ghost use Rattle.desk_rollup.specs.Laws.{ChangesOne, IsLight};
 

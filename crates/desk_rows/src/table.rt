@@ -1,4 +1,4 @@
-ghost use Rattle.std.specs.Prelude.{◌≡◌, ◌+◌, ◌<◌, ◌≤◌, ◌^◌, ℕ, [], length, vec_len, vec_capacity, option_copied, IfOk, IsNone, IsSome, IsOk, OnOk, OnErr};
+ghost use Rattle.std.specs.Prelude.{◌≡◌, ◌+◌, ◌<◌, ◌≤◌, ◌^◌, [], length, vec_len, vec_capacity, option_copied, IfOk, IsNone, IsSome, IsOk, OnOk, OnErr};
 ghost use Rattle.desk_rows.specs.Held.{IsRoomFor};
 ghost use Rattle.desk_rows.specs.Rows.{IsByKey, row_of, with_row, with_rows, without_row};
 

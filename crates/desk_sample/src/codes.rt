@@ -1,4 +1,4 @@
-ghost use Rattle.std.specs.Prelude.{◌≡◌, ◌<◌, ◌^◌, IfOk, true};
+ghost use Rattle.std.specs.Prelude.{◌≡◌, ◌<◌, IfOk, true};
 ghost use Rattle.desk_sample.specs.Codes.{digit, numbered, supplier, ticket};
 ghost use Rattle.desk_text.specs.Code.{is_code_byte};
 

@@ -1,8 +1,7 @@
 ghost use Rattle.std.specs.Prelude.{◌≡◌, false, true, IfOk, IfSome, IsTrue, int_lt};
 ghost use Rattle.sqlite.specs.Held.{state};
-ghost use Rattle.sqlite.specs.State.{HasCleanDisk};
 ghost use Rattle.desk_sqlite.specs.Numbers.{AreRising};
-ghost use Rattle.desk_sqlite.specs.Store.{IsOurs, Suits, rows_in};
+ghost use Rattle.desk_sqlite.specs.Store.{IsOurs, Suits};
 
 use crate::form::is_ours;
 use sqlite::{Alter, Connection, Error, ErrorCode, Row};

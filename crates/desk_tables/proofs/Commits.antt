@@ -8,7 +8,7 @@ use Rattle.desk_model.specs.Lists.{Lists, ticket_row}
 use Rattle.desk_history.specs.Limits.{has_too_much_text}
 use Rattle.desk_tables.specs.Change.{changed, held}
 use Rattle.desk_tables.specs.Desk.{Desk}
-use Rattle.desk_tables.specs.Plan.{CanCommit, CanEnter, entered_by, planned}
+use Rattle.desk_tables.specs.Plan.{CanCommit, CanEnter, entered_by}
 use Rattle.desk_tables.specs.declared.row_change.RowChange.{RowChange}
 use Rattle.desk_tables.specs.declared.plan.TablesPlan.{TablesPlan}
 use Rattle.desk_tables.specs.declared.plan.TablesPlan.TheVariants as plan

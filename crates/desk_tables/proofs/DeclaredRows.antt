@@ -1,5 +1,5 @@
 -- The rows of a declaration stand in order.
-use Rattle.std.proofs.Common.{◌≡◌, true, List, [], ◌∷◌, map, refl, ap, sym, subst, ◌∙◌, ℕ, ◌≤◌, length, take, zero, suc, arith}
+use Rattle.std.proofs.Common.{◌≡◌, true, List, [], ◌∷◌, map, refl, ap, sym, subst, ◌∙◌, ℕ, ◌≤◌, length, take}
 use Rattle.desk_model.specs.declared.rows.material.MaterialRow.{MaterialRow}
 use Rattle.std.specs.List.Sorted.{IsStrictlySortedBy}
 use Rattle.desk_text.specs.Code.{code_cmp}

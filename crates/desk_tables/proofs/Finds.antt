@@ -1,5 +1,5 @@
 -- The first that passes a test, in a list of two pieces.
-use Rattle.std.proofs.Common.{◌≡◌, Bool, true, false, List, [], ◌∷◌, ◌++◌, Option, Some, None, find, refl, ℕ, suc, ◌<◌, length, get_or, drop, ap, sym, ◌∙◌, ◌+◌, arith}
+use Rattle.std.proofs.Common.{◌≡◌, Bool, true, false, List, [], ◌∷◌, ◌++◌, Some, None, find, refl, ℕ, suc, ◌<◌, length, get_or, drop, ap, sym, ◌∙◌, ◌+◌, arith}
 use Rattle.std.specs.List.{flat_map}
 use Rattle.std.proofs.Math.Seq.{drop-cons}
 

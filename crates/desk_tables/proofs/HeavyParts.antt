@@ -1,5 +1,5 @@
 -- The masses of parts, by the masses of all nodes, and the first that is too heavy.
-use Rattle.std.proofs.Common.{◌≡◌, ◌<◌, ◌≤◌, ◌^◌, Bool, true, false, List, [], ◌∷◌, ◌++◌, Option, Some, None, ℕ, map, take, drop, ◌-◌, length, refl, sym, ap, ◌∙◌, suc, nat_lt, if◌then◌else◌, arith}
+use Rattle.std.proofs.Common.{◌≡◌, ◌^◌, Bool, true, false, List, [], ◌∷◌, ◌++◌, Option, Some, None, ℕ, map, take, drop, ◌-◌, length, refl, sym, ap, ◌∙◌, suc, nat_lt, if◌then◌else◌, arith}
 use Rattle.std.specs.Prelude.{nat_le}
 use Rattle.std.proofs.lemmas.List.{length-drop}
 use Rattle.desk_tables.proofs.Taken.{take_whole}

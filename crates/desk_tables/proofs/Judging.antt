@@ -1,5 +1,5 @@
 -- The first of the rules 1 to 19 that an edit breaks, by the groups in which they are tried.
-use Rattle.std.proofs.Common.{◌≡◌, Bool, true, false, not, List, [], ◌∷◌, ◌++◌, Option, Some, None, ℕ, refl, sym, ap, ◌∙◌, if◌then◌else◌}
+use Rattle.std.proofs.Common.{◌≡◌, Bool, true, false, not, List, [], ◌∷◌, ◌++◌, Option, Some, None, ℕ, refl, ap, ◌∙◌, if◌then◌else◌}
 use Rattle.desk_text.specs.Code.{code_cmp}
 use Rattle.desk_rows.specs.Rows.{with_row}
 use Rattle.desk_model.specs.declared.rule_fault.RuleFault.TheVariants.{TextFull, TicketReused}
@@ -8,9 +8,9 @@ use Rattle.desk_model.specs.declared.edit.Edit.{Edit}
 use Rattle.desk_model.specs.declared.rows.ticket.TicketRow.{TicketRow}
 use Rattle.desk_model.specs.declared.rule_fault.RuleFault.{RuleFault}
 use Rattle.desk_model.specs.EditText.{edit_text, same_text, ticket_code}
-use Rattle.desk_model.specs.Effect.{entered, made, next_number}
+use Rattle.desk_model.specs.Effect.{entered, made}
 use Rattle.desk_model.specs.Lists.{Lists, ticket_row}
-use Rattle.desk_history.specs.Refused.{exemption_span, first_some, foreign_material, kind_changed, masses_exceed, name_taken, no_such_line, outside_annex, refuse_if, refused_by_rows, rules_of_rows, ship_below_zero, stale_declaration, table_full, text_full, ticket_reused, unknown_exemption, unknown_material, unknown_part, unknown_product, unknown_substance, units_too_large, wrong_child}
+use Rattle.desk_history.specs.Refused.{exemption_span, first_some, foreign_material, masses_exceed, outside_annex, refuse_if, refused_by_rows, ship_below_zero, stale_declaration, table_full, text_full, ticket_reused, units_too_large}
 use Rattle.desk_history.specs.Limits.{has_too_much_text}
 use Rattle.desk_history.specs.Step.{kept_number}
 use Rattle.desk_tables.specs.Change.{changed}

@@ -1,5 +1,5 @@
 -- What is kept in sound tables is of its form.
-use Rattle.std.proofs.Common.{◌≡◌, ◌≤◌, ℕ, true, ◌&&◌, Option, Some, List, length}
+use Rattle.std.proofs.Common.{◌≡◌, ◌≤◌, ℕ, true, ◌&&◌, Some, List, length}
 use Rattle.std.proofs.lemmas.Bool.{and_parts}
 use Rattle.desk_model.specs.declared.limits.TheConstants.{CONTENT_LIMIT}
 use Rattle.desk_model.specs.declared.rows.material.MaterialRow.{MaterialRow}

@@ -1,8 +1,7 @@
 -- The masses that nodes have of their own, in order.
-use Rattle.std.proofs.Common.{◌≡◌, Bool, true, false, not, List, [], ◌∷◌, ◌++◌, Option, Some, None, map, refl, sym, ap, ◌∙◌, ℕ, Ordering, Less, is_eq, is_some}
+use Rattle.std.proofs.Common.{◌≡◌, Bool, true, false, not, List, [], ◌∷◌, ◌++◌, Option, Some, None, map, refl, sym, ap, ◌∙◌, Ordering, is_some}
 use Rattle.std.specs.Cmp.{IsTotalOrder}
 use Rattle.std.specs.List.{AllByRecursion}
-use Rattle.std.specs.Option.{option_map_or}
 use Rattle.std.proofs.lemmas.Bool.{not-true}
 use Rattle.std.proofs.lemmas.Cmp.{tied_itself}
 use Rattle.desk_text.specs.Code.{code_cmp}
@@ -13,7 +12,6 @@ use Rattle.desk_model.specs.declared.rows.part.PartRow.{PartRow}
 use Rattle.desk_model.specs.Lists.{Lists, is_material, material_row}
 use Rattle.desk_model.proofs.Elements.{each_from_all}
 use Rattle.desk_model.proofs.Kept.{code_cmp_total}
-use Rattle.desk_findings.specs.Bill.{are_codes_apart}
 use Rattle.desk_findings.specs.Mass.{own_mass}
 use Rattle.desk_history.specs.Sound.{IsConsistent}
 

@@ -1,7 +1,7 @@
 -- How many lines one parent has after a change of the rows.
-use Rattle.std.proofs.Common.{◌≡◌, ℕ, ◌+◌, ◌≤◌, suc, Bool, true, false, ◌&&◌, ◌||◌, List, [], ◌∷◌, ◌++◌, Option, Some, None, length, filter, refl, sym, ap, ◌∙◌, subst, Ordering, Less, Equal, Greater, is_eq, is_some, nat_lt, if◌then◌else◌, arith}
-use Rattle.std.specs.List.{AllByRecursion, list_any}
-use Rattle.std.specs.Ordering.{match_ordering, ordering_then}
+use Rattle.std.proofs.Common.{◌≡◌, ℕ, ◌+◌, ◌≤◌, Bool, true, false, ◌&&◌, ◌||◌, List, [], ◌∷◌, ◌++◌, Option, length, filter, refl, sym, ◌∙◌, subst, Ordering, Less, Equal, Greater, is_eq, is_some, nat_lt, if◌then◌else◌, arith}
+use Rattle.std.specs.List.{list_any}
+use Rattle.std.specs.Ordering.{ordering_then}
 use Rattle.std.proofs.lemmas.Bool.{false≢true, or_parts, ltb-false, le-ltb}
 use Rattle.std.proofs.lemmas.Map.Lookups.{exact_bytes}
 use Rattle.desk_text.specs.Code.{code_cmp, same_code}
@@ -15,7 +15,7 @@ use Rattle.desk_model.specs.declared.rows.part.PartRow.{PartRow}
 use Rattle.desk_model.specs.declared.rows.ticket.TicketRow.{TicketRow}
 use Rattle.desk_model.specs.Lists.{Lists, is_part, line_key, line_key_cmp}
 use Rattle.desk_model.proofs.Elements.{any_none, each, none_from_any}
-use Rattle.desk_model.proofs.Kept.{code_cmp_total, kept_each, line_key_cmp_total, same_code-true}
+use Rattle.desk_model.proofs.Kept.{kept_each, line_key_cmp_total, same_code-true}
 use Rattle.desk_findings.specs.Reaches.{lines_of}
 use Rattle.desk_findings.proofs.Bill.{lines_of-none}
 use Rattle.desk_history.specs.Limits.{has_too_many_lines, if_over, tables_over}

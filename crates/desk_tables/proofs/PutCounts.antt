@@ -1,5 +1,5 @@
 -- How many rows there are with others put in: those that weren't there come on top.
-use Rattle.std.proofs.Common.{◌≡◌, ℕ, ◌+◌, ◌≤◌, zero, suc, Bool, true, false, List, [], ◌∷◌, length, refl, sym, ap, ◌∙◌, Ordering, Less, Equal, Greater, is_eq, is_some, None, sum_by, take, if◌then◌else◌, arith}
+use Rattle.std.proofs.Common.{◌≡◌, ℕ, ◌+◌, ◌≤◌, false, List, [], ◌∷◌, length, refl, sym, ap, ◌∙◌, Ordering, Less, Equal, Greater, is_eq, is_some, sum_by, take, if◌then◌else◌, arith}
 use Rattle.std.specs.Cmp.{IsTotalOrder}
 use Rattle.desk_rows.specs.Rows.{IsByKey, row_of, with_row, with_rows}
 use Rattle.std.proofs.lemmas.List.Sums.{sum_by-cons}

@@ -1,5 +1,5 @@
 -- The texts of the base substances are codes and names, and their rows stand in order of code.
-use Rattle.std.proofs.Common.{◌≡◌, Bool, true, false, List, [], ℕ, Option, Result, Ok, Err, map, refl, sym, ap, ◌∙◌, ◌≤◌, length, take}
+use Rattle.std.proofs.Common.{◌≡◌, Bool, true, false, List, [], ℕ, Option, Result, Ok, Err, map, refl, ap, ◌∙◌, ◌≤◌, length, take}
 use Rattle.std.specs.Prelude.{is_ok}
 use Rattle.std.proofs.lemmas.Bool.{false≢true}
 use Rattle.desk_text.specs.Code.{code_cmp, code_of}

@@ -1,5 +1,5 @@
 -- A change of rows leaves the tickets, and a new ticket adds its text.
-use Rattle.std.proofs.Common.{◌≡◌, ℕ, arith, ◌+◌, ◌≤◌, false, None, List, length, refl, ap, ◌∙◌, sym, sum_by, nat_lt}
+use Rattle.std.proofs.Common.{◌≡◌, ℕ, arith, ◌+◌, ◌≤◌, false, None, length, refl, ap, sum_by, nat_lt}
 use Rattle.std.proofs.lemmas.Bool.{ltb-false}
 use Rattle.desk_text.specs.Code.{code_cmp}
 use Rattle.desk_rows.specs.Rows.{with_row}

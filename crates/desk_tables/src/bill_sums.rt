@@ -1,4 +1,4 @@
-ghost use Rattle.std.specs.Prelude.{◌≡◌, ◌++◌, true, IfOk, length, map};
+ghost use Rattle.std.specs.Prelude.{◌≡◌, ◌++◌, true, IfOk, map};
 ghost use Rattle.desk_model.specs.Lists.{IsOrdered};
 ghost use Rattle.desk_findings.specs.Bill.{are_children_right, are_codes_apart};
 ghost use Rattle.desk_findings.specs.Mass.{mass, own_mass};

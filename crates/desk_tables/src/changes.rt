@@ -1,4 +1,4 @@
-ghost use Rattle.std.specs.Prelude.{◌≡◌, ◌+◌, ◌≤◌, ℕ, List, IfOk, None, map, true};
+ghost use Rattle.std.specs.Prelude.{◌≡◌, ◌+◌, IfOk, None, true};
 ghost use Rattle.desk_text.specs.Code.{code_cmp};
 ghost use Rattle.desk_rows.specs.Rows.{IsByKey, with_row};
 ghost use Rattle.desk_model.specs.Effect.{declared_row, declared_rows, made, with_factor, with_units};

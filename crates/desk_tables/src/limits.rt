@@ -1,5 +1,4 @@
-ghost use Rattle.std.specs.Prelude.{◌≡◌, None, Some, length, nat_lt, option_map};
-ghost use Rattle.desk_text.specs.Code.{code_cmp};
+ghost use Rattle.std.specs.Prelude.{◌≡◌, None, Some, length, option_map};
 ghost use Rattle.desk_rows.specs.Rows.{with_row};
 ghost use Rattle.desk_model.specs.Lists.{Lists, line_key, line_key_cmp, ticket_row};
 ghost use Rattle.desk_findings.specs.Reaches.{lines_of};

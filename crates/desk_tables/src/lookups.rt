@@ -1,6 +1,5 @@
 ghost use Rattle.std.specs.Prelude.{◌≡◌, option_copied};
 ghost use Rattle.desk_model.specs.Lists.{candidate_row, exemption_row, is_kept, is_line, is_material, is_part, is_product, is_substance, line_row, material_row, member_row, part_row, product_row, shipment_row, substance_row};
-ghost use Rattle.desk_findings.specs.Share.{factor_of};
 
 use crate::Tables;
 use desk_law::Rule;

@@ -1,4 +1,4 @@
-ghost use Rattle.std.specs.Prelude.{◌≡◌, ◌==◌, ◌&&◌, ◌+◌, ◌-◌, ◌<◌, ◌≤◌, ◌^◌, false, true, ℕ, count_by, length, nat_le, slice_index_or, if◌then◌else◌, IfOk, MatchOption};
+ghost use Rattle.std.specs.Prelude.{◌≡◌, ◌==◌, ◌&&◌, ◌+◌, ◌-◌, ◌<◌, ◌^◌, false, true, ℕ, count_by, length, nat_le, slice_index_or, if◌then◌else◌, IfOk, MatchOption};
 ghost use Rattle.std.specs.List.{list_all};
 ghost use Rattle.desk_model.specs.declared.rows.ticket.TicketRow.{TicketRow};
 ghost use Rattle.desk_history.specs.Breaches.{is_number_once};

@@ -1,4 +1,4 @@
-ghost use Rattle.std.specs.Prelude.{◌≡◌, not, ◌&&◌, option_map, if◌then◌else◌, Some};
+ghost use Rattle.std.specs.Prelude.{◌≡◌, not, ◌&&◌, if◌then◌else◌, Some};
 ghost use Rattle.desk_model.specs.Effect.{units_of};
 ghost use Rattle.desk_model.specs.Lists.{is_kept, is_part, is_product, is_substance, part_row};
 ghost use Rattle.desk_findings.specs.Articles.{is_article, is_assembly, same_sort};

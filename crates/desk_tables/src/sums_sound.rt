@@ -1,4 +1,4 @@
-ghost use Rattle.std.specs.Prelude.{◌≡◌, ◌<◌, IfErr, IfOk, IfSome, MatchOption, None, OnOk, Some, false, length, map, nat_lt, slice_index_or, true, ◌==◌};
+ghost use Rattle.std.specs.Prelude.{◌≡◌, ◌<◌, IfErr, IfOk, MatchOption, None, OnOk, Some, false, length, map, nat_lt, slice_index_or, true, ◌==◌};
 ghost use Rattle.std.specs.List.{list_any};
 ghost use Rattle.desk_model.specs.declared.rows.shipment.ShipmentRow.{ShipmentRow};
 ghost use Rattle.desk_model.specs.Lists.{is_part};

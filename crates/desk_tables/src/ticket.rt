@@ -1,5 +1,4 @@
 ghost use Rattle.std.specs.Prelude.{◌≡◌, ◌<◌, ◌^◌, IfOk, None, length};
-ghost use Rattle.desk_model.specs.Lists.{ticket_row};
 ghost use Rattle.desk_history.specs.Refused.{ticket_reused};
 ghost use Rattle.desk_history.specs.Step.{kept_number};
 ghost use Rattle.desk_tables.specs.Ticket.{ticket_for};

@@ -1,6 +1,4 @@
-ghost use Rattle.std.specs.Prelude.{◌≡◌, ◌≢◌, ◌≤◌, [], true, Err, IfOk, IfSome, OnOk, OnErr, IsErrOf, option_copied};
-ghost use Rattle.desk_edge.specs.Content.{IsChanged, IsFirstPast, IsSame, is_past, key_of};
-ghost use Rattle.desk_edge.specs.Faults.{Rose};
+ghost use Rattle.std.specs.Prelude.{◌≡◌, []};
 ghost use Rattle.desk_edge.specs.Stores.{blank, content_of};
 
 use desk_edge::{Change, KeepFault, Keeper, Key, MapKeeper, Record};

@@ -1,5 +1,4 @@
 use Rattle.std.proofs.Common.{◌≡◌, ◌+◌, ◌≤◌, length, sum_by, take}
-use Rattle.desk_rows.specs.Rows.{IsByKey}
 use Rattle.desk_tables.proofs.PutCounts.{is_new}
 use Rattle.desk_tables.proofs.counts.count_with_all.Given as goal
 

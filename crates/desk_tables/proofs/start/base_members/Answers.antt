@@ -1,4 +1,4 @@
-use Rattle.std.proofs.Common.{◌≡◌, ◌∙◌, ap}
+use Rattle.std.proofs.Common.{◌∙◌, ap}
 use Rattle.desk_rows.specs.Rows.{with_rows}
 use Rattle.desk_model.specs.Lists.{member_key, member_key_cmp}
 use Rattle.desk_tables.proofs.StartTexts.{all_members}

@@ -1,4 +1,4 @@
-use Rattle.std.proofs.Common.{◌≡◌, ◌∙◌}
+use Rattle.std.proofs.Common.{◌∙◌}
 use Rattle.desk_tables.proofs.StartTexts.{base_row, base_with, name_read}
 use Rattle.desk_tables.proofs.start.base_substance.Goals as goal
 

@@ -1,4 +1,4 @@
-use Rattle.std.proofs.Common.{◌≡◌, ◌∙◌, ap, not}
+use Rattle.std.proofs.Common.{◌∙◌, ap, not}
 use Rattle.std.specs.List.{list_all}
 use Rattle.desk_law.specs.KindSet.{has_kind}
 use Rattle.desk_law.proofs.KindSets.{is_subset-set_of}

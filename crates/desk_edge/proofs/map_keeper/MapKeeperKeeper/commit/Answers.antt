@@ -1,8 +1,7 @@
-use Rattle.std.proofs.Common.{◌≡◌, List, Option, ap, sym, ◌∙◌, subst}
+use Rattle.std.proofs.Common.{◌≡◌, ap, ◌∙◌, subst}
 use Rattle.std.specs.Prelude.{option_map}
 use Rattle.desk_edge.specs.Content.{key_cmp, key_of}
 use Rattle.desk_edge.specs.Stores.{fails_next, records_with_all}
-use Rattle.desk_edge.specs.declared.record.Record.{Record}
 use Rattle.desk_edge.proofs.Contents.{are_changed, records_stay}
 use Rattle.desk_rows.specs.Rows.{IsByKey, row_of}
 use Rattle.desk_edge.proofs.map_keeper.MapKeeperKeeper.commit.Goals as goal

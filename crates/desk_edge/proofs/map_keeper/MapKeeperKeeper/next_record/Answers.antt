@@ -1,8 +1,7 @@
-use Rattle.std.proofs.Common.{◌≡◌, List, ap, sym, ◌∙◌, rules, subst}
+use Rattle.std.proofs.Common.{◌≡◌, List, ap, sym, ◌∙◌, subst}
 use Rattle.std.specs.List.{find}
 use Rattle.std.specs.Prelude.{option_copied}
 use Rattle.desk_edge.specs.Content.{key_cmp, key_of, is_past}
-use Rattle.desk_edge.specs.declared.record.Record.{Record}
 use Rattle.desk_edge.proofs.Contents.{is_first, past_where_found}
 use Rattle.desk_rows.specs.Rows.{IsByKey}
 use Rattle.desk_edge.proofs.map_keeper.MapKeeperKeeper.next_record.Goals as goal

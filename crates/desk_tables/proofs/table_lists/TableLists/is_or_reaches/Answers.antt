@@ -1,4 +1,4 @@
-use Rattle.std.proofs.Common.{◌≡◌, ◌∙◌, sym}
+use Rattle.std.proofs.Common.{◌∙◌, sym}
 use Rattle.desk_history.proofs.SoundClauses.{bill_of}
 use Rattle.desk_tables.proofs.table_lists.TableLists.is_or_reaches.Goals as goal
 

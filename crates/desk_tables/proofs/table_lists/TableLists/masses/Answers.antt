@@ -1,4 +1,4 @@
-use Rattle.std.proofs.Common.{◌≡◌, ◌∙◌, ap, sym, map, drop, length}
+use Rattle.std.proofs.Common.{◌∙◌, ap, sym, map, drop, length}
 use Rattle.desk_findings.specs.Mass.{own_mass}
 use Rattle.desk_history.proofs.SoundClauses.{bill_of}
 use Rattle.desk_tables.proofs.HeavyParts.{masses_of_parts, slice_to_end}

@@ -1,4 +1,4 @@
-use Rattle.std.proofs.Common.{◌≡◌, drop, length, take}
+use Rattle.std.proofs.Common.{◌≡◌, take}
 use Rattle.desk_tables.proofs.table_lists.TableLists.masses.Given as goal
 
 abbrev pub invariant-loop-mass : goal.invariant-loop-mass

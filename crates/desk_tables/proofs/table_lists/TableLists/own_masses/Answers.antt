@@ -1,4 +1,4 @@
-use Rattle.std.proofs.Common.{◌≡◌, ◌++◌, ◌∙◌, map, ap}
+use Rattle.std.proofs.Common.{◌++◌, ◌∙◌, map, ap}
 use Rattle.desk_tables.proofs.OwnMasses.{own_masses}
 use Rattle.desk_tables.proofs.Taken.{take_whole}
 use Rattle.desk_tables.proofs.table_lists.TableLists.own_masses.Goals as goal

@@ -1,4 +1,4 @@
-use Rattle.std.proofs.Common.{◌≡◌, ◌∙◌, sym, ap}
+use Rattle.std.proofs.Common.{◌∙◌, sym, ap}
 use Rattle.desk_tables.specs.Plan.{planned}
 use Rattle.desk_tables.proofs.Commits.{can_enter, fits_after, new_after, planned_after, room_after}
 use Rattle.desk_tables.proofs.tables.Tables.commit.Goals as goal

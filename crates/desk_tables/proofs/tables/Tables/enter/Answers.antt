@@ -1,7 +1,6 @@
-use Rattle.std.proofs.Common.{◌≡◌, ◌≤◌, ◌+◌, ◌∙◌, ap, sym, length, sum_by, arith}
+use Rattle.std.proofs.Common.{◌+◌, ◌∙◌, ap, sym, length, sum_by, arith}
 use Rattle.desk_text.specs.Code.{code_cmp}
 use Rattle.desk_rows.specs.Rows.{with_row}
-use Rattle.desk_model.specs.declared.limits.TheConstants.{TEXT_LIMIT}
 use Rattle.desk_tables.proofs.Tickets.{sum_with, text_fits}
 use Rattle.desk_tables.proofs.tables.Tables.enter.Goals as goal
 

@@ -1,4 +1,4 @@
-use Rattle.std.proofs.Common.{◌≡◌, ◌∙◌, ◌&&◌, ap, sym, nat_lt, length, false}
+use Rattle.std.proofs.Common.{◌∙◌, ◌&&◌, ap, sym, nat_lt, length, false}
 use Rattle.desk_model.specs.Lists.{is_part, line_key, line_key_cmp}
 use Rattle.desk_model.specs.declared.limits.TheConstants.{LINES_OF_PARENT_LIMIT}
 use Rattle.desk_rows.specs.Rows.{with_row}

@@ -1,4 +1,4 @@
-use Rattle.std.proofs.Common.{◌≡◌, ap, sym, subst, ◌∙◌, ◌+◌, length}
+use Rattle.std.proofs.Common.{ap, sym, subst, ◌∙◌, ◌+◌, length}
 use Rattle.desk_text.specs.Code.{code_cmp}
 use Rattle.desk_rows.specs.Runs.{IsOneRun}
 use Rattle.desk_findings.specs.Reaches.{lines_of}

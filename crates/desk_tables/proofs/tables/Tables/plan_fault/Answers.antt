@@ -1,4 +1,3 @@
-use Rattle.std.proofs.Common.{◌≡◌, ◌∙◌, IfOk, IfSome, Result, Ok, Err, Option, Some, None, ap, sym}
 use Rattle.desk_tables.proofs.Accepting.{fault_of, kept_plan, limits_of, plan_of}
 use Rattle.desk_tables.proofs.tables.Tables.plan_fault.Goals as goal
 

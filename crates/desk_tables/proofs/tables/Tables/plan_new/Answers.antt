@@ -1,11 +1,10 @@
-use Rattle.std.proofs.Common.{◌≡◌, ◌∙◌, ap, sym, None, Some, subst}
+use Rattle.std.proofs.Common.{◌∙◌, ap, sym, subst}
 use Rattle.desk_rows.specs.Held.{IsRoomFor}
 use Rattle.desk_tables.specs.Change.{held}
 use Rattle.desk_model.specs.Lists.{ticket_row}
 use Rattle.desk_history.specs.Limits.{has_too_much_text}
-use Rattle.desk_history.specs.Step.{kept_number}
 use Rattle.desk_tables.specs.Judged.{IsRowsFault, IsRowsPlan}
-use Rattle.desk_tables.specs.Plan.{CanCommit, CanEnter, entered_by}
+use Rattle.desk_tables.specs.Plan.{CanCommit, CanEnter}
 use Rattle.desk_tables.proofs.Judging.{at_limits, by_limits, leaves, text_fits_after, ticket_is_new}
 use Rattle.desk_tables.proofs.tables.Tables.plan_new.Goals as goal
 

@@ -1,4 +1,4 @@
-use Rattle.std.proofs.Common.{◌≡◌, ◌∙◌, ap, sym, None, Some, arith}
+use Rattle.std.proofs.Common.{◌∙◌, sym, arith}
 use Rattle.desk_history.specs.Step.{kept_number}
 use Rattle.desk_tables.specs.Judged.{IsRowsFault}
 use Rattle.desk_tables.proofs.Judging.{at_names, at_ticket, at_values}

@@ -1,4 +1,4 @@
-use Rattle.std.proofs.Common.{◌≡◌, ◌∙◌, IfOk, ap, sym, subst}
+use Rattle.std.proofs.Common.{◌≡◌, ◌∙◌, IfOk, sym, subst}
 use Rattle.desk_history.specs.Refused.{first_some}
 use Rattle.desk_tables.proofs.Accepting.{consistent_before_ticket, none_rise, sums_after}
 use Rattle.desk_tables.proofs.tables.Tables.refused_by_sums.Goals as goal

@@ -1,4 +1,4 @@
-use Rattle.std.proofs.Common.{◌≡◌, ◌∙◌, ap, sym, option_copied}
+use Rattle.std.proofs.Common.{◌∙◌, ap, sym, option_copied}
 use Rattle.desk_tables.proofs.KeptForms.{kept_content}
 use Rattle.desk_tables.proofs.tables.Tables.share.Goals as goal
 

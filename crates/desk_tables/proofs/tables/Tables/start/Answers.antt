@@ -1,4 +1,4 @@
-use Rattle.std.proofs.Common.{◌≡◌, sym, subst}
+use Rattle.std.proofs.Common.{sym, subst}
 use Rattle.desk_history.specs.Sound.{Sound}
 use Rattle.desk_history.proofs.SoundSteps.{Sound-start}
 use Rattle.desk_tables.proofs.tables.Tables.start.Goals as goal

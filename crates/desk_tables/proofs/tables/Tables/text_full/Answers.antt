@@ -1,4 +1,4 @@
-use Rattle.std.proofs.Common.{◌≡◌, ap, sym, ◌∙◌, ◌+◌, arith, length, sum_by, nat_lt}
+use Rattle.std.proofs.Common.{ap, ◌∙◌, ◌+◌, arith, length, sum_by, nat_lt}
 use Rattle.desk_model.specs.declared.limits.TheConstants.{TEXT_LIMIT}
 use Rattle.desk_model.specs.declared.rule_fault.RuleFault.TheVariants.{TextFull}
 use Rattle.desk_history.specs.Refused.{refuse_if}
