@@ -1,7 +1,8 @@
 ghost use Rattle.std.specs.Prelude.{◌≡◌, ◌≢◌, Err, IfErr, Ok, OnOk};
 ghost use Rattle.csv.specs.Records.{fields_of};
-ghost use Rattle.desk_declare.specs.Columns.{made_by};
+ghost use Rattle.desk_declare.specs.Columns.{made_by, read_in};
 ghost use Rattle.desk_declare.specs.Declaration.{claim_columns, head_of, material_columns, row_added, substance_columns, with_addition};
+ghost use Rattle.desk_declare.specs.Forms.{a_code};
 
 use crate::DeclareFault;
 use crate::fields::Fields;
@@ -10,6 +11,7 @@ use csv::ByteRecord;
 use desk_law::Claim;
 use desk_model::Declaration;
 use desk_model::limits::MASS_LIMIT;
+use desk_text::Code;
 use std::alloc::Global;
 
 /// The declaration that the first record of a text begins.
@@ -89,6 +91,18 @@ fn add_material(
     }
 }
 
+/// The code of the material that a record is about. Such records mostly stand behind the material's own, so its code is looked for
+/// there first: to see that the bytes are the same takes less than to read them.
+#[tactic(auto, unfolding(crate::specs::Columns::read_in, crate::specs::Forms::a_code))]
+fn material_of(declaration: &Declaration, fields: &Fields<'_>) -> Result<Code, DeclareFault>
+    ensures { result ≡ read_in 2 a_code fields.now.place (fields_of fields.now.row.now) }
+{
+    match declaration.materials().last() {
+        Some(last) if fields.is_word(2, last.code.as_bytes()) => Ok(last.code),
+        _ => fields.code(2),
+    }
+}
+
 /// Adds the substance of a material that a record lists.
 #[tactic(auto, unfolding(crate::specs::Forms::a_substance_mass))]
 fn add_substance(declaration: &mut Declaration, fields: &Fields<'_>) -> Result<(), DeclareFault>
@@ -98,7 +112,7 @@ fn add_substance(declaration: &mut Declaration, fields: &Fields<'_>) -> Result<(
         fields.now.place (made_by substance_columns fields.now.place (fields_of fields.now.row.now)) declaration.old ≡ Err fault) }
 {
     let place = fields.place;
-    let material = fields.code(2)?;
+    let material = material_of(declaration, fields)?;
     let substance = fields.code(3)?;
     let mass = fields.number(4, 0, MASS_LIMIT)?;
     fields.end(4)?;
@@ -116,7 +130,7 @@ fn add_claim(declaration: &mut Declaration, fields: &Fields<'_>) -> Result<(), D
         fields.now.place (made_by claim_columns fields.now.place (fields_of fields.now.row.now)) declaration.old ≡ Err fault) }
 {
     let place = fields.place;
-    let material = fields.code(2)?;
+    let material = material_of(declaration, fields)?;
     let rule = fields.rule(3)?;
     let number = fields.exemption_number(4)?;
     fields.end(4)?;

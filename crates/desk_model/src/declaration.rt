@@ -9,7 +9,7 @@ use crate::enter::enter;
 use crate::limits::{CONTENT_LIMIT, DECLARED_LIMIT, MASS_LIMIT};
 use crate::{DeclError, MaterialDecl, SubstanceMass};
 use desk_law::Claim;
-use desk_rows::place_of_key;
+use desk_rows::place_from_end;
 use desk_text::{Code, Day, Name};
 use std::alloc::Global;
 use std::marker::Model;
@@ -164,14 +164,14 @@ impl Declaration {
     }
 }
 
-/// The place of the material with this code. The error is `Orphan`.
+/// The place of the material with this code, which is mostly the last. The error is `Orphan`.
 fn place_of(materials: &[MaterialDecl], code: &Code) -> Result<usize, DeclError>
     requires { IsByKey (λ material. material.code) code_cmp materials.now }
     ensures { MatchResult result
         (StandsAt (λ material. material.code) code_cmp code.now materials.now)
         (λ e. (e ≡ DeclError.Orphan) × (row_of (λ material. material.code) code_cmp code.now materials.now ≡ None)) }
 {
-    match place_of_key(materials, code) {
+    match place_from_end(materials, code) {
         Ok(at) => Ok(at),
         Err(_) => Err(DeclError::Orphan),
     }

@@ -1,6 +1,6 @@
 -- A binary search of rows by key answers the place of the key.
-use Rattle.std.proofs.Common.{◌≡◌, ℕ, zero, suc, ◌<◌, ◌≤◌, false, List, [], ◌∷◌, length, get_or, refl, sym, ap, ◌∙◌, Ordering, Less, Equal, Greater, is_lt, Result, Ok, Err, HoldsAt, IsSortedBy, add-one, arith}
-use Rattle.std.specs.Ordering.{match_ordering}
+use Rattle.std.proofs.Common.{◌≡◌, ℕ, zero, suc, ◌<◌, ◌≤◌, false, List, [], ◌∷◌, length, get_or, refl, sym, ap, ◌∙◌, Ordering, Less, Equal, Greater, is_lt, Result, Ok, Err, HoldsAt, IsSortedBy, subst, add-one, arith}
+use Rattle.std.specs.Ordering.{match_ordering, ordering_index}
 use Rattle.std.specs.Cmp.{IsTotalOrder}
 use Rattle.std.specs.List.Sorted.{IsBinarySearchResult, IsSearchInRange, IsPartitionPoint}
 use Rattle.std.proofs.lemmas.Cmp.{alike_right}
@@ -51,3 +51,15 @@ module _ {R K : Type 0} (key : R → K) (cmp : K → K → Ordering) (o : IsTota
   pub place_from_search : (k : K) (rows : List R) (r : Result ℕ ℕ) → IsByKey key cmp rows → IsSearchInRange r (length rows) → IsBinarySearchResult (λ row. cmp (key row) k) rows r → r ≡ place_of key cmp k rows
   place_from_search k rows (Ok i) h b s = sym (place_of-found k rows i h b s)
   place_from_search k rows (Err i) h b s = sym (place_of-absent k rows i b (s (searchable_from_sorted o key rows k (sorted rows h))))
+
+  least : (a : Ordering) → ordering_index a ≤ 0 → a ≡ Less
+  least Less h = refl
+  least Equal h = absurd (omega (arith, h))
+  least Greater h = absurd (omega (arith, h))
+
+  -- where the last row's key is lesser, the place is behind all rows
+  pub last_less : (k : K) (rows : List R) (i : ℕ) → length rows ≡ suc i → HoldsAt (λ row. cmp (key row) k ≡ Less) rows i → IsBinarySearchResult (λ row. cmp (key row) k) rows (Err (length rows))
+  last_less k rows i n at rising = (
+    λ j d low high. least (cmp (key (get_or rows j d)) k) (subst (λ a. ordering_index (cmp (key (get_or rows j d)) k) ≤ ordering_index a) (at d) (rising j i d (omega (arith, n, high)) (omega (arith, n)))),
+    λ j d low high. absurd (omega arith),
+  )

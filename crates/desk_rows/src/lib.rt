@@ -7,6 +7,6 @@ mod room;
 mod table;
 
 pub use keyed::{Grouped, Keyed};
-pub use place::{place_of_key, place_of_row, run_of};
+pub use place::{place_from_end, place_near, place_of_key, place_of_row, run_of};
 pub use room::Room;
 pub use table::Table;

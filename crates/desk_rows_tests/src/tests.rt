@@ -1,4 +1,6 @@
-use desk_rows::{Keyed, Table, place_of_key, place_of_row};
+use desk_rows::{
+    Grouped, Keyed, Table, place_from_end, place_near, place_of_key, place_of_row, run_of,
+};
 use desk_text::OutOfMemory;
 use std::alloc::Global;
 use std::cmp::Ordering;
@@ -25,6 +27,16 @@ impl Keyed for Price {
 
     fn copied(&self, _alloc: Global) -> Result<Price, OutOfMemory> {
         Ok(*self)
+    }
+}
+
+impl Grouped for Price {
+    type Group = u32;
+
+    ghost group = { λ row. row.cents };
+
+    fn compare_group(&self, sought: &u32) -> Ordering {
+        self.cents.cmp(sought)
     }
 }
 
@@ -159,12 +171,22 @@ fn an_empty_table_takes_a_row_and_gives_it_back(rt: HostRuntime) -> Result<(), F
     fill_and_empty(&mut table, rt.alloc())
 }
 
+/// Whether the key is found here wherever it is looked for first.
+fn is_found_from_each(table: &Table<Price>, item: &u16, place: Result<usize, usize>) -> bool {
+    let rows = table.as_slice();
+    place_from_end(rows, item) == place
+        && place_near(rows, item, 0) == place
+        && place_near(rows, item, 2) == place
+        && place_near(rows, item, 9) == place
+}
+
 /// The first key that is sought, or whose row is, at another place than this.
 fn first_wrong_place(table: &Table<Price>, keys: &[(u16, Result<usize, usize>)]) -> Option<u16> {
     let rows = table.as_slice();
     for (item, place) in keys {
         let of_row = place_of_row(rows, &cost(*item, 1));
-        if place_of_key(rows, item) != *place || of_row != *place {
+        let is_found = is_found_from_each(table, item, *place);
+        if place_of_key(rows, item) != *place || !is_found || of_row != *place {
             return Some(*item);
         }
     }
@@ -182,6 +204,51 @@ fn a_search_tells_where_a_row_stands_or_would_go(rt: HostRuntime) -> Result<(), 
         (7, Err(3)),
     ];
     assert_eq!(rt; first_wrong_place(&table, &keys), None);
+    Ok(())
+}
+
+/// Two items of 10 cents, one of 20, eleven of 30, eight of 40 and nine of 50.
+fn items_by_price(alloc: Global) -> Result<Table<Price>, OutOfMemory> {
+    let mut table = Table::new(alloc);
+    for (cents, first, end) in [
+        (10, 0, 2),
+        (20, 2, 3),
+        (30, 3, 14),
+        (40, 14, 22),
+        (50, 22, 31),
+    ] {
+        for item in first..end {
+            table.put(cost(item, cents))?;
+        }
+    }
+    Ok(table)
+}
+
+/// The first price whose items don't begin with this one, or aren't so many.
+fn first_wrong_run(table: &Table<Price>, runs: &[(u32, Option<u16>, usize)]) -> Option<u32> {
+    for (cents, first, len) in runs {
+        let run = run_of(table.as_slice(), cents);
+        if run.first().map(|row| row.item) != *first || run.len() != *len {
+            return Some(*cents);
+        }
+    }
+    None
+}
+
+#[test]
+fn the_rows_of_a_group_are_found_whether_few_or_many(rt: HostRuntime) -> Result<(), Fail> {
+    let table = items_by_price(rt.alloc())?;
+    let runs = [
+        (5, None, 0),
+        (10, Some(0), 2),
+        (20, Some(2), 1),
+        (30, Some(3), 11),
+        (35, None, 0),
+        (40, Some(14), 8),
+        (50, Some(22), 9),
+        (60, None, 0),
+    ];
+    assert_eq!(rt; first_wrong_run(&table, &runs), None);
     Ok(())
 }
 

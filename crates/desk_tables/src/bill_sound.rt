@@ -12,7 +12,7 @@ use std::alloc::Global;
 impl Tables {
     /// The bill of materials, where no part reaches itself; else the fault names a line of a cycle.
     ///
-    /// It takes two binary searches for each line and a few passes over the bill, more where there is a cycle.
+    /// It takes up to two searches of a node for each line and a few passes over the bill, more where there is a cycle.
     pub(crate) fn acyclic_bill(&self, alloc: Global) -> Result<Links, SoundFault>
         requires apart { are_codes_apart self.now.lists ≡ true }
         requires children { are_children_right self.now.lists ≡ true }

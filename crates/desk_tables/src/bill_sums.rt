@@ -15,7 +15,7 @@ use std::alloc::Global;
 
 /// What the whole bill of materials comes to.
 impl<'a> TableLists<'a> {
-    /// The bill of materials by the places of its nodes. It takes two binary searches for each line.
+    /// The bill of materials by the places of its nodes. It takes up to two searches of a node for each line.
     pub fn links(&self, alloc: Global) -> Result<Links, OutOfMemory>
         requires { IsConsistent self.now }
         ensures { IfOk result (λ bill. IsBillOf bill self.now) }
@@ -23,8 +23,8 @@ impl<'a> TableLists<'a> {
         self.linked(alloc)
     }
 
-    /// The bill of materials by the places of its nodes, of lists that may hold a cycle. It takes two binary searches
-    /// for each line.
+    /// The bill of materials by the places of its nodes, of lists that may hold a cycle. It takes up to two
+    /// searches of a node for each line.
     pub(crate) fn linked(&self, alloc: Global) -> Result<Links, OutOfMemory>
         requires ordered { IsOrdered self.now }
         requires apart { are_codes_apart self.now ≡ true }

@@ -40,9 +40,12 @@ impl Tables {
     fn unknown_among(&self, substances: &[SubstanceMass]) -> Option<Code>
         ensures { result ≡ find (λ code. not (is_substance self.now.lists code)) (map (λ held. held.substance) substances.now) }
     {
+        // Both lists stand in the order of codes, so that a substance mostly stands behind the one before it.
+        let mut near = 0;
         for held in substances {
-            if !self.is_substance(&held.substance) {
-                return Some(held.substance);
+            match self.substance_place(&held.substance, near) {
+                Some(place) => near = place.saturating_add(1),
+                None => return Some(held.substance),
             }
         }
         None

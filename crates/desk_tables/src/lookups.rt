@@ -1,4 +1,4 @@
-ghost use Rattle.std.specs.Prelude.{◌≡◌, option_copied};
+ghost use Rattle.std.specs.Prelude.{◌≡◌, true, false, option_copied, MatchOption};
 ghost use Rattle.desk_model.specs.Lists.{candidate_row, exemption_row, is_kept, is_line, is_material, is_part, is_product, is_substance, line_row, material_row, member_row, part_row, product_row, shipment_row, substance_row};
 
 use crate::Tables;
@@ -7,6 +7,7 @@ use desk_model::{
     CandidateRow, ExemptionRow, LineRow, MaterialRow, MemberRow, PartRow, ProductRow, ShipmentRow,
     SubstanceRow,
 };
+use desk_rows::place_near;
 use desk_text::Code;
 
 impl Tables {
@@ -71,6 +72,16 @@ impl Tables {
         ensures { option_copied result ≡ shipment_row self.now.lists year product.now }
     {
         self.shipments.get(&(year, *product))
+    }
+
+    /// Where the substance of this code stands, if it is kept. It is looked for at this place first, and else by a binary search.
+    pub(crate) fn substance_place(&self, code: &Code, near: usize) -> Option<usize>
+        ensures { MatchOption result (is_substance self.now.lists code.now ≡ false) (λ place. is_substance self.now.lists code.now ≡ true) }
+    {
+        match place_near(self.substances.as_slice(), code, near) {
+            Ok(place) => Some(place),
+            Err(_) => None,
+        }
     }
 
     /// Whether a substance of this code is kept.

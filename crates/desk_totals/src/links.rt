@@ -133,7 +133,7 @@ impl Links {
             self.nodes.as_slice(),
             self.material_count,
             line,
-            self.material_count,
+            (self.material_count, 0),
         );
         let mut links = self.links;
         set_link(&mut links, place, link);
@@ -157,7 +157,7 @@ impl Links {
             self.nodes.as_slice(),
             self.material_count,
             line,
-            self.material_count,
+            (self.material_count, 0),
         );
         let mut links = self.links;
         links.insert(place, link)?;

@@ -10,7 +10,8 @@ use std::alloc::Global;
 
 /// The place of the code among the nodes.
 ///
-/// It takes a binary search or two where the codes of materials and those of parts each stand in order, and else looks at all nodes.
+/// It takes a binary search among the materials and one among the parts where each stand in order of their codes and no other code
+/// begins with the same sixteen bytes, as much again where another does, and else looks at all nodes.
 pub(crate) fn place_of(nodes: &[Code], material_count: usize, code: &Code) -> Option<usize>
     requires { material_count ≤ length nodes.now }
     ensures { MatchOption result (is_among code.now nodes.now ≡ false)
@@ -79,8 +80,8 @@ fn first_place_of(nodes: &[Code], code: &Code) -> Option<usize>
     None
 }
 
-/// The links of the lines, one for each. It takes a search for each child, and one for each parent that is neither the
-/// parent of the line before nor the node after that, as where lines stand in order of their parents.
+/// The links of the lines, one for each. It takes a search for each end that is neither the same end of the line before nor the node
+/// after that. Where lines stand in order the parents mostly are, and so are the children where codes are given in a row.
 pub(crate) fn links_of(
     alloc: Global,
     nodes: &[Code],
@@ -93,17 +94,22 @@ pub(crate) fn links_of(
     ensures places { IfOk result (λ links. ArePlaces (length nodes.now) links.items) }
 {
     let mut links = Vec::with_capacity(alloc, lines.len())?;
-    let mut near = material_count;
+    let mut near = (material_count, 0);
     for line in lines {
         let link = link_of(nodes, material_count, line, near);
-        near = link.parent;
+        near = (link.parent, link.child);
         links.push_reserved(link);
     }
     Ok(links)
 }
 
-/// The link of a line, whose parent is looked for near this place first.
-pub(crate) fn link_of(nodes: &[Code], material_count: usize, line: &LineRow, near: usize) -> Link
+/// The link of a line, whose ends, parent and child, are looked for near these places first.
+pub(crate) fn link_of(
+    nodes: &[Code],
+    material_count: usize,
+    line: &LineRow,
+    near: (usize, usize),
+) -> Link
     requires materials { material_count ≤ length nodes.now }
     requires ends { has_ends_in nodes.now line.now ≡ true }
     ensures line { line_at nodes.now result ≡ line.now }
@@ -111,8 +117,8 @@ pub(crate) fn link_of(nodes: &[Code], material_count: usize, line: &LineRow, nea
     ensures child { result.child < length nodes.now }
 {
     Link {
-        parent: place_near(nodes, material_count, &line.parent, near),
-        child: place_in(nodes, material_count, &line.child),
+        parent: place_near(nodes, material_count, &line.parent, near.0),
+        child: place_near(nodes, material_count, &line.child, near.1),
         count: line.count,
     }
 }
