@@ -58,7 +58,7 @@ impl<'a> Assessment<'a> {
         self.terms
     }
 
-    /// What a material of these substances holds. It takes two binary searches for each.
+    /// What a material of these substances holds. It takes a binary search for each.
     pub(crate) fn holdings(
         &self,
         alloc: Global,

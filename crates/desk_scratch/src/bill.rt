@@ -44,7 +44,8 @@ impl<'a> Model for Bill<'a> {
 }
 
 impl<'a> Bill<'a> {
-    /// The bill of these tables. It takes two binary searches for each line and a few passes over nodes and lines.
+    /// The bill of these tables. It takes up to two searches of a node for each line and a few passes over
+    /// nodes and lines.
     pub(crate) fn new(alloc: Global, tables: &'a Tables) -> Result<Bill<'a>, OutOfMemory>
         requires { Sound tables.now.lists }
         ensures { IfOk result (λ bill. bill ≡ tables.now.lists) }

@@ -20,7 +20,7 @@ use std::fmt::Write;
 /// The whole answer to `check` for a declaration, over these tables: what was asked, what was declared of each material
 /// and its verdict for each rule, and whether no verdict is a breach.
 ///
-/// It takes, for each material and substance, two binary searches, and for each rule whose limit a material is over, a
+/// It takes, for each material and substance, a binary search, and for each rule whose limit a material is over, a
 /// look at each exemption row.
 pub fn check_text(
     alloc: Global,

@@ -1,4 +1,4 @@
-ghost use Rattle.std.specs.Prelude.{◌≡◌, ◌≤◌, find, length, IfOk};
+ghost use Rattle.std.specs.Prelude.{◌≡◌, ◌+◌, ◌*◌, ◌≤◌, ◌^◌, find, length, IfOk, MatchOption};
 ghost use Rattle.desk_history.specs.Sound.{Sound};
 ghost use Rattle.desk_law.specs.Rule.{same_rule};
 ghost use Rattle.desk_model.specs.Lists.{Lists};
@@ -51,7 +51,7 @@ impl<'a> Model for Holdings<'a> {
 }
 
 impl<'a> Holdings<'a> {
-    /// What these substances come to, by the tables. It takes two binary searches for each.
+    /// What these substances come to, by the tables. It takes a binary search for each.
     pub(crate) fn new(
         alloc: Global,
         tables: &'a Tables,
@@ -74,13 +74,13 @@ impl<'a> Holdings<'a> {
     {
         let mut share = 0u128;
         for holding in self.each.as_slice() {
-            share += u128::from(holding.mass) * u128::from(factor_in(rule, holding.members));
+            share = share_with(share, rule, holding);
         }
         share
     }
 }
 
-/// What is held of a substance. It takes two binary searches.
+/// What is held of a substance. It takes a binary search.
 fn holding_of<'a>(tables: &'a Tables, held: &SubstanceMass) -> Holding<'a>
     requires { Sound tables.now.lists }
     ensures { result ≡ holding_of tables.now.lists held.now }
@@ -91,14 +91,36 @@ fn holding_of<'a>(tables: &'a Tables, held: &SubstanceMass) -> Holding<'a>
     }
 }
 
-/// How much of a substance's mass the rule counts, in millionths: the factor of its member among these, or 0.
-#[tactic(auto, unfolding(crate::specs::Holdings::factor_in))]
-fn factor_in(rule: Rule, members: &[MemberRow]) -> u32
-    ensures { result ≡ factor_in rule members.now }
+/// The share with what the rule counts of a substance that is held, in millionths of a microgram.
+fn share_with(share: u128, rule: Rule, holding: &Holding<'_>) -> u128
+    requires { share ≤ 2 ^ 127 }
+    ensures value { result ≡ share + holding.now.mass * factor_in rule holding.now.members }
+    ensures small { result ≤ share + 2 ^ 96 }
 {
-    match member_in(rule, members) {
-        Some(member) => member.factor,
-        None => 0,
+    match factor_for(rule, holding.members) {
+        Some(factor) => share + u128::from(holding.mass) * u128::from(factor),
+        None => share,
+    }
+}
+
+/// How much of a substance's mass the rule counts, in millionths, where one of these members is the rule's.
+#[tactic(auto, unfolding(crate::specs::Holdings::factor_in))]
+fn factor_for(rule: Rule, members: &[MemberRow]) -> Option<u32>
+    ensures { MatchOption result (factor_in rule members.now ≡ 0) (λ factor. factor ≡ factor_in rule members.now) }
+{
+    match members {
+        // Most substances have one member alone.
+        [member] => {
+            if is_for(rule, member) {
+                Some(member.factor)
+            } else {
+                None
+            }
+        }
+        _ => match member_in(rule, members) {
+            Some(member) => Some(member.factor),
+            None => None,
+        },
     }
 }
 

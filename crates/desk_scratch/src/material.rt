@@ -15,7 +15,7 @@ use std::alloc::Global;
 
 /// The answer on a material: what was declared of it, and its verdict for each rule.
 ///
-/// It takes, for each substance of the material, two binary searches, and for each rule whose limit it is over, a look
+/// It takes, for each substance of the material, a binary search, and for each rule whose limit it is over, a look
 /// at each exemption row. The text has thirteen lines.
 pub(crate) fn material_text(
     alloc: Global,

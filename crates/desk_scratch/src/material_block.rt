@@ -1,6 +1,6 @@
-ghost use Rattle.std.specs.Prelude.{◌≡◌, ◌++◌, ◌≤◌, length, string_bytes, IfOk, OnOk};
+ghost use Rattle.std.specs.Prelude.{◌≡◌, ◌++◌, ◌≤◌, codes, length, string_bytes, IfOk, OnOk};
 ghost use Rattle.std.specs.List.{flat_map};
-ghost use Rattle.desk_law.specs.Rule.{all_rules};
+ghost use Rattle.desk_law.specs.Rule.{all_rules, rule_code};
 ghost use Rattle.desk_model.specs.declared.limits.TheConstants.{CONTENT_LIMIT};
 ghost use Rattle.desk_model.specs.declared.rows.material.MaterialRow.{MaterialRow};
 ghost use Rattle.desk_scratch.specs.Assessment.{facts_of};
@@ -105,29 +105,44 @@ fn push_judged_line(
     ensures { OnOk result (string_bytes out.new ≡ string_bytes out.old
         ++ rule_line_with rule share limit (verdict_words verdict.entry.rows.now verdict.entry.verdict)) }
 {
-    // Piece by piece: these lines are most of what an answer takes, and `writeln!` takes three times as long.
-    out.push_str("rule ")?;
-    out.push_str(rule.code())?;
-    out.push_str(" share ")?;
+    // Piece by piece, for these lines are most of what an answer takes, and `writeln!` takes longer.
+    out.push_str(line_start(rule))?;
     push_number(out, share)?;
     out.push_str(" limit ")?;
     push_number(out, limit)?;
-    out.push_str(" ")?;
-    push_verdict(out, verdict)?;
-    out.push_str("\n")?;
-    Ok(())
+    push_verdict(out, verdict)
 }
 
-/// Appends a verdict in words.
+/// What a rule's line begins with. It is one text, since to write its three pieces takes longer.
+#[tactic(auto, unfolding(desk_law::specs::Rule::rule_code))]
+fn line_start(rule: Rule) -> &'static str
+    ensures { result.now ≡ codes "rule " ++ rule_code rule ++ codes " share " }
+{
+    match rule {
+        Rule::Lead => "rule lead share ",
+        Rule::Mercury => "rule mercury share ",
+        Rule::Cadmium => "rule cadmium share ",
+        Rule::ChromiumVi => "rule chromium-vi share ",
+        Rule::Pbb => "rule pbb share ",
+        Rule::Pbde => "rule pbde share ",
+        Rule::Dehp => "rule dehp share ",
+        Rule::Bbp => "rule bbp share ",
+        Rule::Dbp => "rule dbp share ",
+        Rule::Dibp => "rule dibp share ",
+    }
+}
+
+/// Appends a verdict in words as the end of a line, with the space before it.
 #[tactic(auto, unfolding(crate::specs::MaterialBlock::verdict_words))]
 fn push_verdict(out: &mut String, verdict: VerdictWords<'_>) -> Result<(), AllocError>
-    ensures { OnOk result (string_bytes out.new ≡ string_bytes out.old ++ verdict_words verdict.entry.rows.now verdict.entry.verdict) }
+    ensures { OnOk result (string_bytes out.new ≡ string_bytes out.old
+        ++ codes " " ++ verdict_words verdict.entry.rows.now verdict.entry.verdict ++ codes "\n") }
 {
     match verdict.verdict {
-        Verdict::Within => out.push_str("within"),
-        Verdict::NotInForce => out.push_str("not-in-force"),
-        Verdict::Breach => out.push_str("breach"),
-        Verdict::Exempt { .. } => write!(out, "{verdict}"),
+        Verdict::Within => out.push_str(" within\n"),
+        Verdict::NotInForce => out.push_str(" not-in-force\n"),
+        Verdict::Breach => out.push_str(" breach\n"),
+        Verdict::Exempt { .. } => writeln!(out, " {verdict}"),
     }
 }
 

@@ -30,7 +30,7 @@ use std::fmt::Write;
 /// rule whose limit it is over, and whether none of these is a breach.
 ///
 /// It takes the bill once, a few passes over nodes and lines for each 64 materials and for each breach, and for each
-/// reached material and substance two binary searches. The text has at most two lines for each reached material and
+/// reached material and substance a binary search. The text has at most two lines for each reached material and
 /// rule, and three more.
 pub(crate) fn rohs_text(
     alloc: Global,

@@ -2,7 +2,7 @@ ghost use Rattle.std.specs.Prelude.{◌≡◌, ◌++◌, codes, decimal, string_
 ghost use Rattle.desk_scratch.specs.SharedLines.{chain_line, compliance_line, name_line, version_line};
 
 use desk_tables::Tables;
-use desk_text::{Code, Name};
+use desk_text::{Code, Name, digits_of};
 use itoa::Buffer;
 use std::alloc::AllocError;
 use std::fmt::Write;
@@ -12,7 +12,7 @@ pub(crate) fn push_number(out: &mut String, number: u128) -> Result<(), AllocErr
     ensures { OnOk result (string_bytes out.new ≡ string_bytes out.old ++ decimal number) }
 {
     let mut buffer = Buffer::new();
-    out.push_str(buffer.format(number))
+    out.push_str(digits_of(&mut buffer, number))
 }
 
 /// Appends the line with the number of the tables.

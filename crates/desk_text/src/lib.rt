@@ -19,4 +19,4 @@ pub use day::{Day, DayFault, FIRST_YEAR, LAST_YEAR};
 pub use exemption_number::{EXEMPTION_NUMBER_LIMIT, ExemptionNumber};
 pub use memory::OutOfMemory;
 pub use name::{NAME_LIMIT, Name, NameFault};
-pub use number::{NumberFault, push_u128, read_u32, read_u64};
+pub use number::{NumberFault, digits_of, push_u128, read_u32, read_u64};

@@ -48,7 +48,18 @@ pub fn push_u128(out: &mut Bytes, number: u128) -> Result<(), OutOfMemory>
     ensures err { OnErr result (out.new ≡ out.old) }
 {
     let mut buffer = Buffer::new();
-    out.push_all(buffer.format(number).as_bytes())
+    out.push_all(digits_of(&mut buffer, number).as_bytes())
+}
+
+/// The decimal digits of the number, with no sign and no zero before another digit.
+pub fn digits_of(buffer: &mut Buffer, number: u128) -> &str
+    ensures { result.now ≡ decimal number }
+{
+    // Most numbers are of 64 bits, and such are divided faster.
+    match u64::try_from(number) {
+        Ok(number) => buffer.format(number),
+        Err(_) => buffer.format(number),
+    }
 }
 
 /// Whether the bytes are digits, at least one, and begin with no zero but in `0`.
