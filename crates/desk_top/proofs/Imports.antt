@@ -1,7 +1,7 @@
 -- What is said of an import into a keeper that was opened from a shelf is said of the shelf's store.
 use Rattle.std.proofs.Common.{◌≡◌, ◌∙◌, ap, sym, subst, ◌⊎◌, ℕ, ◌<◌, List, [], Option, inl, inr, refl, arith}
 use Rattle.std.specs.Io.KnownBytes.{Appends}
-use Rattle.std.proofs.KnownBytes.{Appends-nil}
+use Rattle.std.proofs.KnownBytes.{Appends-nil, Consumes-nil}
 use Rattle.desk_edge.specs.Content.{Content, IsSame}
 use Rattle.desk_edge.specs.Faults.{Rose}
 use Rattle.desk_edge.specs.Transfer.{AppendsBeginning}
@@ -48,6 +48,7 @@ import_as Told Tells a b c d faults ended console rose tells same given (inr was
   status = was.status;
   told = was.told;
   closed = λ told. same_trans a c d (same_trans a b c (same told) (was.closed (tells told))) (given told);
+  taken = was.taken;
 }
 
 -- the shelf didn't open a store: nothing was put in, and the line tells why
@@ -55,9 +56,9 @@ pub not_lent : (Told Tells lost : Type 0) (kept keeps : Content) (ended : Status
     → (ended ≡ status.StoreFault) ⊎ (ended ≡ status.OutOfMemory) → (ended ≡ status.StoreFault → lost)
     → (ended ≡ status.StoreFault → Answers answer_to_store_fault (status_code ended) console.before console.after rose)
     → (ended ≡ status.OutOfMemory → Answers answer_without_memory (status_code ended) console.before console.after rose)
-    → (Tells → Told × IsSame kept keeps)
+    → console.left ≡ console.unread → (Tells → Told × IsSame kept keeps)
     → (faults : ℕ) × EndsImport Tells kept keeps faults (status_code ended) console rose × (Tells → Told) × (0 < faults → lost)
-not_lent Told Tells lost kept keeps ended console rose (inl is) failed store_line memory_line others = (
+not_lent Told Tells lost kept keeps ended console rose (inl is) failed store_line memory_line stays others = (
   1,
   inr record {
     answer = answer_to_store_fault;
@@ -65,11 +66,12 @@ not_lent Told Tells lost kept keeps ended console rose (inl is) failed store_lin
     status = ap status_code is;
     told = store_line is;
     closed = λ tells. (others tells).1;
+    taken = ([], rw stays (Consumes-nil console.unread), search (arith));
   },
   (λ tells. (others tells).0),
   λ some. failed is,
 )
-not_lent Told Tells lost kept keeps ended console rose (inr is) failed store_line memory_line others = (
+not_lent Told Tells lost kept keeps ended console rose (inr is) failed store_line memory_line stays others = (
   0,
   inr record {
     answer = answer_without_memory;
@@ -77,6 +79,7 @@ not_lent Told Tells lost kept keeps ended console rose (inr is) failed store_lin
     status = ap status_code is;
     told = memory_line is;
     closed = λ tells. (others tells).1;
+    taken = ([], rw stays (Consumes-nil console.unread), search (arith));
   },
   (λ tells. (others tells).0),
   λ some. absurd (search (arith, some)),

@@ -62,6 +62,7 @@ module _ (console : Console) (rose : Type 0) (stays : console.left ≡ console.u
       status = refl;
       told = told;
       closed = λ tells key. refl;
+      taken = ([], rw stays (Consumes-nil console.unread), search (arith));
     },
     (λ tells. tells),
     λ some. absurd (search (arith, some)),

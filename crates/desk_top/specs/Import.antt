@@ -45,13 +45,15 @@ IsImportRefusal Tells kept faults c answer =
     ⊎ (answer ≡ answer_without_memory)
     ⊎ ((answer ≡ answer_to_failed_reading) × (Tells → IsEmpty kept))
 
--- nothing was put in, and the store is as it was; the status is that of the answer, and no other
+-- nothing was put in, and the store is as it was; the status is that of the answer, and no other; no byte past the one after the
+-- limit was asked for
 pub record WasRefused (Tells : Type 0) (kept keeps : Content) (faults : ℕ) (ended : ℕ) (c : Console) (rose : Type 0) : Type 0 where
   pub answer : Answer
   pub cause : IsImportRefusal Tells kept faults c answer
   pub status : ended ≡ status_code answer.status
   pub told : Answers answer ended c.before c.after rose
   pub closed : Tells → IsSame kept keeps
+  pub taken : (bytes : List ℕ) × Consumes c.unread c.left bytes × (length bytes ≤ import_limit + 1)
 
 -- how an import ends with this status
 abbrev pub EndsImport : Type 0 → Content → Content → ℕ → ℕ → Console → Type 0 → Type 0

@@ -5,7 +5,7 @@ use Rattle.desk_top.proofs.import.answer_import.Goals as goal
 pub returns-in-Err-clause-stored : goal.returns-in-Err-clause-stored
 returns-in-Err-clause-stored g c =
     not_lent _ _ _ _ _ c.in-Err.status _ _ c.in-Err.ensures.status c.in-Err.ensures.failed c.in-Err.ensures.store_line c.in-Err.ensures.memory_line
-    (c.open_store.ensures.others c.args.asked.now.store)
+    c.in-Err.ensures.input_stays (c.open_store.ensures.others c.args.asked.now.store)
 
 pub returns-clause-stored : goal.returns-clause-stored
 returns-clause-stored g c = rw (← c.as_slice-name.ensures) (
