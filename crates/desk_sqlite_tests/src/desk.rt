@@ -1,18 +1,20 @@
-use crate::stores::{closed, new_store, ready, stopping_store, store_of};
+use crate::stores::{Reopen, disks_of, new_store, ready, stopping_store, store_of, stored};
 use desk_clerk::{Clerk, SubmitFault};
-use desk_edge::{Keeper, MemoryLink};
+use desk_edge::{Keeper, Link, MemoryLink};
 use desk_fields::read_edit_text;
 use desk_front::{Served, serve_alone};
+use desk_model::Edit;
 use desk_report::{ReportFault, export, import};
+use desk_sqlite::SqlKeeper;
 use desk_text::{Bytes, OutOfMemory};
-use sqlite::Files;
+use sqlite::{Alter, FileStore, Files};
 use sqlite_disk::{Fuse, Memory};
 use std::alloc::Global;
 use std::sync::Wait;
 use std::test::Fail;
 
 /// Twelve edits that a new desk takes: the code of the ticket of each, and its text with `|` for TAB.
-const EDITS: [(&str, &str); 12] = [
+const EDITS: &[(&str, &str)] = &[
     ("E:t1", "part|A|article|Pin"),
     ("E:t2", "part|B|assembly|Board"),
     ("E:t3", "line|B|A|8"),
@@ -29,6 +31,11 @@ const EDITS: [(&str, &str); 12] = [
     ("E:t10", "substance|zinc|Zinc|"),
     ("E:t11", "member|zinc|lead|1"),
 ];
+
+/// A failure that says what is wrong, unless it holds.
+fn check(holds: bool, what: &'static str) -> Result<(), Fail> {
+    if holds { Ok(()) } else { Err(Fail::new(what)) }
+}
 
 /// The text with TAB for each `|`.
 fn bytes(alloc: Global, text: &str) -> Result<Bytes, OutOfMemory> {
@@ -52,7 +59,55 @@ fn opened<R: Wait + Sync, K: Keeper + Drop>(
     }
 }
 
-/// The number that the edit at this place gets, or none where the store failed.
+/// The keeper of a clerk that ends. This has no clause, as the next ones have none, so that the proof of a step doesn't carry what a
+/// call says.
+fn keeper_of<R: Wait + Sync, K: Keeper>(rt: &R, clerk: Clerk<K>) -> K {
+    clerk.close(rt)
+}
+
+/// How the clerk's desk serves the link.
+fn served<R: Wait + Sync, K: Keeper, L: Link>(
+    rt: &R,
+    alloc: Global,
+    clerk: &mut Clerk<K>,
+    link: &mut L,
+) -> Served {
+    serve_alone(rt, alloc, clerk, link)
+}
+
+/// What an export of the clerk's desk answers.
+fn export_of<K: Keeper, L: Link>(
+    alloc: Global,
+    clerk: &Clerk<K>,
+    link: &mut L,
+) -> Result<u64, ReportFault> {
+    export(alloc, clerk.tables(), link)
+}
+
+/// What an import from the link into the keeper answers.
+fn import_from<K: Keeper, L: Link>(
+    alloc: Global,
+    keeper: &mut K,
+    link: &mut L,
+) -> Result<u64, ReportFault> {
+    import(alloc, keeper, link)
+}
+
+/// The number that the edit gets, or none where the store failed.
+fn numbered<R: Wait + Sync, K: Keeper>(
+    rt: &R,
+    alloc: Global,
+    clerk: &mut Clerk<K>,
+    edit: Edit,
+) -> Result<Option<u64>, Fail> {
+    match clerk.submit(rt, alloc, edit) {
+        Ok(accepted) => Ok(Some(accepted.number)),
+        Err(SubmitFault::KeeperFault) => Ok(None),
+        Err(_) => Err(Fail::new("refused")),
+    }
+}
+
+/// The number that the edit of this code and text gets, or none where the store failed.
 fn submitted<R: Wait + Sync, K: Keeper>(
     rt: &R,
     alloc: Global,
@@ -61,10 +116,30 @@ fn submitted<R: Wait + Sync, K: Keeper>(
 ) -> Result<Option<u64>, Fail> {
     let text = bytes(alloc, edit.1)?;
     let edit = read_edit_text(alloc, edit.0.as_bytes(), text.as_slice())?;
-    match clerk.submit(rt, alloc, edit) {
-        Ok(accepted) => Ok(Some(accepted.number)),
-        Err(SubmitFault::KeeperFault) => Ok(None),
-        Err(_) => Err(Fail::new("refused")),
+    numbered(rt, alloc, clerk, edit)
+}
+
+/// A link with this input, and with room for what a test writes.
+fn link_with(alloc: Global, input: Bytes, room: usize) -> Result<MemoryLink, OutOfMemory> {
+    MemoryLink::new(alloc, input, 7, room, Vec::new(alloc))
+}
+
+/// What was written to the link.
+fn written_to(alloc: Global, link: &MemoryLink) -> Result<Bytes, OutOfMemory> {
+    Ok(Bytes::from(link.written().to_vec(alloc)?))
+}
+
+/// Serves the link, up to its end, by a desk over the keeper, and gives the keeper once its clerk is closed.
+fn served_to_the_end<R: Wait + Sync, K: Keeper + Drop, L: Link>(
+    rt: &R,
+    alloc: Global,
+    keeper: K,
+    link: &mut L,
+) -> Result<K, Fail> {
+    let mut clerk = opened(rt, alloc, keeper)?;
+    match served(rt, alloc, &mut clerk, link) {
+        Served::Ended => Ok(keeper_of(rt, clerk)),
+        _ => Err(Fail::new("the stream did not end")),
     }
 }
 
@@ -74,20 +149,14 @@ fn replied<R: Wait + Sync, K: Keeper + Drop>(
     alloc: Global,
     keeper: K,
 ) -> Result<(Bytes, K), Fail> {
-    let mut clerk = opened(rt, alloc, keeper)?;
     let mut input = Bytes::start(alloc);
     input.push_all(b"POST /edit HTTP/1.1\r\nContent-Length: 73\r\n\r\n")?;
     input.push_all(
         br#"{"edit":"part","ticket":"t1","code":"A","kind":"assembly","name":"Frame"}"#,
     )?;
-    let mut link = MemoryLink::new(alloc, input, 7, 10_000, Vec::new(alloc))?;
-    match serve_alone(rt, alloc, &mut clerk, &mut link) {
-        Served::Ended => {
-            let written = Bytes::from(link.written().to_vec(alloc)?);
-            Ok((written, clerk.close(rt)))
-        }
-        _ => Err(Fail::new("the stream did not end")),
-    }
+    let mut link = link_with(alloc, input, 10_000)?;
+    let kept = served_to_the_end(rt, alloc, keeper, &mut link)?;
+    Ok((written_to(alloc, &link)?, kept))
 }
 
 /// The reply to the first edit of a desk, whose sender had met so many before.
@@ -100,17 +169,43 @@ fn accepted(alloc: Global, seen: &[u8]) -> Result<Bytes, Fail> {
     Ok(reply)
 }
 
+/// Fails unless a desk over the keeper writes this reply where a stream sends it one edit. It gives the keeper.
+fn kept_once_replied<R: Wait + Sync, K: Keeper + Drop>(
+    rt: &R,
+    alloc: Global,
+    keeper: K,
+    reply: &Bytes,
+) -> Result<K, Fail> {
+    let (written, kept) = replied(rt, alloc, keeper)?;
+    check(written == *reply, "another reply")?;
+    Ok(kept)
+}
+
+/// Fails unless an edit that a stream sends to desks over the keeper, and over the disks that are opened again, has one number.
+fn is_known_again<R: Wait + Sync, K: Reopen>(rt: &R, alloc: Global, keeper: K) -> Result<(), Fail> {
+    let kept = kept_once_replied(rt, alloc, keeper, &accepted(alloc, b"0")?)?;
+    let again = kept.reopened(alloc)?;
+    let _kept = kept_once_replied(rt, alloc, again, &accepted(alloc, b"1")?)?;
+    Ok(())
+}
+
 #[test]
 fn an_edit_that_is_sent_to_the_opened_disks_again_has_its_number(
     rt: HostRuntime,
 ) -> Result<(), Fail> {
-    let (first, keeper) = replied(&rt, rt.alloc(), new_store(rt.alloc())?)?;
-    assert_eq!(rt; first, accepted(rt.alloc(), b"0")?);
-    let disks = closed(keeper);
-    let kept = store_of(rt.alloc(), &disks.log, &disks.db)?;
-    let (again, _kept) = replied(&rt, rt.alloc(), kept)?;
-    assert_eq!(rt; again, accepted(rt.alloc(), b"1")?);
-    Ok(())
+    is_known_again(&rt, rt.alloc(), new_store(rt.alloc())?)
+}
+
+/// Writes the export of the keeper's desk to the link, and gives the keeper.
+fn exported_to<R: Wait + Sync, K: Keeper + Drop, L: Link>(
+    rt: &R,
+    alloc: Global,
+    keeper: K,
+    link: &mut L,
+) -> Result<K, Fail> {
+    let clerk = opened(rt, alloc, keeper)?;
+    export_of(alloc, &clerk, link)?;
+    Ok(keeper_of(rt, clerk))
 }
 
 /// The export file of the keeper's desk, and the keeper.
@@ -119,11 +214,9 @@ fn exported<R: Wait + Sync, K: Keeper + Drop>(
     alloc: Global,
     keeper: K,
 ) -> Result<(Bytes, K), Fail> {
-    let clerk = opened(rt, alloc, keeper)?;
-    let mut link = MemoryLink::new(alloc, Bytes::start(alloc), 7, 10_000, Vec::new(alloc))?;
-    export(alloc, clerk.tables(), &mut link)?;
-    let file = Bytes::from(link.written().to_vec(alloc)?);
-    Ok((file, clerk.close(rt)))
+    let mut link = link_with(alloc, Bytes::start(alloc), 10_000)?;
+    let kept = exported_to(rt, alloc, keeper, &mut link)?;
+    Ok((written_to(alloc, &link)?, kept))
 }
 
 /// What an import of the file into the keeper answers.
@@ -134,26 +227,98 @@ fn imported<K: Keeper>(
 ) -> Result<Result<u64, ReportFault>, Fail> {
     let mut input = Bytes::start(alloc);
     input.push_all(file.as_slice())?;
-    let mut link = MemoryLink::new(alloc, input, 7, 0, Vec::new(alloc))?;
-    Ok(import(alloc, keeper, &mut link))
+    let mut link = link_with(alloc, input, 0)?;
+    Ok(import_from(alloc, keeper, &mut link))
+}
+
+/// The export file of a desk of start tables over the keeper.
+fn start_file<R: Wait + Sync, K: Keeper + Drop>(
+    rt: &R,
+    alloc: Global,
+    keeper: K,
+) -> Result<Bytes, Fail> {
+    let (file, _kept) = exported(rt, alloc, keeper)?;
+    let first = bytes(alloc, "1|bbp|1|Butyl benzyl phthalate (BBP)|85-68-7\n")?;
+    let begins = file.as_slice().starts_with(first.as_slice());
+    check(begins, "another first line")?;
+    Ok(file)
+}
+
+/// Fails unless the keeper takes the file, and once. It gives the keeper.
+fn filled_once<K: Keeper + Drop>(alloc: Global, mut keeper: K, file: &Bytes) -> Result<K, Fail> {
+    let first = imported(alloc, &mut keeper, file)?;
+    let second = imported(alloc, &mut keeper, file)?;
+    check(first == Ok(20), "the file isn't taken")?;
+    check(
+        second == Err(ReportFault::NotEmpty),
+        "the file is taken twice",
+    )?;
+    Ok(keeper)
+}
+
+/// Fails unless the keeper's desk is exported as this file.
+fn is_exported_so<R: Wait + Sync, K: Keeper + Drop>(
+    rt: &R,
+    alloc: Global,
+    keeper: K,
+    file: &Bytes,
+) -> Result<(), Fail> {
+    let (again, _kept) = exported(rt, alloc, keeper)?;
+    check(again == *file, "another file")
+}
+
+/// Fails unless the export of a desk over the first keeper fills the second, once, and is the export of its disks, opened again.
+fn goes_by_export<R: Wait + Sync, K: Reopen>(
+    rt: &R,
+    alloc: Global,
+    first: K,
+    second: K,
+) -> Result<(), Fail> {
+    let file = start_file(rt, alloc, first)?;
+    let copy = filled_once(alloc, second, &file)?;
+    let again = copy.reopened(alloc)?;
+    is_exported_so(rt, alloc, again, &file)
+}
+
+/// Two new stores.
+fn two_stores(
+    alloc: Global,
+) -> Result<(SqlKeeper<FileStore<Memory>>, SqlKeeper<FileStore<Memory>>), Fail> {
+    Ok((new_store(alloc)?, new_store(alloc)?))
 }
 
 #[test]
 fn a_desk_goes_from_disks_to_disks_by_its_export(rt: HostRuntime) -> Result<(), Fail> {
-    let (file, _kept) = exported(&rt, rt.alloc(), new_store(rt.alloc())?)?;
-    let first = bytes(rt.alloc(), "1|bbp|1|Butyl benzyl phthalate (BBP)|85-68-7\n")?;
-    assert!(rt; file.as_slice().starts_with(first.as_slice()));
-    let mut copy = new_store(rt.alloc())?;
-    assert_eq!(rt; imported(rt.alloc(), &mut copy, &file)?, Ok(20));
-    assert_eq!(rt;
-        imported(rt.alloc(), &mut copy, &file)?,
-        Err(ReportFault::NotEmpty)
-    );
-    let disks = closed(copy);
-    let kept = store_of(rt.alloc(), &disks.log, &disks.db)?;
-    let (again, _kept) = exported(&rt, rt.alloc(), kept)?;
-    assert_eq!(rt; again, file);
-    Ok(())
+    let (first, second) = two_stores(rt.alloc())?;
+    goes_by_export(&rt, rt.alloc(), first, second)
+}
+
+/// Enters the edits up to the first that isn't acknowledged. It gives how many were.
+fn entered_into<R: Wait + Sync, K: Keeper>(
+    rt: &R,
+    alloc: Global,
+    clerk: &mut Clerk<K>,
+) -> Result<u64, Fail> {
+    let mut acknowledged = 0;
+    for &edit in EDITS {
+        match submitted(rt, alloc, clerk, edit)? {
+            Some(number) => acknowledged = number,
+            None => break,
+        }
+    }
+    Ok(acknowledged)
+}
+
+/// A clerk over this store, or the keeper where it isn't opened.
+fn opened_or_kept<R: Wait + Sync, K: Keeper + Drop>(
+    rt: &R,
+    alloc: Global,
+    keeper: K,
+) -> Result<Clerk<K>, K> {
+    match Clerk::open(rt, alloc, keeper) {
+        Ok(clerk) => Ok(clerk),
+        Err(refused) => Err(refused.keeper),
+    }
 }
 
 /// Enters the edits up to the first that isn't acknowledged. It gives how many were, and the keeper.
@@ -162,18 +327,26 @@ fn entered<R: Wait + Sync, K: Keeper + Drop>(
     alloc: Global,
     keeper: K,
 ) -> Result<(u64, K), Fail> {
-    let mut clerk = match Clerk::open(rt, alloc, keeper) {
-        Ok(clerk) => clerk,
-        Err(refused) => return Ok((0, refused.keeper)),
-    };
-    let mut acknowledged = 0;
-    for edit in EDITS {
-        match submitted(rt, alloc, &mut clerk, edit)? {
-            Some(number) => acknowledged = number,
-            None => break,
+    match opened_or_kept(rt, alloc, keeper) {
+        Ok(mut clerk) => {
+            let acknowledged = entered_into(rt, alloc, &mut clerk)?;
+            Ok((acknowledged, keeper_of(rt, clerk)))
         }
+        Err(keeper) => Ok((0, keeper)),
     }
-    Ok((acknowledged, clerk.close(rt)))
+}
+
+/// Makes a store ready and enters the edits. It gives how many were acknowledged, and the store.
+fn entered_store<R: Wait + Sync, S: Alter + Drop>(
+    rt: &R,
+    alloc: Global,
+    mut keeper: SqlKeeper<S>,
+) -> Result<(u64, S), Fail> {
+    if ready(&mut keeper).is_err() {
+        return Ok((0, stored(keeper)));
+    }
+    let (acknowledged, keeper) = entered(rt, alloc, keeper)?;
+    Ok((acknowledged, stored(keeper)))
 }
 
 /// Enters the edits over a store whose disks stop after so many calls. It gives how many were acknowledged, and the disks.
@@ -183,41 +356,57 @@ fn entered_until_a_stop<R: Wait + Sync>(
     log_calls: u64,
     db_calls: u64,
 ) -> Result<(u64, Files<Fuse<Memory>>), Fail> {
-    let mut store = match stopping_store(alloc, log_calls, db_calls) {
-        Ok(store) => store,
-        Err(files) => return Ok((0, files)),
-    };
-    if ready(&mut store).is_err() {
-        return Ok((0, closed(store)));
+    match stopping_store(alloc, log_calls, db_calls) {
+        Ok(keeper) => {
+            let (acknowledged, store) = entered_store(rt, alloc, keeper)?;
+            Ok((acknowledged, disks_of(store)))
+        }
+        Err(files) => Ok((0, files)),
     }
-    let (acknowledged, store) = entered(rt, alloc, store)?;
-    Ok((acknowledged, closed(store)))
 }
 
-/// How many edits the keeper has, and the numbers that all of them get when they are sent again.
-fn sent_again<R: Wait + Sync, K: Keeper + Drop>(
+/// The numbers that all of the edits get when they are sent again.
+fn numbers_again<R: Wait + Sync, K: Keeper>(
     rt: &R,
     alloc: Global,
-    keeper: K,
-) -> Result<(u64, Vec<Option<u64>>), Fail> {
-    let mut clerk = opened(rt, alloc, keeper)?;
-    let number = clerk.number();
+    clerk: &mut Clerk<K>,
+) -> Result<Vec<Option<u64>>, Fail> {
     let mut numbers = Vec::new(alloc);
-    for edit in EDITS {
-        numbers.push(submitted(rt, alloc, &mut clerk, edit)?)?;
+    for &edit in EDITS {
+        numbers.push(submitted(rt, alloc, clerk, edit)?)?;
     }
-    Ok((number, numbers))
+    Ok(numbers)
 }
 
-/// Whether a store has each edit that was acknowledged and at most one more, and all edits, sent again, get their numbers in order.
-fn are_first_edits(acknowledged: u64, had: u64, numbers: &[Option<u64>]) -> bool {
-    let is_prefix = had == acknowledged || had == acknowledged.saturating_add(1);
-    is_prefix
-        && numbers.len() == EDITS.len()
+/// Whether all edits have their numbers in order.
+fn are_in_order(numbers: &[Option<u64>]) -> bool {
+    numbers.len() == EDITS.len()
         && numbers
             .iter()
             .enumerate()
             .all(|(at, number)| *number == Some(at as u64 + 1))
+}
+
+/// Whether a store has each edit that was acknowledged and at most one more, and all edits, sent again, get their numbers in order.
+fn has_first_edits<R: Wait + Sync, K: Keeper + Drop>(
+    rt: &R,
+    alloc: Global,
+    keeper: K,
+    acknowledged: u64,
+) -> Result<bool, Fail> {
+    let mut clerk = opened(rt, alloc, keeper)?;
+    let had = clerk.number();
+    let is_prefix = had == acknowledged || had == acknowledged.saturating_add(1);
+    let numbers = numbers_again(rt, alloc, &mut clerk)?;
+    Ok(is_prefix && are_in_order(numbers.as_slice()))
+}
+
+/// The store on copies of the disks that a stop left.
+fn store_left(
+    alloc: Global,
+    files: Files<Fuse<Memory>>,
+) -> Result<SqlKeeper<FileStore<Memory>>, Fail> {
+    store_of(alloc, files.log.inner(), files.db.inner())
 }
 
 /// Whether a stop of the disks after so many calls leaves the first edits, and how many were acknowledged.
@@ -228,23 +417,21 @@ fn tried<R: Wait + Sync>(
     db_calls: u64,
 ) -> Result<(bool, u64), Fail> {
     let (acknowledged, files) = entered_until_a_stop(rt, alloc, log_calls, db_calls)?;
-    let left = store_of(alloc, files.log.inner(), files.db.inner())?;
-    let (had, numbers) = sent_again(rt, alloc, left)?;
-    let is_right = are_first_edits(acknowledged, had, numbers.as_slice());
+    let left = store_left(alloc, files)?;
+    let is_right = has_first_edits(rt, alloc, left, acknowledged)?;
     Ok((is_right, acknowledged))
 }
 
-/// The counts of calls after which the log stops and the desk has other edits than the first, up to the count at which all are
+/// The first count of calls after which the log stops and the desk has other edits than the first, up to the count at which all are
 /// acknowledged.
-fn wrong_stops_of_the_log<R: Wait + Sync>(rt: &R, alloc: Global) -> Result<Vec<u64>, Fail> {
-    let mut wrong = Vec::new(alloc);
+fn wrong_stop_of_the_log<R: Wait + Sync>(rt: &R, alloc: Global) -> Result<Option<u64>, Fail> {
     for calls in 0..200u64 {
         let (is_right, acknowledged) = tried(rt, alloc, calls, u64::MAX)?;
         if !is_right {
-            wrong.push(calls)?;
+            return Ok(Some(calls));
         }
         if acknowledged == 12 {
-            return Ok(wrong);
+            return Ok(None);
         }
     }
     Err(Fail::new("more calls than were tried"))
@@ -254,27 +441,24 @@ fn wrong_stops_of_the_log<R: Wait + Sync>(rt: &R, alloc: Global) -> Result<Vec<u
 fn a_stop_at_any_call_of_the_log_leaves_the_first_edits_and_all_that_were_acknowledged(
     rt: HostRuntime,
 ) -> Result<(), Fail> {
-    let wrong = wrong_stops_of_the_log(&rt, rt.alloc())?;
-    assert_eq!(rt; wrong.as_slice(), &[] as &[u64]);
+    assert_eq!(rt; wrong_stop_of_the_log(&rt, rt.alloc())?, None);
     Ok(())
 }
 
-/// The counts of calls after which the database stops and the desk has other edits than the first.
-fn wrong_stops_of_the_database<R: Wait + Sync>(rt: &R, alloc: Global) -> Result<Vec<u64>, Fail> {
-    let mut wrong = Vec::new(alloc);
+/// The first count of calls after which the database stops and the desk has other edits than the first.
+fn wrong_stop_of_the_database<R: Wait + Sync>(rt: &R, alloc: Global) -> Result<Option<u64>, Fail> {
     for calls in 0..16u64 {
         if !tried(rt, alloc, u64::MAX, calls)?.0 {
-            wrong.push(calls)?;
+            return Ok(Some(calls));
         }
     }
-    Ok(wrong)
+    Ok(None)
 }
 
 #[test]
 fn a_stop_at_a_first_call_of_the_database_leaves_the_first_edits_and_all_that_were_acknowledged(
     rt: HostRuntime,
 ) -> Result<(), Fail> {
-    let wrong = wrong_stops_of_the_database(&rt, rt.alloc())?;
-    assert_eq!(rt; wrong.as_slice(), &[] as &[u64]);
+    assert_eq!(rt; wrong_stop_of_the_database(&rt, rt.alloc())?, None);
     Ok(())
 }

@@ -3,7 +3,7 @@ ghost use Rattle.sqlite_disk.specs.Memory.{memory_is_usable};
 
 use desk_edge::{Change, KeepFault, Keeper, Key, Record};
 use desk_sqlite::SqlKeeper;
-use sqlite::{Alter, Connection, Error, FileStore, Files, MemStore, Options};
+use sqlite::{Alter, Connection, Error, FileStore, Files, Leftover, MemStore, Options};
 use sqlite_disk::{Disk, Fuse, Memory};
 use std::alloc::Global;
 use std::test::Fail;
@@ -57,36 +57,63 @@ pub(crate) fn run<S: Alter>(conn: &mut Connection<S>, sql: &str) -> Result<usize
     conn.execute(sql, &[])
 }
 
-/// A store on these disks.
-fn opened<D: Disk + Drop>(
+/// The disks that an opening left.
+fn files_left<D: Disk>(left: Leftover<D>) -> Files<D> {
+    left.into_files()
+}
+
+/// A connection to the store on these disks.
+fn connected<D: Disk + Drop>(
     alloc: Global,
     log: D,
     db: D,
-) -> Result<SqlKeeper<FileStore<D>>, (Error, Files<D>)>
+) -> Result<Connection<FileStore<D>>, (Error, Files<D>)>
     requires { IsTrue (D.Disk.is_usable log) × IsTrue (D.Disk.is_usable db) }
 {
     match Connection::open_files(alloc, Files { log, db }, Options::new(1)) {
-        Ok(conn) => Ok(SqlKeeper::adopt(conn)),
-        Err((error, left)) => Err((error, left.into_files())),
+        Ok(conn) => Ok(conn),
+        Err((error, left)) => Err((error, files_left(left))),
     }
+}
+
+/// A keeper over the database of the connection, which is made ready.
+fn made_ready<S: Alter + Drop>(conn: Connection<S>) -> Result<SqlKeeper<S>, Fail> {
+    let mut keeper = adopted(conn);
+    ready(&mut keeper)?;
+    Ok(keeper)
 }
 
 /// A store on these disks that is ready.
 fn ready_on<D: Disk + Drop>(alloc: Global, log: D, db: D) -> Result<SqlKeeper<FileStore<D>>, Fail>
     requires { IsTrue (D.Disk.is_usable log) × IsTrue (D.Disk.is_usable db) }
 {
-    match opened(alloc, log, db) {
-        Ok(mut keeper) => {
-            keeper.ready()?;
-            Ok(keeper)
-        }
+    match connected(alloc, log, db) {
+        Ok(conn) => made_ready(conn),
         Err((error, _)) => Err(Fail::from(error)),
     }
 }
 
+/// The store of a keeper that ends.
+pub(crate) fn stored<S: Alter + Drop>(keeper: SqlKeeper<S>) -> S {
+    keeper.release().into_store()
+}
+
 /// The disks of a store that is closed.
-pub(crate) fn closed<D: Disk + Drop>(keeper: SqlKeeper<FileStore<D>>) -> Files<D> {
-    keeper.release().into_store().close()
+pub(crate) fn disks_of<D: Disk>(store: FileStore<D>) -> Files<D> {
+    store.close()
+}
+
+/// A keeper whose store can be closed, and opened again on copies of its disks. A step that is written for any such keeper is cheaper
+/// to prove than one over disks.
+pub(crate) trait Reopen: Keeper + Drop {
+    fn reopened(self, alloc: Global) -> Result<Self, Fail>;
+}
+
+impl Reopen for SqlKeeper<FileStore<Memory>> {
+    fn reopened(self, alloc: Global) -> Result<SqlKeeper<FileStore<Memory>>, Fail> {
+        let disks = disks_of(stored(self));
+        store_of(alloc, &disks.log, &disks.db)
+    }
 }
 
 /// A store on two new disks.
@@ -130,8 +157,8 @@ pub(crate) fn stopping_store(
 ) -> Result<SqlKeeper<FileStore<Fuse<Memory>>>, Files<Fuse<Memory>>> {
     let log = Fuse::new(Memory::new(alloc), log_calls);
     let db = Fuse::new(Memory::new(alloc), db_calls);
-    match opened(alloc, log, db) {
-        Ok(keeper) => Ok(keeper),
+    match connected(alloc, log, db) {
+        Ok(conn) => Ok(adopted(conn)),
         Err((_, files)) => Err(files),
     }
 }

@@ -1,38 +1,65 @@
 use crate::stores::{
-    adopted, closed, commit, faults, in_memory, is_ours, new_store, next, ready, released, run,
-    stopping_store, store_of,
+    adopted, commit, disks_of, faults, in_memory, is_ours, new_store, next, ready, released, run,
+    stopping_store, store_of, stored,
 };
 use desk_edge::{Change, KeepFault, Key, Record};
 use desk_sqlite::SqlKeeper;
-use desk_text::Bytes;
-use sqlite::{Alter, Files};
+use desk_text::{Bytes, OutOfMemory};
+use sqlite::{Alter, Connection, Files};
 use sqlite_disk::{Fuse, Memory};
 use std::alloc::Global;
 use std::test::Fail;
 
-fn bytes(alloc: Global, text: &[u8]) -> Result<Bytes, Fail> {
+// The steps are written for any store, and take it, so that the proof of a test does not carry what a store is made of.
+
+/// A kind, a code, and the body that is put, or none where the record is dropped.
+type Told = (u8, &'static str, Option<&'static str>);
+
+/// A failure that says what is wrong, unless it holds.
+fn check(holds: bool, what: &'static str) -> Result<(), Fail> {
+    if holds { Ok(()) } else { Err(Fail::new(what)) }
+}
+
+fn bytes(alloc: Global, text: &str) -> Result<Bytes, OutOfMemory> {
     let mut bytes = Bytes::start(alloc);
-    bytes.push_all(text)?;
+    bytes.push_all(text.as_bytes())?;
     Ok(bytes)
 }
 
-fn key(alloc: Global, kind: u8, code: &[u8]) -> Result<Key, Fail> {
-    Ok(Key {
-        kind,
-        code: bytes(alloc, code)?,
-    })
+fn key(alloc: Global, kind: u8, code: &str) -> Result<Key, OutOfMemory> {
+    let code = bytes(alloc, code)?;
+    Ok(Key { kind, code })
 }
 
-fn kept(alloc: Global, kind: u8, code: &[u8], body: &[u8]) -> Result<Record, Fail> {
-    Ok(Record {
-        kind,
-        code: bytes(alloc, code)?,
-        body: bytes(alloc, body)?,
-    })
+fn record(alloc: Global, kind: u8, code: &str, body: &str) -> Result<Record, OutOfMemory> {
+    let code = bytes(alloc, code)?;
+    let body = bytes(alloc, body)?;
+    Ok(Record { kind, code, body })
 }
 
-fn put(alloc: Global, kind: u8, code: &[u8], body: &[u8]) -> Result<Change, Fail> {
-    Ok(Change::Put(kept(alloc, kind, code, body)?))
+fn change(alloc: Global, told: &Told) -> Result<Change, OutOfMemory> {
+    let (kind, code, body) = *told;
+    match body {
+        Some(body) => Ok(Change::Put(record(alloc, kind, code, body)?)),
+        None => Ok(Change::Drop(key(alloc, kind, code)?)),
+    }
+}
+
+/// Keeps these changes as one batch.
+fn keep<S: Alter>(keeper: &mut SqlKeeper<S>, alloc: Global, rows: &[Told]) -> Result<(), Fail> {
+    let mut batch = Vec::new(alloc);
+    for told in rows {
+        batch.push(change(alloc, told)?)?;
+    }
+    commit(keeper, alloc, batch.as_slice())?;
+    Ok(())
+}
+
+/// The record in a line.
+fn line(alloc: Global, found: &Record) -> Result<String, Fail> {
+    let code = String::from_utf8_lossy(alloc, found.code.as_slice())?;
+    let body = String::from_utf8_lossy(alloc, found.body.as_slice())?;
+    Ok(format!(in alloc; "{} {code} {body}\n", found.kind)?)
 }
 
 /// Writes what the keeper has, a line a record.
@@ -43,9 +70,7 @@ fn listed<S: Alter>(keeper: &mut SqlKeeper<S>, alloc: Global) -> Result<String, 
         let Some(found) = next(keeper, alloc, after.as_ref())? else {
             return Ok(lines);
         };
-        let code = String::from_utf8_lossy(alloc, found.code.as_slice())?;
-        let body = String::from_utf8_lossy(alloc, found.body.as_slice())?;
-        lines.push_str(format!(in alloc; "{} {code} {body}\n", found.kind)?.as_str())?;
+        lines.push_str(line(alloc, &found)?.as_str())?;
         after = Some(Key {
             kind: found.kind,
             code: found.code,
@@ -54,78 +79,86 @@ fn listed<S: Alter>(keeper: &mut SqlKeeper<S>, alloc: Global) -> Result<String, 
     Ok(lines)
 }
 
+/// Fails unless the keeper has these records, a line a record, and says which it has.
+fn has<S: Alter>(keeper: &mut SqlKeeper<S>, alloc: Global, lines: &str) -> Result<(), Fail> {
+    let found = listed(keeper, alloc)?;
+    if found.as_str() == lines {
+        return Ok(());
+    }
+    Err(Fail::new(format_args!("the keeper has {}", found.as_str())))
+}
+
+/// Fails unless the keeper counted so many faults, and says how many it did.
+fn counted<S: Alter>(keeper: &SqlKeeper<S>, count: u64) -> Result<(), Fail> {
+    let found = faults(keeper);
+    if found == count {
+        return Ok(());
+    }
+    Err(Fail::new(format_args!("{found} faults")))
+}
+
+fn keeps_order<S: Alter>(keeper: &mut SqlKeeper<S>, alloc: Global) -> Result<(), Fail> {
+    ready(keeper)?;
+    keep(
+        keeper,
+        alloc,
+        &[
+            (2, "b", Some("first")),
+            (2, "a", Some("")),
+            (1, "z", Some("x")),
+            (255, "a", Some("last")),
+            (2, "b", Some("second")),
+        ],
+    )?;
+    has(keeper, alloc, "1 z x\n2 a \n2 b second\n255 a last\n")?;
+    keep(keeper, alloc, &[(2, "a", None), (9, "a", None)])?;
+    has(keeper, alloc, "1 z x\n2 b second\n255 a last\n")?;
+    counted(keeper, 0)
+}
+
 #[test]
 fn records_come_by_kind_and_then_by_the_bytes_of_the_code(rt: HostRuntime) -> Result<(), Fail> {
-    let alloc = rt.alloc();
-    let mut keeper = adopted(in_memory(alloc)?);
-    ready(&mut keeper)?;
-    let batch = vec![in alloc;
-        put(alloc, 2, b"b", b"first")?,
-        put(alloc, 2, b"a", b"")?,
-        put(alloc, 1, b"z", b"x")?,
-        put(alloc, 255, b"a", b"last")?,
-        put(alloc, 2, b"b", b"second")?,
-    ]?;
-    commit(&mut keeper, alloc, batch.as_slice())?;
-    assert_eq!(rt;
-        listed(&mut keeper, alloc)?.as_str(),
-        "1 z x\n2 a \n2 b second\n255 a last\n"
-    );
-    let batch = vec![in alloc;
-        Change::Drop(key(alloc, 2, b"a")?),
-        Change::Drop(key(alloc, 9, b"a")?),
-    ]?;
-    commit(&mut keeper, alloc, batch.as_slice())?;
-    assert_eq!(rt;
-        listed(&mut keeper, alloc)?.as_str(),
-        "1 z x\n2 b second\n255 a last\n"
-    );
-    assert_eq!(rt; faults(&keeper), 0);
-    Ok(())
+    let mut keeper = adopted(in_memory(rt.alloc())?);
+    keeps_order(&mut keeper, rt.alloc())
+}
+
+/// The store of a keeper that took one batch.
+fn store_with_two_records<S: Alter + Drop>(
+    alloc: Global,
+    mut keeper: SqlKeeper<S>,
+) -> Result<S, Fail> {
+    keep(
+        &mut keeper,
+        alloc,
+        &[(1, "a", Some("one")), (3, "b", Some("two"))],
+    )?;
+    Ok(stored(keeper))
 }
 
 /// The log and the database of a store that took one batch.
 fn files_with_two_records(alloc: Global) -> Result<Files<Memory>, Fail> {
-    let mut keeper = new_store(alloc)?;
-    let batch = vec![in alloc; put(alloc, 1, b"a", b"one")?, put(alloc, 3, b"b", b"two")?]?;
-    commit(&mut keeper, alloc, batch.as_slice())?;
-    Ok(closed(keeper))
+    let store = store_with_two_records(alloc, new_store(alloc)?)?;
+    Ok(disks_of(store))
+}
+
+fn has_two_records<S: Alter>(keeper: &mut SqlKeeper<S>, alloc: Global) -> Result<(), Fail> {
+    check(is_ours(keeper), "the files are no store of ours")?;
+    has(keeper, alloc, "1 a one\n3 b two\n")
 }
 
 #[test]
 fn what_was_kept_is_there_when_the_files_are_opened_again(rt: HostRuntime) -> Result<(), Fail> {
-    let alloc = rt.alloc();
-    let files = files_with_two_records(alloc)?;
-    let mut keeper = store_of(alloc, &files.log, &files.db)?;
-    assert!(rt; is_ours(&keeper));
-    assert_eq!(rt; listed(&mut keeper, alloc)?.as_str(), "1 a one\n3 b two\n");
-    Ok(())
-}
-
-/// Keeps one record after the other over a log and a database that pass so many calls on, up to the first that is refused. It gives how
-/// many were acknowledged, and what is left of the two.
-fn filled_until_a_stop(
-    alloc: Global,
-    log_calls: u64,
-    db_calls: u64,
-) -> Result<(u8, Files<Fuse<Memory>>), Fail> {
-    let mut keeper = match stopping_store(alloc, log_calls, db_calls) {
-        Ok(keeper) => keeper,
-        Err(files) => return Ok((0, files)),
-    };
-    let mut acknowledged = 0u8;
-    if ready(&mut keeper).is_ok() {
-        acknowledged = filled(&mut keeper, alloc)?;
-    }
-    Ok((acknowledged, closed(keeper)))
+    let files = files_with_two_records(rt.alloc())?;
+    let mut keeper = store_of(rt.alloc(), &files.log, &files.db)?;
+    has_two_records(&mut keeper, rt.alloc())
 }
 
 /// Keeps one batch after the other, up to the first that is refused. It gives how many were acknowledged.
 fn filled<S: Alter>(keeper: &mut SqlKeeper<S>, alloc: Global) -> Result<u8, Fail> {
     for kind in 0..4u8 {
         let batch = vec![in alloc;
-            put(alloc, kind, b"a", b"x")?,
-            put(alloc, kind, b"b", b"y")?,
+            change(alloc, &(kind, "a", Some("x")))?,
+            change(alloc, &(kind, "b", Some("y")))?,
         ]?;
         if commit(keeper, alloc, batch.as_slice()).is_err() {
             return Ok(kind);
@@ -134,120 +167,185 @@ fn filled<S: Alter>(keeper: &mut SqlKeeper<S>, alloc: Global) -> Result<u8, Fail
     Ok(4)
 }
 
+/// Makes the store ready and fills it up to the first batch that is refused. It gives how many were acknowledged, and the store.
+fn filled_store<S: Alter + Drop>(alloc: Global, mut keeper: SqlKeeper<S>) -> Result<(u8, S), Fail> {
+    let mut acknowledged = 0u8;
+    if ready(&mut keeper).is_ok() {
+        acknowledged = filled(&mut keeper, alloc)?;
+    }
+    Ok((acknowledged, stored(keeper)))
+}
+
+/// Fills a store over a log and a database that pass so many calls on. It gives how many batches were acknowledged, and what is left
+/// of the two.
+fn filled_until_a_stop(
+    alloc: Global,
+    log_calls: u64,
+    db_calls: u64,
+) -> Result<(u8, Files<Fuse<Memory>>), Fail> {
+    match stopping_store(alloc, log_calls, db_calls) {
+        Ok(keeper) => {
+            let (acknowledged, store) = filled_store(alloc, keeper)?;
+            Ok((acknowledged, disks_of(store)))
+        }
+        Err(files) => Ok((0, files)),
+    }
+}
+
 /// The records of the two files as they stand after a stop.
-fn listed_after(alloc: Global, files: Files<Fuse<Memory>>) -> Result<String, Fail> {
+fn listed_after(alloc: Global, files: &Files<Fuse<Memory>>) -> Result<String, Fail> {
     let mut keeper = store_of(alloc, files.log.inner(), files.db.inner())?;
     listed(&mut keeper, alloc)
 }
 
+/// The lines of no batch, of the first one, of the first two and so on.
+const WHOLE: [&str; 5] = [
+    "",
+    "0 a x\n0 b y\n",
+    "0 a x\n0 b y\n1 a x\n1 b y\n",
+    "0 a x\n0 b y\n1 a x\n1 b y\n2 a x\n2 b y\n",
+    "0 a x\n0 b y\n1 a x\n1 b y\n2 a x\n2 b y\n3 a x\n3 b y\n",
+];
+
 /// Whether the lines are those of the first batches, each whole, and of all that were acknowledged.
 fn are_first_batches(lines: &str, acknowledged: u8) -> bool {
-    match lines {
-        "" => acknowledged == 0,
-        "0 a x\n0 b y\n" => acknowledged <= 1,
-        "0 a x\n0 b y\n1 a x\n1 b y\n" => acknowledged <= 2,
-        "0 a x\n0 b y\n1 a x\n1 b y\n2 a x\n2 b y\n" => acknowledged <= 3,
-        "0 a x\n0 b y\n1 a x\n1 b y\n2 a x\n2 b y\n3 a x\n3 b y\n" => true,
-        _ => false,
+    WHOLE
+        .iter()
+        .skip(usize::from(acknowledged))
+        .any(|whole| *whole == lines)
+}
+
+/// Whether a stop after so many calls leaves whole batches, and all that were acknowledged.
+fn is_whole_after(alloc: Global, log_calls: u64, db_calls: u64) -> Result<bool, Fail> {
+    let (acknowledged, left) = filled_until_a_stop(alloc, log_calls, db_calls)?;
+    let lines = listed_after(alloc, &left)?;
+    Ok(are_first_batches(lines.as_str(), acknowledged))
+}
+
+/// The first count of calls after which a stop of the log, or of the database, leaves something else.
+fn first_wrong_stop(alloc: Global) -> Result<Option<u64>, Fail> {
+    for calls in 0..6u64 {
+        let of_log = is_whole_after(alloc, calls, u64::MAX)?;
+        let of_database = is_whole_after(alloc, u64::MAX, calls)?;
+        if !of_log || !of_database {
+            return Ok(Some(calls));
+        }
     }
+    Ok(None)
 }
 
 #[test]
 fn a_stop_at_a_first_call_leaves_whole_batches_and_all_that_were_acknowledged(
     rt: HostRuntime,
 ) -> Result<(), Fail> {
-    let alloc = rt.alloc();
-    for calls in 0..6u64 {
-        for of_log in [true, false] {
-            let (log_calls, db_calls) = if of_log {
-                (calls, u64::MAX)
-            } else {
-                (u64::MAX, calls)
-            };
-            let (acknowledged, left) = filled_until_a_stop(alloc, log_calls, db_calls)?;
-            let lines = listed_after(alloc, left)?;
-            assert!(rt; are_first_batches(lines.as_str(), acknowledged));
-        }
-    }
+    assert_eq!(rt; first_wrong_stop(rt.alloc())?, None);
     Ok(())
+}
+
+/// Whether the keeper fails to give the record past the key.
+fn fails_to_give<S: Alter>(keeper: &mut SqlKeeper<S>, alloc: Global, after: Option<&Key>) -> bool {
+    next(keeper, alloc, after).err() == Some(KeepFault::Failed)
+}
+
+fn fails_until_ready<S: Alter>(keeper: &mut SqlKeeper<S>, alloc: Global) -> Result<(), Fail> {
+    check(fails_to_give(keeper, alloc, None), "a record is given")?;
+    let is_refused = commit(keeper, alloc, &[]) == Err(KeepFault::Failed);
+    check(is_refused, "a batch is kept")?;
+    counted(keeper, 2)?;
+    ready(keeper)?;
+    commit(keeper, alloc, &[])?;
+    counted(keeper, 2)
 }
 
 #[test]
 fn before_it_is_ready_each_call_is_a_counted_fault(rt: HostRuntime) -> Result<(), Fail> {
-    let alloc = rt.alloc();
-    let mut keeper = adopted(in_memory(alloc)?);
-    assert_eq!(rt;
-        next(&mut keeper, alloc, None).err(),
-        Some(KeepFault::Failed)
-    );
-    assert_eq!(rt; commit(&mut keeper, alloc, &[]), Err(KeepFault::Failed));
-    assert_eq!(rt; faults(&keeper), 2);
-    ready(&mut keeper)?;
-    commit(&mut keeper, alloc, &[])?;
-    assert_eq!(rt; faults(&keeper), 2);
+    let mut keeper = adopted(in_memory(rt.alloc())?);
+    fails_until_ready(&mut keeper, rt.alloc())
+}
+
+/// Makes the table of a store with two rows, of which the second is no record.
+fn fill_with_a_wrong_row<S: Alter>(conn: &mut Connection<S>) -> Result<(), Fail> {
+    run(
+        conn,
+        "CREATE TABLE record (kind INTEGER, code BLOB, body BLOB)",
+    )?;
+    run(
+        conn,
+        "INSERT INTO record VALUES (1, x'61', x'62'), (300, x'61', x'62')",
+    )?;
     Ok(())
+}
+
+fn gives_the_first_record_alone<S: Alter>(
+    keeper: &mut SqlKeeper<S>,
+    alloc: Global,
+) -> Result<(), Fail> {
+    ready(keeper)?;
+    let first = next(keeper, alloc, None)?;
+    let wanted = Some(record(alloc, 1, "a", "b")?);
+    check(first == wanted, "another first record")?;
+    let after = key(alloc, 1, "a")?;
+    let is_fault = fails_to_give(keeper, alloc, Some(&after));
+    check(is_fault, "the wrong row is given")?;
+    counted(keeper, 1)
 }
 
 #[test]
 fn a_row_that_is_no_record_is_a_counted_fault(rt: HostRuntime) -> Result<(), Fail> {
-    let alloc = rt.alloc();
-    let mut conn = in_memory(alloc)?;
-    run(
-        &mut conn,
-        "CREATE TABLE record (kind INTEGER, code BLOB, body BLOB)",
-    )?;
-    run(
-        &mut conn,
-        "INSERT INTO record VALUES (1, x'61', x'62'), (300, x'61', x'62')",
-    )?;
+    let mut conn = in_memory(rt.alloc())?;
+    fill_with_a_wrong_row(&mut conn)?;
+    let mut keeper = adopted(conn);
+    gives_the_first_record_alone(&mut keeper, rt.alloc())
+}
+
+/// The connection of a keeper that is not made ready.
+fn unready<S: Alter + Drop>(mut keeper: SqlKeeper<S>) -> Result<Connection<S>, Fail> {
+    let is_refused = ready(&mut keeper) == Err(KeepFault::Failed);
+    check(is_refused, "made ready inside a transaction")?;
+    counted(&keeper, 1)?;
+    Ok(released(keeper))
+}
+
+fn is_ready_behind_a_transaction<S: Alter + Drop>(mut conn: Connection<S>) -> Result<(), Fail> {
+    run(&mut conn, "BEGIN")?;
+    let mut conn = unready(adopted(conn))?;
+    run(&mut conn, "ROLLBACK")?;
     let mut keeper = adopted(conn);
     ready(&mut keeper)?;
-    let first = next(&mut keeper, alloc, None)?;
-    assert_eq!(rt; first, Some(kept(alloc, 1, b"a", b"b")?));
-    let after = key(alloc, 1, b"a")?;
-    assert_eq!(rt;
-        next(&mut keeper, alloc, Some(&after)).err(),
-        Some(KeepFault::Failed)
-    );
-    assert_eq!(rt; faults(&keeper), 1);
-    Ok(())
+    counted(&keeper, 0)
 }
 
 #[test]
 fn a_connection_inside_a_transaction_is_not_made_ready(rt: HostRuntime) -> Result<(), Fail> {
-    let alloc = rt.alloc();
-    let mut conn = in_memory(alloc)?;
-    run(&mut conn, "BEGIN")?;
-    let mut keeper = adopted(conn);
-    assert_eq!(rt; ready(&mut keeper), Err(KeepFault::Failed));
-    assert_eq!(rt; faults(&keeper), 1);
-    let mut conn = released(keeper);
-    run(&mut conn, "ROLLBACK")?;
+    is_ready_behind_a_transaction(in_memory(rt.alloc())?)
+}
+
+fn becomes_ours<S: Alter>(keeper: &mut SqlKeeper<S>, alloc: Global) -> Result<(), Fail> {
+    check(!is_ours(keeper), "ours before it is ready")?;
+    ready(keeper)?;
+    check(is_ours(keeper), "not ours once it is ready")?;
+    has(keeper, alloc, "")?;
+    keep(keeper, alloc, &[(7, "a", Some("one"))])?;
+    ready(keeper)?;
+    check(is_ours(keeper), "not ours with a record")
+}
+
+fn is_not_ours_with_a_second_table<S: Alter + Drop>(
+    mut conn: Connection<S>,
+    alloc: Global,
+) -> Result<(), Fail> {
+    run(&mut conn, "CREATE TABLE other (x)")?;
     let mut keeper = adopted(conn);
     ready(&mut keeper)?;
-    assert_eq!(rt; faults(&keeper), 0);
-    Ok(())
+    check(!is_ours(&keeper), "ours with a second table")?;
+    has(&mut keeper, alloc, "7 a one\n")
 }
 
 #[test]
 fn a_new_database_is_found_to_be_a_store_and_one_with_a_second_table_is_not(
     rt: HostRuntime,
 ) -> Result<(), Fail> {
-    let alloc = rt.alloc();
-    let mut keeper = adopted(in_memory(alloc)?);
-    assert!(rt; !is_ours(&keeper));
-    ready(&mut keeper)?;
-    assert!(rt; is_ours(&keeper));
-    assert_eq!(rt; listed(&mut keeper, alloc)?.as_str(), "");
-    let batch = vec![in alloc; put(alloc, 7, b"a", b"one")?]?;
-    commit(&mut keeper, alloc, batch.as_slice())?;
-    ready(&mut keeper)?;
-    assert!(rt; is_ours(&keeper));
-    let mut conn = released(keeper);
-    run(&mut conn, "CREATE TABLE other (x)")?;
-    let mut keeper = adopted(conn);
-    ready(&mut keeper)?;
-    assert!(rt; !is_ours(&keeper));
-    assert_eq!(rt; listed(&mut keeper, alloc)?.as_str(), "7 a one\n");
-    Ok(())
+    let mut keeper = adopted(in_memory(rt.alloc())?);
+    becomes_ours(&mut keeper, rt.alloc())?;
+    is_not_ours_with_a_second_table(released(keeper), rt.alloc())
 }
