@@ -5,7 +5,7 @@
 # of the program's crates. What was changed is told by the time of the last change of any kind, of files and of
 # folders, which no copy and no `touch` sets back.
 
-program=desk_top
+program=desk_main
 built=$top/out/desk
 stamp=$top/out/desk.sources
 

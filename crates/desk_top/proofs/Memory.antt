@@ -9,7 +9,7 @@ use Rattle.desk_top.specs.Sample.{answer_to_sample}
 use Rattle.desk_top.specs.Session.{nothing_kept}
 use Rattle.desk_top.specs.Store.{WasNotBegun}
 use Rattle.desk_top.specs.declared.status.Status.TheVariants as status
-use Rattle.desk_words.specs.declared.command.Check.{Check}
+use Rattle.desk_law.specs.declared.kind_on_day.KindOnDay.{KindOnDay}
 use Rattle.desk_words.specs.declared.command.Command.{Command}
 use Rattle.desk_words.specs.declared.command.Command.TheVariants as asked
 use Rattle.desk_top.proofs.Input.{some_input}
@@ -33,7 +33,7 @@ module _ (console : Console) (rose : Type 0) (stays : console.left ≡ console.u
       unbegun Tells kept kept 0 (status_code status.OutOfMemory) answer_without_memory console rose (inr (inr refl)) (inl refl) told
       (keeps_of console.unread console.left stays) (λ tells key. refl)
 
-  unchecked : (check : Check) → IsAnswered check (status_code status.OutOfMemory) console rose
+  unchecked : (check : KindOnDay) → IsAnswered check (status_code status.OutOfMemory) console rose
   unchecked check =
       let (input, is) = some_input console.unread in record {
         input = input;

@@ -14,7 +14,7 @@ use Rattle.desk_history.specs.Refused.{refused}
 use Rattle.desk_scratch.specs.CheckText.{check_text}
 use Rattle.desk_scratch.specs.MaterialBlock.{material_block, rule_line}
 use Rattle.desk_top.specs.Check.{text_unless}
-use Rattle.desk_words.specs.declared.command.Check.{Check}
+use Rattle.desk_law.specs.declared.kind_on_day.KindOnDay.{KindOnDay}
 
 -- the text on a declaration is the same before it and after it
 pub text_after : (t : Lists) (kind : Kind) (day : Date) (d : Declared) → check_text (entered t (Declare d)) kind day d ≡ check_text t kind day d
@@ -22,7 +22,7 @@ unfolding entered made check_text material_block rule_line share verdict_on
 text_after t kind day d = refl
 
 -- so the text over the start tables is the one that is meant
-pub text_told : (check : Check) (t : Lists) (d found : Declared) (edit : Edit) (text : List ℕ) → t ≡ start → edit ≡ Declare d → edit ≡ Declare found
+pub text_told : (check : KindOnDay) (t : Lists) (d found : Declared) (edit : Edit) (text : List ℕ) → t ≡ start → edit ≡ Declare d → edit ≡ Declare found
     → None ≡ refused start (Declare d) → text ≡ check_text t check.kind check.day d → text_unless check found (refused start (Declare found)) ≡ Ok text
 text_told check t d found edit text tables is also free e =
     let same : d ≡ found = cc in

@@ -10,13 +10,13 @@ use Rattle.desk_scratch.specs.Summary.{summary_text}
 use Rattle.desk_clerk.specs.declared.open_fault.OpenFault.{OpenFault}
 use Rattle.desk_clerk.specs.declared.open_fault.OpenFault.TheVariants as opening
 use Rattle.desk_top.specs.Check.{checked}
-use Rattle.desk_words.specs.declared.command.Check.{Check}
+use Rattle.desk_law.specs.declared.kind_on_day.KindOnDay.{KindOnDay}
 use Rattle.desk_top.specs.declared.refusal.Refusal.{Refusal}
 use Rattle.desk_top.specs.declared.refusal.Refusal.TheVariants.{InputTooLong, BadDeclaration, Rule}
 use Rattle.desk_top.specs.declared.status.Status.{Status}
 use Rattle.desk_top.specs.declared.status.Status.TheVariants.{Done, BadWords, ConsoleFault, StoreFault, Damaged, Refused, OutOfMemory}
-use Rattle.desk_top.specs.declared.words.WordsFault.{WordsFault}
-use Rattle.desk_top.specs.declared.words.WordsFault.TheVariants as unread
+use Rattle.desk_top.specs.declared.program_words.WordsFault.{WordsFault}
+use Rattle.desk_top.specs.declared.program_words.WordsFault.TheVariants as unread
 
 -- the exit statuses by number; there are no others
 abbrev pub status_code : Status → ℕ
@@ -105,7 +105,7 @@ IsInput None input = Unit {0}
 IsInput (Some told) input = input ≡ told
 
 -- the answer to a check for the bytes that come
-abbrev pub answer_to_check : Check → List ℕ → Answer
+abbrev pub answer_to_check : KindOnDay → List ℕ → Answer
 answer_to_check check bytes = answer_of_check (checked check bytes)
 
 -- what is written where the program ends with this status: the answer's text, or the line that memory was wanting

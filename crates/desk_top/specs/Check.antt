@@ -11,7 +11,7 @@ use Rattle.desk_declare.specs.declared.declare_fault.DeclareFault.{DeclareFault}
 use Rattle.desk_scratch.specs.CheckText.{check_text}
 use Rattle.desk_top.specs.declared.check.CheckFault.{CheckFault}
 use Rattle.desk_top.specs.declared.check.CheckFault.TheVariants.{Refused, Failed, OutOfMemory}
-use Rattle.desk_words.specs.declared.command.Check.{Check}
+use Rattle.desk_law.specs.declared.kind_on_day.KindOnDay.{KindOnDay}
 use Rattle.desk_top.specs.declared.refusal.Refusal.{Refusal}
 use Rattle.desk_top.specs.declared.refusal.Refusal.TheVariants.{InputTooLong, BadDeclaration, Rule}
 
@@ -20,17 +20,17 @@ abbrev pub input_limit : ℕ
 input_limit = 65536
 
 -- the text on a declaration, over the start tables with it entered, unless a rule refuses it there
-abbrev pub text_unless : Check → Declared → Option RuleFault → Result (List ℕ) Refusal
+abbrev pub text_unless : KindOnDay → Declared → Option RuleFault → Result (List ℕ) Refusal
 text_unless check d (Some fault) = Err (Rule fault)
 text_unless check d None = Ok (check_text (entered start (Declare d)) check.kind check.day d)
 
 -- what the start tables say of a declaration that was read, or the fault of bytes that are none
-abbrev pub judged : Check → Result Declared DeclareFault → Result (List ℕ) Refusal
+abbrev pub judged : KindOnDay → Result Declared DeclareFault → Result (List ℕ) Refusal
 judged check (Err fault) = Err (BadDeclaration fault)
 judged check (Ok d) = text_unless check d (refused start (Declare d))
 
 -- the text for the bytes of an input, or why there is none
-unfoldable pub checked : Check → List ℕ → Result (List ℕ) Refusal
+unfoldable pub checked : KindOnDay → List ℕ → Result (List ℕ) Refusal
 checked check bytes = if nat_lt input_limit (length bytes) then Err InputTooLong else judged check (declared_of bytes)
 
 -- a call's answer is the one that is meant, unless memory was wanting

@@ -13,13 +13,13 @@ use Rattle.desk_top.specs.Session.{EndsSession, nothing_kept}
 use Rattle.desk_top.specs.Store.{OnStore}
 use Rattle.desk_top.specs.declared.status.Status.TheVariants.{Done, ConsoleFault}
 use Rattle.desk_words.specs.Commands.{command_of}
-use Rattle.desk_words.specs.declared.command.Check.{Check}
+use Rattle.desk_law.specs.declared.kind_on_day.KindOnDay.{KindOnDay}
 use Rattle.desk_words.specs.declared.command.Command.{Command}
 use Rattle.desk_words.specs.declared.command.Command.TheVariants as asked
 
 -- The status and the whole text are the ones that are meant for the input. No byte past the one after the limit is asked for, and that
 -- one is never followed by the status of a console's fault.
-pub record IsAnswered (check : Check) (ended : ℕ) (c : Console) (rose : Type 0) : Type 0 where
+pub record IsAnswered (check : KindOnDay) (ended : ℕ) (c : Console) (rose : Type 0) : Type 0 where
   pub input : List ℕ
   pub is : IsInput c.unread input
   pub answers : Answers (answer_to_check check input) ended c.before c.after rose

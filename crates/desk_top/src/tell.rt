@@ -4,8 +4,8 @@ ghost use Rattle.desk_edge.specs.Faults.{Rose};
 ghost use Rattle.desk_edge.specs.Transfer.{AppendsBeginning, AppendsPart};
 ghost use Rattle.desk_top.specs.Answer.{Answers, answer_to_other_words, answer_to_store_fault, answer_to_unread_words, answer_without_memory, status_code};
 
+use crate::program_words::WordsFault;
 use crate::status::Status;
-use crate::words::WordsFault;
 use desk_edge::{Failed, Link, write_all};
 use itoa::Buffer;
 

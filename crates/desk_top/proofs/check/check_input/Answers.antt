@@ -11,12 +11,12 @@ use Rattle.desk_top.specs.Check.{Agrees, checked, input_limit}
 use Rattle.desk_top.specs.Faults.{from_read_fault}
 use Rattle.desk_top.specs.declared.check.CheckFault.{CheckFault}
 use Rattle.desk_top.specs.declared.check.CheckFault.TheVariants.{Failed}
-use Rattle.desk_words.specs.declared.command.Check.{Check}
+use Rattle.desk_law.specs.declared.kind_on_day.KindOnDay.{KindOnDay}
 use Rattle.desk_top.proofs.Input.{some_input}
 use Rattle.desk_top.proofs.check.check_input.Goals as goal
 
 -- all that a link tells was read, or enough of it to know that it is too long
-read-enough : (check : Check) (old new : Option (List ℕ)) (bytes : List ℕ) (result : Result (List ℕ) CheckFault)
+read-enough : (check : KindOnDay) (old new : Option (List ℕ)) (bytes : List ℕ) (result : Result (List ℕ) CheckFault)
     → Consumes old new bytes → (length bytes ≤ input_limit → IsAtEnd new) → Agrees result (checked check bytes)
     → (input : List ℕ) × IsInput old input × (result ≢ Err Failed → Agrees result (checked check input))
 unfolding checked
@@ -35,7 +35,7 @@ read-enough check (Some told) (Some left) bytes result taken end agrees = (told,
         rw longer (rw long at agrees)
 
 -- after a fault of reading nothing is answered, and want of memory is an answer to any input
-no-answer : (check : Check) (input : List ℕ) (fault : ReadFault) (result : Result (List ℕ) CheckFault) → IsErrAnd result (λ e. e ≡ from_read_fault fault)
+no-answer : (check : KindOnDay) (input : List ℕ) (fault : ReadFault) (result : Result (List ℕ) CheckFault) → IsErrAnd result (λ e. e ≡ from_read_fault fault)
     → result ≢ Err Failed → Agrees result (checked check input)
 no-answer check input fault (Ok text) is other = absurd is
 no-answer check input read.Failed (Err e) is other = absurd (other (ap Err is))

@@ -1,8 +1,7 @@
-use crate::run::launch;
 use crate::session_steps::{check, outcome_over};
-use crate::words::{WordsFault, words};
 use desk_edge::{Link, MapShelf, MemoryLink, Shelf};
 use desk_text::Bytes;
+use desk_top::{WordsFault, launch, words};
 use std::alloc::Global;
 use std::env::{Env, FillError};
 use std::sync::Wait;

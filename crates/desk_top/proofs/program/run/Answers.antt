@@ -2,7 +2,7 @@
 use Rattle.desk_edge.specs.Faults.{Rose}
 use Rattle.desk_top.specs.Console.{console_of}
 use Rattle.desk_top.proofs.Memory.{undone}
-use Rattle.desk_top.proofs.run.run.Goals as goal
+use Rattle.desk_top.proofs.program.run.Goals as goal
 
 pub returns-in-Err-OutOfMemory-clause-command : goal.returns-in-Err-OutOfMemory-clause-command
 returns-in-Err-OutOfMemory-clause-command g c command is =

@@ -1,8 +1,8 @@
 //! Steps of the tests of sessions.
 
-use crate::run::run;
 use desk_edge::{Link, MapShelf, MemoryLink, Shelf};
 use desk_text::Bytes;
+use desk_top::run;
 use std::alloc::Global;
 use std::fmt::Write;
 use std::sync::Wait;
