@@ -1,7 +1,6 @@
 -- Rows whose numbers are shown rising have numbers of their own.
-use Rattle.std.proofs.Common.{◌≡◌, ◌⊎◌, ◌++◌, ◌+◌, ◌<◌, inl, inr, ℕ, length, take, ℤ, List, [], ◌∷◌, map, flat_map, Bool, true, false, cond, Option, Some, None, IfSome, int_lt, refl, sym, ap, subst, ◌∙◌, true≢false}
-use Rattle.std.specs.List.{AllByRecursion, IsDistinct, slice_index_or}
-use Rattle.std.proofs.lemmas.List.{take_more}
+use Rattle.std.proofs.Common.{◌≡◌, ◌⊎◌, ◌++◌, inl, inr, ℤ, List, [], ◌∷◌, map, flat_map, Bool, true, false, cond, Option, Some, None, IfSome, int_lt, refl, sym, ap, subst, ◌∙◌, true≢false}
+use Rattle.std.specs.List.{AllByRecursion, IsDistinct}
 use Rattle.std.specs.Ordering.{is_eq, int_cmp, ordering_reverse}
 use Rattle.std.specs.declared.cmp.Ordering.{Ordering}
 use Rattle.std.specs.declared.cmp.Ordering.TheVariants.{Less, Equal, Greater}
@@ -18,7 +17,7 @@ use Rattle.sqlite_rules.proofs.ListLemmas.{all_has}
 use Rattle.sqlite_rules.proofs.ProbeLemmas.{mapped_has}
 use Rattle.sqlite_sql.specs.Term.{Env}
 use Rattle.sqlite_sql.specs.Query.{IsAnswer, Output, output}
-use Rattle.desk_sqlite.specs.Numbers.{AreRising, row_number}
+use Rattle.desk_sqlite.proofs.Numbers.{AreRising, row_number}
 use Rattle.desk_sqlite.specs.Rows.{AreNumbered}
 use Rattle.desk_sqlite.proofs.ListLemmas.{has_permuted, matched_has}
 use Rattle.desk_sqlite.proofs.TextLemmas.{numbers_query}
@@ -178,9 +177,5 @@ rising_push rows row n last rising up is low =
     number_for x (inl there) = rising.numbers x there
     number_for x (inr same) = subst (λ r. column r 0 ≡ Int (row_number r)) (sym same) (is ∙ ap Int (sym (ap id_in is)))
 
--- the next row of a list
-pub rising_more : (rows : List Row) (i : ℕ) (row : Row) (n : ℤ) (last : Option ℤ) → i < length rows → row ≡ slice_index_or rows i row → AreRising (take i rows) × IsUpTo (take i rows) last
-    → column row 0 ≡ Int n → IfSome last (λ m. int_lt m n ≡ true) → AreRising (take (i + 1) rows) × IsUpTo (take (i + 1) rows) (Some n)
-rising_more rows i row n last within at risen is low =
-    let more : take (i + 1) rows ≡ take i rows ++ row ∷ [] = take_more rows i row within ∙ ap (λ x. take i rows ++ x ∷ []) (sym at) in
-    subst (λ all. AreRising all × IsUpTo all (Some n)) (sym more) (rising_push (take i rows) row n last risen.0 risen.1 is low)
+pub none_rise : AreRising []
+none_rise = record { numbers = λ row there. absurd there; rise = tt }

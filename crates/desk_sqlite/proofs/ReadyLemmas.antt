@@ -8,7 +8,7 @@ use Rattle.sqlite.specs.Effect.{Database}
 use Rattle.sqlite.specs.Given.{IsPlain}
 use Rattle.sqlite.specs.Listing.{understood}
 use Rattle.sqlite.specs.State.{State, HasCleanDisk, IsUnchanged, ShowsRows, Shown}
-use Rattle.desk_sqlite.specs.Numbers.{AreRising}
+use Rattle.desk_sqlite.proofs.Numbers.{AreRising}
 use Rattle.desk_sqlite.specs.Rows.{AreNumbered}
 use Rattle.desk_sqlite.specs.Store.{IsOurs, Suits}
 use Rattle.desk_sqlite.specs.Texts.{numbers_text}
@@ -34,3 +34,7 @@ numbered_suits old new rows ours shown rising clean now =
       ours = subst (λ (d : Database). IsOurs d.schema) (sym same) ours;
       numbered = subst (λ (d : Database). AreNumbered (d.trees 0)) (sym same) (are_numbered (overlay old.now.trees []) rows (shows_numbers ours.0 ours.1 old new ours.2 rows (shown clean)) rising);
     }
+
+-- the numbers were read one at a time up to the last, and each was greater than the one before it
+pub read_suits : (first old new : State) (rows : List Row) → IsOurs first.now.schema → IsUnchanged first old → Shown numbers_text [] old new rows → AreRising rows → Suits new
+read_suits first old new rows ours same shown rising = numbered_suits old new rows (subst (λ (d : Database). IsOurs d.schema) (sym same.0.now_is) ours) (λ _. shown) rising

@@ -3,7 +3,6 @@ pub mod Table
 pub mod Rows
 pub mod Store
 pub mod Content
-pub mod Numbers
 pub mod Found
 pub mod Inside
 pub mod Keeping

@@ -1,9 +1,9 @@
 ghost use Rattle.std.specs.Prelude.{◌≡◌, None, IfOk};
 
-use crate::form::{is_new, is_ours};
 use crate::keeper::SqlKeeper;
 use desk_edge::{Change, KeepFault, Keeper, Key, Record};
 use sqlite::{Connection, Error, ErrorCode, File, FileStore};
+use sqlite_disk::Disk;
 use std::alloc::Global;
 use std::rt::HostRuntime;
 
@@ -12,38 +12,32 @@ use std::rt::HostRuntime;
 /// Which file a path finds, and who else writes it, no clause can tell: so it tells nothing of what it keeps. What its records are is
 /// proved of the keeper within, over any disk that a clause can speak of.
 #[derive(Drop)]
-pub struct FileKeeper {
-    keeper: SqlKeeper<FileStore<File>>,
+pub struct FileKeeper<D: Disk + Drop> {
+    keeper: SqlKeeper<FileStore<D>>,
 }
 
-impl FileKeeper {
+impl FileKeeper<File> {
     /// Opens the file and makes it ready; one that isn't there is made. `Failed` comes where the path isn't UTF-8 or the file can't be
     /// opened, as where it is no database or another process has it open, where the database is of somebody else, in which nothing is
     /// changed, or where it can't be made ready.
-    pub(crate) fn open(rt: &HostRuntime, path: &[u8]) -> Result<FileKeeper, KeepFault>
+    pub(crate) fn open(rt: &HostRuntime, path: &[u8]) -> Result<FileKeeper<File>, KeepFault>
         ensures { IfOk result (λ store. store.keeper.faults ≡ 0) }
     {
         let Ok(path) = std::str::from_utf8(path) else {
             return Err(KeepFault::Failed);
         };
-        let connection = match Connection::open(rt, path) {
-            Ok(connection) => connection,
-            Err(Error::SqliteFailure(ErrorCode::OutOfMemory)) => {
-                return Err(KeepFault::OutOfMemory);
-            }
-            Err(_) => return Err(KeepFault::Failed),
-        };
-        if !is_new(connection.schema()) && !is_ours(connection.schema()) {
-            return Err(KeepFault::Failed);
-        }
-        let mut keeper = SqlKeeper::adopt(connection);
-        match keeper.ready() {
-            Ok(()) if keeper.is_ours() => Ok(FileKeeper { keeper }),
-            Ok(()) => Err(KeepFault::Failed),
-            Err(fault) => Err(fault),
+        match Connection::open(rt, path) {
+            Ok(connection) => match SqlKeeper::over(connection) {
+                Ok(keeper) => Ok(FileKeeper { keeper }),
+                Err(fault) => Err(fault),
+            },
+            Err(Error::SqliteFailure(ErrorCode::OutOfMemory)) => Err(KeepFault::OutOfMemory),
+            Err(_) => Err(KeepFault::Failed),
         }
     }
+}
 
+impl<D: Disk + Drop> FileKeeper<D> {
     /// How many faults were counted.
     pub(crate) fn faults(&self) -> u64
         ensures { result ≡ self.now.keeper.faults }
@@ -61,7 +55,7 @@ impl FileKeeper {
     }
 }
 
-impl Keeper for FileKeeper {
+impl<D: Disk + Drop> Keeper for FileKeeper<D> {
     ghost faults = { λ k. k.keeper.faults };
 
     ghost Tells = { λ k. ⊥ };

@@ -1,4 +1,4 @@
-ghost use Rattle.std.specs.Prelude.{◌≡◌, ◌≢◌, ◌≤◌, false, true, Err, OnOk, IsErrOf, IsTrue};
+ghost use Rattle.std.specs.Prelude.{◌≡◌, ◌≢◌, ◌≤◌, false, true, Err, IfOk, OnOk, IsErrOf, IsTrue};
 ghost use Rattle.sqlite.specs.Held.{state};
 ghost use Rattle.sqlite.specs.State.{HasCleanDisk};
 ghost use Rattle.desk_edge.specs.Faults.{Rose};
@@ -7,6 +7,7 @@ ghost use Rattle.desk_sqlite.specs.Store.{rows_in};
 
 use crate::commit::commit_all;
 use crate::find::find_record;
+use crate::form::{is_new, is_ours};
 use crate::ready::make_ready;
 use desk_edge::{Change, KeepFault, Keeper, Key, Record};
 use sqlite::{Alter, Connection, Error, ErrorCode};
@@ -133,6 +134,24 @@ impl<S: Alter> SqlKeeper<S> {
         match error {
             Error::SqliteFailure(ErrorCode::OutOfMemory) => KeepFault::OutOfMemory,
             _ => self.fault(),
+        }
+    }
+}
+
+impl<S: Alter + Drop> SqlKeeper<S> {
+    /// A keeper over the database of the connection, made ready where the database is new or a store. `Failed` comes where it is of
+    /// somebody else, in which nothing is changed, or can't be made ready.
+    pub(crate) fn over(connection: Connection<S>) -> Result<SqlKeeper<S>, KeepFault>
+        ensures { IfOk result (λ keeper. keeper.faults ≡ 0) }
+    {
+        if !is_new(connection.schema()) && !is_ours(connection.schema()) {
+            return Err(KeepFault::Failed);
+        }
+        let mut keeper = SqlKeeper::adopt(connection);
+        match keeper.ready() {
+            Ok(()) if keeper.is_ours() => Ok(keeper),
+            Ok(()) => Err(KeepFault::Failed),
+            Err(fault) => Err(fault),
         }
     }
 }

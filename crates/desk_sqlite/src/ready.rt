@@ -1,10 +1,9 @@
 ghost use Rattle.std.specs.Prelude.{◌≡◌, false, true, IfOk, IfSome, IsTrue, int_lt};
 ghost use Rattle.sqlite.specs.Held.{state};
-ghost use Rattle.desk_sqlite.specs.Numbers.{AreRising};
 ghost use Rattle.desk_sqlite.specs.Store.{IsOurs, Suits};
 
 use crate::form::is_ours;
-use sqlite::{Alter, Connection, Error, ErrorCode, Row};
+use sqlite::{Alter, Connection, Error, ErrorCode};
 
 /// Makes the table of a store where there is none of its name. It answers whether the database is one such table.
 pub(crate) fn make_ready<S: Alter>(conn: &mut Connection<S>) -> Result<bool, Error>
@@ -42,17 +41,27 @@ fn make_table<S: Alter>(conn: &mut Connection<S>) -> Result<(), Error> {
 
 /// Whether each row of a store's table has a number of its own.
 ///
-/// A database always numbers its rows so. What is known of an open connection doesn't say it, and a drop relies on it.
+/// A database always numbers its rows so. What is known of an open connection doesn't say it, and a drop relies on it. The numbers
+/// are read one at a time, so that a large store takes no more memory than a small one.
 fn are_numbered<S: Alter>(conn: &mut Connection<S>) -> Result<bool, Error>
     requires outside { conn.old.in_transaction ≡ false }
     requires ours { IsOurs (state S.Store conn.old).now.schema }
     ensures mode { conn.new.in_transaction ≡ false }
     ensures suits { IfOk result (λ numbered. IsTrue numbered → Suits (state S.Store conn.new)) }
 {
-    match conn.query_all("SELECT rowid FROM record ORDER BY rowid", &[]) {
-        Ok(rows) => rise(rows.as_slice()),
-        Err(error) => Err(error),
+    let mut last: Option<i64> = None;
+    let mut rows = conn.query("SELECT rowid FROM record ORDER BY rowid", &[])?;
+    'rows: for _ in 0..u64::MAX {
+        let Some(row) = rows.next()? else {
+            return Ok(true);
+        };
+        let number: i64 = row.get(0)?;
+        if !is_above(number, last) {
+            return Ok(false);
+        }
+        last = Some(number);
     }
+    Ok(false)
 }
 
 /// Whether the number is greater than the last one, if there is one.
@@ -63,22 +72,4 @@ fn is_above(number: i64, last: Option<i64>) -> bool
         Some(before) => before < number,
         None => true,
     }
-}
-
-/// Whether the first columns of the rows are numbers, each greater than the one before it.
-fn rise(rows: &[Row]) -> Result<bool, Error>
-    ensures { IfOk result (λ rise. IsTrue rise → AreRising rows.now) }
-{
-    let mut last: Option<i64> = None;
-    'rows: for row in rows {
-        let number: i64 = match row.get(0) {
-            Ok(number) => number,
-            Err(error) => return Err(error),
-        };
-        if !is_above(number, last) {
-            return Ok(false);
-        }
-        last = Some(number);
-    }
-    Ok(true)
 }

@@ -2,6 +2,7 @@ ghost use Rattle.std.specs.Prelude.{◌≡◌, ◌<◌, None};
 
 use crate::file_keeper::FileKeeper;
 use desk_edge::{KeepFault, Shelf};
+use sqlite::File;
 use std::alloc::Global;
 use std::rt::HostRuntime;
 
@@ -31,7 +32,7 @@ impl SqlShelf {
 }
 
 impl Shelf for SqlShelf {
-    type Store = FileKeeper;
+    type Store = FileKeeper<File>;
 
     ghost faults = { λ s. s.faults };
 
@@ -41,7 +42,7 @@ impl Shelf for SqlShelf {
 
     ghost content = { λ s name key. None };
 
-    fn open_store(&mut self, _alloc: Global, name: &[u8]) -> Result<FileKeeper, KeepFault> {
+    fn open_store(&mut self, _alloc: Global, name: &[u8]) -> Result<FileKeeper<File>, KeepFault> {
         match FileKeeper::open(&self.rt, name) {
             Ok(store) => Ok(store),
             Err(KeepFault::OutOfMemory) => Err(KeepFault::OutOfMemory),
@@ -52,7 +53,7 @@ impl Shelf for SqlShelf {
         }
     }
 
-    fn close_store(&mut self, _name: &[u8], store: FileKeeper) {
+    fn close_store(&mut self, _name: &[u8], store: FileKeeper<File>) {
         if store.faults() > 0 {
             self.faults = self.faults.saturating_add(1);
         }
