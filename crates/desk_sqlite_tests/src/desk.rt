@@ -1,4 +1,6 @@
-use crate::stores::{Reopen, disks_of, new_store, ready, stopping_store, store_of, stored};
+use crate::stores::{
+    Disks, Reopen, Store, disks_of, new_store, ready, stopping_store, store_of, stored,
+};
 use desk_clerk::{Clerk, SubmitFault};
 use desk_edge::{Keeper, Link, MemoryLink};
 use desk_fields::read_edit_text;
@@ -7,8 +9,7 @@ use desk_model::Edit;
 use desk_report::{ReportFault, export, import};
 use desk_sqlite::SqlKeeper;
 use desk_text::{Bytes, OutOfMemory};
-use sqlite::{Alter, FileStore, Files};
-use sqlite_disk::{Fuse, Memory};
+use sqlite::Alter;
 use std::alloc::Global;
 use std::sync::Wait;
 use std::test::Fail;
@@ -281,9 +282,7 @@ fn goes_by_export<R: Wait + Sync, K: Reopen>(
 }
 
 /// Two new stores.
-fn two_stores(
-    alloc: Global,
-) -> Result<(SqlKeeper<FileStore<Memory>>, SqlKeeper<FileStore<Memory>>), Fail> {
+fn two_stores(alloc: Global) -> Result<(SqlKeeper<Store>, SqlKeeper<Store>), Fail> {
     Ok((new_store(alloc)?, new_store(alloc)?))
 }
 
@@ -355,7 +354,7 @@ fn entered_until_a_stop<R: Wait + Sync>(
     alloc: Global,
     log_calls: u64,
     db_calls: u64,
-) -> Result<(u64, Files<Fuse<Memory>>), Fail> {
+) -> Result<(u64, Disks), Fail> {
     match stopping_store(alloc, log_calls, db_calls) {
         Ok(keeper) => {
             let (acknowledged, store) = entered_store(rt, alloc, keeper)?;
@@ -401,14 +400,6 @@ fn has_first_edits<R: Wait + Sync, K: Keeper + Drop>(
     Ok(is_prefix && are_in_order(numbers.as_slice()))
 }
 
-/// The store on copies of the disks that a stop left.
-fn store_left(
-    alloc: Global,
-    files: Files<Fuse<Memory>>,
-) -> Result<SqlKeeper<FileStore<Memory>>, Fail> {
-    store_of(alloc, files.log.inner(), files.db.inner())
-}
-
 /// Whether a stop of the disks after so many calls leaves the first edits, and how many were acknowledged.
 fn tried<R: Wait + Sync>(
     rt: &R,
@@ -417,7 +408,7 @@ fn tried<R: Wait + Sync>(
     db_calls: u64,
 ) -> Result<(bool, u64), Fail> {
     let (acknowledged, files) = entered_until_a_stop(rt, alloc, log_calls, db_calls)?;
-    let left = store_left(alloc, files)?;
+    let left = store_of(alloc, &files)?;
     let is_right = has_first_edits(rt, alloc, left, acknowledged)?;
     Ok((is_right, acknowledged))
 }

@@ -3,22 +3,26 @@ ghost use Rattle.sqlite_disk.specs.Memory.{memory_is_usable};
 
 use desk_edge::{Change, KeepFault, Keeper, Key, Record};
 use desk_sqlite::SqlKeeper;
-use sqlite::{Alter, Connection, Error, FileStore, Files, Leftover, MemStore, Options};
+use sqlite::{Alter, Connection, Error, FileStore, Files, Leftover, Options};
 use sqlite_disk::{Disk, Fuse, Memory};
 use std::alloc::Global;
 use std::test::Fail;
 
 // Most of these have no clause, and they are written for any store or disk, so that the proof of a test does not carry the state of
-// each call.
+// each call. All tests run over one sort of disk, since the whole database is compiled anew for each sort.
+
+/// Disks in memory that can be made to stop.
+pub(crate) type Disks = Files<Fuse<Memory>>;
+
+/// A store on such disks.
+pub(crate) type Store = FileStore<Fuse<Memory>>;
+
+/// More calls than a test makes.
+const NO_STOP: u64 = u64::MAX;
 
 /// A keeper over the database of the connection.
 pub(crate) fn adopted<S: Alter>(conn: Connection<S>) -> SqlKeeper<S> {
     SqlKeeper::adopt(conn)
-}
-
-/// A new database in memory.
-pub(crate) fn in_memory(alloc: Global) -> Result<Connection<MemStore>, Fail> {
-    Ok(Connection::open_in_memory(alloc)?)
 }
 
 pub(crate) fn ready<S: Alter>(keeper: &mut SqlKeeper<S>) -> Result<(), KeepFault> {
@@ -109,16 +113,26 @@ pub(crate) trait Reopen: Keeper + Drop {
     fn reopened(self, alloc: Global) -> Result<Self, Fail>;
 }
 
-impl Reopen for SqlKeeper<FileStore<Memory>> {
-    fn reopened(self, alloc: Global) -> Result<SqlKeeper<FileStore<Memory>>, Fail> {
+impl Reopen for SqlKeeper<Store> {
+    fn reopened(self, alloc: Global) -> Result<SqlKeeper<Store>, Fail> {
         let disks = disks_of(stored(self));
-        store_of(alloc, &disks.log, &disks.db)
+        store_of(alloc, &disks)
     }
 }
 
-/// A store on two new disks.
-pub(crate) fn new_store(alloc: Global) -> Result<SqlKeeper<FileStore<Memory>>, Fail> {
-    ready_on(alloc, Memory::new(alloc), Memory::new(alloc))
+/// A database on two new disks.
+pub(crate) fn new_database(alloc: Global) -> Result<Connection<Store>, Fail> {
+    let log = Fuse::new(Memory::new(alloc), NO_STOP);
+    let db = Fuse::new(Memory::new(alloc), NO_STOP);
+    match connected(alloc, log, db) {
+        Ok(conn) => Ok(conn),
+        Err((error, _)) => Err(Fail::from(error)),
+    }
+}
+
+/// A store on two new disks that is ready.
+pub(crate) fn new_store(alloc: Global) -> Result<SqlKeeper<Store>, Fail> {
+    made_ready(new_database(alloc)?)
 }
 
 /// A disk with these bytes.
@@ -136,16 +150,10 @@ fn disk_of(alloc: Global, bytes: &[u8]) -> Result<Memory, Fail>
 }
 
 /// The store on copies of these disks.
-pub(crate) fn store_of(
-    alloc: Global,
-    log: &Memory,
-    db: &Memory,
-) -> Result<SqlKeeper<FileStore<Memory>>, Fail> {
-    ready_on(
-        alloc,
-        disk_of(alloc, log.bytes())?,
-        disk_of(alloc, db.bytes())?,
-    )
+pub(crate) fn store_of(alloc: Global, disks: &Disks) -> Result<SqlKeeper<Store>, Fail> {
+    let log = disk_of(alloc, disks.log.inner().bytes())?;
+    let db = disk_of(alloc, disks.db.inner().bytes())?;
+    ready_on(alloc, Fuse::new(log, NO_STOP), Fuse::new(db, NO_STOP))
 }
 
 /// A store that may not be ready, on new disks that pass so many calls on and refuse each further one, or the disks where it isn't
@@ -154,7 +162,7 @@ pub(crate) fn stopping_store(
     alloc: Global,
     log_calls: u64,
     db_calls: u64,
-) -> Result<SqlKeeper<FileStore<Fuse<Memory>>>, Files<Fuse<Memory>>> {
+) -> Result<SqlKeeper<Store>, Disks> {
     let log = Fuse::new(Memory::new(alloc), log_calls);
     let db = Fuse::new(Memory::new(alloc), db_calls);
     match connected(alloc, log, db) {

@@ -1,12 +1,11 @@
 use crate::stores::{
-    adopted, commit, disks_of, faults, in_memory, is_ours, new_store, next, ready, released, run,
-    stopping_store, store_of, stored,
+    Disks, adopted, commit, disks_of, faults, is_ours, new_database, new_store, next, ready,
+    released, run, stopping_store, store_of, stored,
 };
 use desk_edge::{Change, KeepFault, Key, Record};
 use desk_sqlite::SqlKeeper;
 use desk_text::{Bytes, OutOfMemory};
-use sqlite::{Alter, Connection, Files};
-use sqlite_disk::{Fuse, Memory};
+use sqlite::{Alter, Connection};
 use std::alloc::Global;
 use std::test::Fail;
 
@@ -118,7 +117,7 @@ fn keeps_order<S: Alter>(keeper: &mut SqlKeeper<S>, alloc: Global) -> Result<(),
 
 #[test]
 fn records_come_by_kind_and_then_by_the_bytes_of_the_code(rt: HostRuntime) -> Result<(), Fail> {
-    let mut keeper = adopted(in_memory(rt.alloc())?);
+    let mut keeper = adopted(new_database(rt.alloc())?);
     keeps_order(&mut keeper, rt.alloc())
 }
 
@@ -136,7 +135,7 @@ fn store_with_two_records<S: Alter + Drop>(
 }
 
 /// The log and the database of a store that took one batch.
-fn files_with_two_records(alloc: Global) -> Result<Files<Memory>, Fail> {
+fn files_with_two_records(alloc: Global) -> Result<Disks, Fail> {
     let store = store_with_two_records(alloc, new_store(alloc)?)?;
     Ok(disks_of(store))
 }
@@ -149,7 +148,7 @@ fn has_two_records<S: Alter>(keeper: &mut SqlKeeper<S>, alloc: Global) -> Result
 #[test]
 fn what_was_kept_is_there_when_the_files_are_opened_again(rt: HostRuntime) -> Result<(), Fail> {
     let files = files_with_two_records(rt.alloc())?;
-    let mut keeper = store_of(rt.alloc(), &files.log, &files.db)?;
+    let mut keeper = store_of(rt.alloc(), &files)?;
     has_two_records(&mut keeper, rt.alloc())
 }
 
@@ -178,11 +177,7 @@ fn filled_store<S: Alter + Drop>(alloc: Global, mut keeper: SqlKeeper<S>) -> Res
 
 /// Fills a store over a log and a database that pass so many calls on. It gives how many batches were acknowledged, and what is left
 /// of the two.
-fn filled_until_a_stop(
-    alloc: Global,
-    log_calls: u64,
-    db_calls: u64,
-) -> Result<(u8, Files<Fuse<Memory>>), Fail> {
+fn filled_until_a_stop(alloc: Global, log_calls: u64, db_calls: u64) -> Result<(u8, Disks), Fail> {
     match stopping_store(alloc, log_calls, db_calls) {
         Ok(keeper) => {
             let (acknowledged, store) = filled_store(alloc, keeper)?;
@@ -193,8 +188,8 @@ fn filled_until_a_stop(
 }
 
 /// The records of the two files as they stand after a stop.
-fn listed_after(alloc: Global, files: &Files<Fuse<Memory>>) -> Result<String, Fail> {
-    let mut keeper = store_of(alloc, files.log.inner(), files.db.inner())?;
+fn listed_after(alloc: Global, disks: &Disks) -> Result<String, Fail> {
+    let mut keeper = store_of(alloc, disks)?;
     listed(&mut keeper, alloc)
 }
 
@@ -259,7 +254,7 @@ fn fails_until_ready<S: Alter>(keeper: &mut SqlKeeper<S>, alloc: Global) -> Resu
 
 #[test]
 fn before_it_is_ready_each_call_is_a_counted_fault(rt: HostRuntime) -> Result<(), Fail> {
-    let mut keeper = adopted(in_memory(rt.alloc())?);
+    let mut keeper = adopted(new_database(rt.alloc())?);
     fails_until_ready(&mut keeper, rt.alloc())
 }
 
@@ -292,7 +287,7 @@ fn gives_the_first_record_alone<S: Alter>(
 
 #[test]
 fn a_row_that_is_no_record_is_a_counted_fault(rt: HostRuntime) -> Result<(), Fail> {
-    let mut conn = in_memory(rt.alloc())?;
+    let mut conn = new_database(rt.alloc())?;
     fill_with_a_wrong_row(&mut conn)?;
     let mut keeper = adopted(conn);
     gives_the_first_record_alone(&mut keeper, rt.alloc())
@@ -317,7 +312,7 @@ fn is_ready_behind_a_transaction<S: Alter + Drop>(mut conn: Connection<S>) -> Re
 
 #[test]
 fn a_connection_inside_a_transaction_is_not_made_ready(rt: HostRuntime) -> Result<(), Fail> {
-    is_ready_behind_a_transaction(in_memory(rt.alloc())?)
+    is_ready_behind_a_transaction(new_database(rt.alloc())?)
 }
 
 fn becomes_ours<S: Alter>(keeper: &mut SqlKeeper<S>, alloc: Global) -> Result<(), Fail> {
@@ -345,7 +340,7 @@ fn is_not_ours_with_a_second_table<S: Alter + Drop>(
 fn a_new_database_is_found_to_be_a_store_and_one_with_a_second_table_is_not(
     rt: HostRuntime,
 ) -> Result<(), Fail> {
-    let mut keeper = adopted(in_memory(rt.alloc())?);
+    let mut keeper = adopted(new_database(rt.alloc())?);
     becomes_ours(&mut keeper, rt.alloc())?;
     is_not_ours_with_a_second_table(released(keeper), rt.alloc())
 }
