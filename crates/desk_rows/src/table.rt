@@ -169,6 +169,24 @@ impl<R: Keyed> Table<R> {
         }
         Ok(Table { rows })
     }
+
+    /// The same table once more, with the row put in.
+    pub fn copied_with(&self, alloc: Global, row: R) -> Result<Table<R>, OutOfMemory>
+        ensures { IfOk result (λ table. table.rows ≡ with_row R.key R.Key.cmp row self.now.rows) }
+    {
+        let mut table = self.copied(alloc)?;
+        table.put(row)?;
+        Ok(table)
+    }
+
+    /// The same table once more, without the row of this key.
+    pub fn copied_without(&self, alloc: Global, key: &R::Key) -> Result<Table<R>, OutOfMemory>
+        ensures { IfOk result (λ table. table.rows ≡ without_row R.key R.Key.cmp key.now self.now.rows) }
+    {
+        let mut table = self.copied(alloc)?;
+        table.take(key);
+        Ok(table)
+    }
 }
 
 /// Puts the row in its place, where room for one more row was made before.

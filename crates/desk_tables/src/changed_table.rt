@@ -1,4 +1,6 @@
 ghost use Rattle.std.specs.Prelude.{◌≡◌, IfOk, true};
+ghost use Rattle.desk_text.specs.Code.{code_cmp};
+ghost use Rattle.desk_rows.specs.Rows.{with_rows};
 ghost use Rattle.desk_tables.specs.Change.{changed};
 ghost use Rattle.desk_tables.specs.Sums.{is_of_lines_or_shipments, is_of_sums, with_table};
 
@@ -36,23 +38,20 @@ impl Tables {
     {
         match change {
             RowChange::PutMember { row, .. } => {
-                let mut members = self.members.copied(alloc)?;
-                members.put(*row)?;
+                let members = self.members.copied_with(alloc, *row)?;
                 Ok(ChangedTable::Members(members))
             }
             RowChange::DropMember { substance, rule } => {
-                let mut members = self.members.copied(alloc)?;
-                members.take(&(*substance, rule.number()));
+                let key = (*substance, rule.number());
+                let members = self.members.copied_without(alloc, &key)?;
                 Ok(ChangedTable::Members(members))
             }
             RowChange::PutMaterials { rows, .. } => {
-                let mut materials = self.materials.copied(alloc)?;
-                materials.put_all(copied_rows(alloc, rows.as_slice())?)?;
+                let materials = self.materials_with(alloc, rows.as_slice())?;
                 Ok(ChangedTable::Materials(materials))
             }
             RowChange::PutCandidate { row, .. } => {
-                let mut candidates = self.candidates.copied(alloc)?;
-                candidates.put(*row)?;
+                let candidates = self.candidates.copied_with(alloc, *row)?;
                 Ok(ChangedTable::Candidates(candidates))
             }
             _ => self.changed_bill_table(alloc, change),
@@ -71,27 +70,36 @@ impl Tables {
     {
         match change {
             RowChange::PutLine { row, .. } => {
-                let mut lines = self.lines.copied(alloc)?;
-                lines.put(*row)?;
+                let lines = self.lines.copied_with(alloc, *row)?;
                 Ok(ChangedTable::Lines(lines))
             }
             RowChange::DropLine { parent, child } => {
-                let mut lines = self.lines.copied(alloc)?;
-                lines.take(&(*parent, *child));
+                let lines = self.lines.copied_without(alloc, &(*parent, *child))?;
                 Ok(ChangedTable::Lines(lines))
             }
             RowChange::PutShipment { row, .. } => {
-                let mut shipments = self.shipments.copied(alloc)?;
-                shipments.put(*row)?;
+                let shipments = self.shipments.copied_with(alloc, *row)?;
                 Ok(ChangedTable::Shipments(shipments))
             }
             RowChange::DropShipment { year, product } => {
-                let mut shipments = self.shipments.copied(alloc)?;
-                shipments.take(&(*year, *product));
+                let shipments = self.shipments.copied_without(alloc, &(*year, *product))?;
                 Ok(ChangedTable::Shipments(shipments))
             }
             _ => unreachable!(),
         }
+    }
+
+    /// A copy of the materials with the rows put in.
+    fn materials_with(
+        &self,
+        alloc: Global,
+        rows: &[MaterialRow],
+    ) -> Result<Table<MaterialRow>, OutOfMemory>
+        ensures { IfOk result (λ table. table.rows ≡ with_rows (λ row. row.code) code_cmp rows.now self.now.lists.materials) }
+    {
+        let mut materials = self.materials.copied(alloc)?;
+        materials.put_all(copied_rows(alloc, rows)?)?;
+        Ok(materials)
     }
 
     /// The lists with the changed table in the place of theirs.

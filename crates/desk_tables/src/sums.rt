@@ -67,8 +67,7 @@ impl Tables {
         ensures { IfOk result (λ fault. fault ≡ first_some (rules_of_sums (with_line self.now.lists line.now))) }
     {
         let bill = self.bill_with_line(alloc, bill, line)?;
-        let mut lines = self.lines.copied(alloc)?;
-        lines.put(*line)?;
+        let lines = self.lines.copied_with(alloc, *line)?;
         let lists = self.lists().with_lines(lines.as_slice());
         lists.sums_fault(alloc, &bill)
     }
