@@ -7,6 +7,7 @@ pub mod Counts
 pub mod Frame
 pub mod MergeSteps
 pub mod Heavy
+pub mod MostHops
 pub mod MarkCount
 pub mod Puts
 pub mod Prepared

@@ -1,5 +1,5 @@
 -- How many marks there are.
-use Rattle.std.proofs.Common.{◌≡◌, ℕ, ◌+◌, ◌<◌, ◌≤◌, false, cond, ◌==◌, List, [], ◌∷◌, ◌++◌, length, sum_by, take, refl, sym, ap, ◌∙◌, subst, inl, inr, arith}
+use Rattle.std.proofs.Common.{◌≡◌, ℕ, ◌+◌, ◌-◌, ◌<◌, ◌≤◌, true, false, cond, ◌==◌, List, [], ◌∷◌, ◌++◌, length, sum_by, take, refl, sym, ap, ◌∙◌, subst, inl, inr, arith}
 use Rattle.std.specs.List.{flat_map, range_with_len}
 use Rattle.std.proofs.lemmas.Bool.{cases_Bool, eqb-true, ne_eqb}
 use Rattle.std.proofs.lemmas.List.{length-map}
@@ -12,10 +12,11 @@ use Rattle.desk_rollup.specs.Numbers.{RisesFrom, has, hop_numbers, mark_numbers,
 use Rattle.desk_rollup.specs.Places.{IsKnown, Placed, known, place_in}
 use Rattle.desk_rollup.specs.Rolled.{IsRolled, gathered, mark_count, marks}
 use Rattle.desk_rollup.specs.Sweep.{AreRolledOf, IsSweep}
-use Rattle.desk_rollup.specs.Values.{Kept, OwnValues, RolledValues, own_with, rolled_at}
+use Rattle.desk_rollup.specs.Values.{Kept, OwnValues, RolledValues, hop_total, own_with, rolled_at}
 use Rattle.desk_rollup.proofs.Counts.{none_times, one_if, same_length, some_times, times, times-cons}
 use Rattle.desk_rollup.proofs.Frame.{by_place, has_kept, stays}
 use Rattle.desk_rollup.proofs.Lists.{has_once}
+use Rattle.desk_rollup.proofs.MostHops.{hops_of, kept_sum, put_at, put_sum, put_there, sum_within}
 use Rattle.desk_rollup.proofs.Ranked.{gathered-step}
 use Rattle.desk_rollup.proofs.Rolls.{has_marks}
 
@@ -101,6 +102,31 @@ module _ (g : Graph) (owns : List OwnValues) (kept : Kept) (of_owns placed : Pla
       sum_by_more counted (range_with_len 0 (length g.lines)) node 0 (omega (arith, length-range_with_len 0 (length g.lines), in_range))
       ∙ ap (λ n. so_far node + counted n) (get_or-range_with_len 0 (length g.lines) node 0 in_range ∙ omega arith)
       ∙ ap (λ n. so_far node + cond (length (lines_of g.lines node) == 0) 0 n) (sym (hop_count g.lines sweep.bill.ranked.0 sweep.bill.ranked.1 own node (known (place_in placed.slots node) kept.rolled new node) (all_right node there)))
+
+  -- there are no more marks than hops that are kept and new together
+  pub count_most : mark_count g.lines own ≤ hop_total kept.rolled + hop_total new
+  count_most =
+      let n = length g.lines in
+      let kept_hops : ℕ → ℕ = λ node. hops_of (rolled_at kept.rolled node) in
+      omega (
+        arith,
+        sum_within counted kept_hops (put_at placed.nodes new) 0 n (λ node h. counted_most node (omega (arith, h, sweep.bill.sizes))),
+        kept_sum kept.rolled kept_hops 0 n (λ node h. let same : node ≡ node - 0 = omega arith in subst (λ k. kept_hops node ≤ kept_hops k) same (omega arith)),
+        put_sum placed.nodes new 0 n,
+      )
+    where
+      most_at : (node : ℕ) → hops_of (known (place_in placed.slots node) kept.rolled new node) ≤ hops_of (rolled_at kept.rolled node) + put_at placed.nodes new node
+      most_at node =
+          by_place placed.nodes node (place_in placed.slots node) (sweep.places node) (λ o. hops_of (known o kept.rolled new node) ≤ hops_of (rolled_at kept.rolled node) + put_at placed.nodes new node)
+          (λ away. omega arith) (λ spot h is. omega (arith, put_there placed.nodes new spot node h size is))
+
+      counted_most : (node : ℕ) → node < length g.labels → counted node ≤ hops_of (rolled_at kept.rolled node) + put_at placed.nodes new node
+      counted_most node there =
+          let hops = hop_count g.lines sweep.bill.ranked.0 sweep.bill.ranked.1 own node (known (place_in placed.slots node) kept.rolled new node) (all_right node there) in
+          elim (length (lines_of g.lines node) == 0) as (λ b. cond b 0 (length (marks g.lines own node)) ≤ hops_of (rolled_at kept.rolled node) + put_at placed.nodes new node) [
+            | true ↦ omega arith
+            | false ↦ omega (arith, hops, most_at node)
+          ]
 
   pub count_within : (node : ℕ) → so_far node ≤ mark_count g.lines own
   count_within node = sum_by-take-le counted (range_with_len 0 (length g.lines)) node

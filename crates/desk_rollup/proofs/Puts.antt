@@ -3,12 +3,14 @@ use Rattle.std.proofs.Common.{◌≡◌, ℕ, zero, suc, ◌+◌, ◌^◌, ◌<�
 use Rattle.std.proofs.lemmas.Bool.{both_ways, cases_eq, eq-eqb, ne_eqb}
 use Rattle.std.proofs.lemmas.List.{get_or-set_other, get_or-set_same, get_or_append_left, get_or_at, get_or_push, length_push, length-take-le, take_more}
 use Rattle.std.proofs.lemmas.List.Folds.{list_any-append}
+use Rattle.std.proofs.lemmas.List.Sums.{sum_by-cons}
 use Rattle.desk_graph.specs.Reaches.{has_node}
 use Rattle.desk_rollup.specs.Places.{IsTold, place_in, place_told}
 use Rattle.desk_rollup.specs.Plan.{AreDistinct, nodes_of}
-use Rattle.desk_rollup.specs.Values.{DoFit, OwnValues, RolledValues, no_own, no_values, own_at, own_with, rolled_at}
+use Rattle.desk_rollup.specs.Values.{DoFit, OwnValues, RolledValues, hop_total, no_own, no_values, own_at, own_with, rolled_at}
 use Rattle.desk_rollup.proofs.Frame.{own_other}
 use Rattle.desk_rollup.proofs.Counts.{has_at}
+use Rattle.desk_rollup.proofs.MostHops.{hops_of}
 
 -- a place is told of a node still where another node comes behind
 told_more : (nodes : List ℕ) (more node : ℕ) (place : Option ℕ) → (more == node) ≡ false → IsTold nodes node place → IsTold (nodes ++ more ∷ []) node place
@@ -90,6 +92,19 @@ module _ (nodes : List ℕ) (distinct : AreDistinct nodes) (kept all front : Lis
             subst (λ n. P (rolled_at (set kept at values) n)) (sym same) (subst P (sym (get_or-set_same kept at values no_values there)) (subst P these (all_fit (length front))))
         | inr other ↦ subst P (sym (get_or-set_other kept at node values no_values other)) (fit node)
       ]
+
+-- where the values of a node are put in, its hops are exchanged for theirs
+pub put_hops : (kept : List RolledValues) (node : ℕ) (values : RolledValues) → node < length kept →
+    (rest : ℕ) × (hop_total kept ≡ rest + length (rolled_at kept node).hops) × (hop_total (set kept node values) ≡ rest + length values.hops)
+put_hops [] node values there = absurd (omega (arith, there))
+put_hops (first ∷ kept) zero values there =
+    (hop_total kept, omega (arith, sum_by-cons hops_of first kept), omega (arith, sum_by-cons hops_of values kept))
+put_hops (first ∷ kept) (suc node) values there =
+    let below = put_hops kept node values (omega arith) in (
+      hops_of first + below.0,
+      omega (arith, sum_by-cons hops_of first kept, below.1),
+      omega (arith, sum_by-cons hops_of first (set kept node values), below.2),
+    )
 
 -- nodes that have nothing change nothing
 pub none_more : {X : Type 0} (xs : List X) (none : X) (node : ℕ) → slice_index_or (xs ++ none ∷ []) node none ≡ slice_index_or xs node none

@@ -1,5 +1,5 @@
 -- What is kept of each node, as callers see it.
-use Rattle.std.specs.Prelude.{ℕ, ◌<◌, ◌^◌, ◌==◌, List, [], Option, find, option_map, slice_index_or, sum_by, unwrap_or, if◌then◌else◌}
+use Rattle.std.specs.Prelude.{ℕ, ◌<◌, ◌^◌, ◌==◌, List, [], Option, find, length, option_map, slice_index_or, sum_by, unwrap_or, if◌then◌else◌}
 use Rattle.desk_rollup.specs.declared.mark.Mark.{Mark}
 use Rattle.desk_rollup.specs.declared.hop.Hop.{Hop}
 use Rattle.desk_rollup.specs.declared.load.Load.{Load}
@@ -62,3 +62,7 @@ carried loads what = unwrap_or (load_of loads what) 0
 -- no weight is 2^128 or more
 abbrev pub DoFit : List RolledValues → Type 0
 DoFit rolled = (node : ℕ) → (rolled_at rolled node).weight < 2 ^ 128
+
+-- how many hops the nodes have together
+abbrev pub hop_total : List RolledValues → ℕ
+hop_total rolled = sum_by (λ values. length values.hops) rolled

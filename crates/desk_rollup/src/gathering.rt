@@ -2,7 +2,7 @@ ghost use Rattle.std.specs.Prelude.{◌≡◌, [], ◌∷◌, map, OnOk, IfOk};
 ghost use Rattle.desk_rollup.specs.Merge.{merged};
 
 use crate::entry::Entry;
-use crate::merge::merge;
+use crate::merge::{join_held, merge_lifted, push_entry};
 use desk_graph::{BillLine, OutOfMemory};
 use std::alloc::Global;
 use std::marker::Model;
@@ -13,7 +13,6 @@ use std::mem;
 pub struct Gathering<E> {
     held: Vec<E>,
     room: Vec<E>,
-    lifted: Vec<E>,
 }
 
 impl<E> Model for Gathering<E> {
@@ -32,7 +31,6 @@ impl<E: Entry> Gathering<E> {
         Gathering {
             held: Vec::new(alloc),
             room: Vec::new(alloc),
-            lifted: Vec::new(alloc),
         }
     }
 
@@ -47,9 +45,9 @@ impl<E: Entry> Gathering<E> {
     pub fn add(&mut self, entry: E) -> Result<(), OutOfMemory>
         ensures { OnOk result (self.new ≡ merged E.number E.joined (entry ∷ []) self.old) }
     {
-        self.lifted.clear();
-        self.lifted.push(entry)?;
-        merge(self.held.as_slice(), self.lifted.as_slice(), &mut self.room)?;
+        self.room.clear();
+        let at = push_entry(self.held.as_slice(), 0, entry, &mut self.room)?;
+        self.room.extend_from_slice(self.held.split_at(at).1)?;
         mem::swap(&mut self.held, &mut self.room);
         Ok(())
     }
@@ -58,8 +56,14 @@ impl<E: Entry> Gathering<E> {
     pub fn add_lifted(&mut self, line: BillLine, entries: &[E]) -> Result<(), OutOfMemory>
         ensures { OnOk result (self.new ≡ merged E.number E.joined (map (E.lifted line) entries.now) self.old) }
     {
-        lift(line, entries, &mut self.lifted)?;
-        merge(self.held.as_slice(), self.lifted.as_slice(), &mut self.room)?;
+        let (at, joined) = join_held(self.held.as_mut_slice(), line, entries);
+        if joined == entries.len() {
+            return Ok(());
+        }
+        let (front, rest) = self.held.as_slice().split_at(at);
+        self.room.clear();
+        self.room.extend_from_slice(front)?;
+        merge_lifted(rest, line, &entries[joined..], &mut self.room)?;
         mem::swap(&mut self.held, &mut self.room);
         Ok(())
     }
@@ -70,15 +74,4 @@ impl<E: Entry> Gathering<E> {
     {
         Ok(Vec::from_slice(alloc, self.held.as_slice())?)
     }
-}
-
-/// Writes what the entries of a child are at the parent of the line.
-fn lift<E: Entry>(line: BillLine, entries: &[E], into: &mut Vec<E>) -> Result<(), OutOfMemory>
-    ensures { OnOk result (into.new.items ≡ map (E.lifted line) entries.now) }
-{
-    into.clear();
-    for entry in entries {
-        into.push(entry.lifted(line))?;
-    }
-    Ok(())
 }

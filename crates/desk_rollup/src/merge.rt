@@ -1,21 +1,79 @@
-ghost use Rattle.std.specs.Prelude.{◌≡◌, ◌<◌, ◌≤◌, ◌++◌, List, false, drop, length, nat_lt, slice_index_or, IfOk, OnOk};
+ghost use Rattle.std.specs.Prelude.{◌≡◌, ◌<◌, ◌≤◌, ◌++◌, List, false, drop, length, map, nat_lt, slice_index_or, take, IfOk, OnOk};
 ghost use Rattle.desk_rollup.specs.Merge.{entered, merged};
 
 use crate::entry::Entry;
-use desk_graph::OutOfMemory;
+use desk_graph::{BillLine, OutOfMemory};
 
-/// Writes the entries of both lists, which stand in the order of their numbers; two of the same number are joined.
-pub fn merge<E: Entry>(held: &[E], more: &[E], into: &mut Vec<E>) -> Result<(), OutOfMemory>
-    ensures { OnOk result (into.new.items ≡ merged E.number E.joined more.now held.now) }
+/// Joins what the entries of a child are at the parent of the line to those of the same number that are held, up to the first entry whose
+/// number none has. Gives the place of the held one that comes next, and how many are joined. Both lists stand in the order of their numbers.
+pub fn join_held<E: Entry>(held: &mut [E], line: BillLine, more: &[E]) -> (usize, usize)
+    ensures within { result.0 ≤ length held.new }
+    ensures few { result.1 ≤ length more.now }
+    ensures joins { merged E.number E.joined (map (E.lifted line) more.now) held.old ≡
+        take result.0 held.new ++ merged E.number E.joined (map (E.lifted line) (drop result.1 more.now)) (drop result.0 held.new) }
 {
-    into.clear();
+    let mut at = 0;
+    for (place, entry) in more.iter().enumerate() {
+        let entry = entry.lifted(line);
+        at = past_below(held, at, entry);
+        if at >= held.len() || held[at].number() != entry.number() {
+            return (at, place);
+        }
+        held[at] = held[at].joined(entry);
+        at += 1;
+    }
+    (at, more.len())
+}
+
+/// Of the entries that are held from a place on, the place of the first that hasn't a lesser number.
+fn past_below<E: Entry>(held: &[E], from: usize, entry: E) -> usize
+    requires { from ≤ length held.now }
+    ensures within { result ≤ length held.now }
+    ensures stops { (none : E) → result < length held.now → nat_lt (E.number (slice_index_or held.now result none)) (E.number entry) ≡ false }
+    ensures passes { (go : List E → List E) → take from held.now ++ entered E.number E.joined entry go (drop from held.now) ≡
+        take result held.now ++ entered E.number E.joined entry go (drop result held.now) }
+{
+    for at in from..held.len() {
+        if held[at].number() >= entry.number() {
+            return at;
+        }
+    }
+    held.len()
+}
+
+/// Appends the entries that are held, and those of a child as they are at the parent of the line. Both stand in the order of their
+/// numbers; two of the same number are joined.
+pub fn merge_lifted<E: Entry>(
+    held: &[E],
+    line: BillLine,
+    more: &[E],
+    into: &mut Vec<E>,
+) -> Result<(), OutOfMemory>
+    ensures { OnOk result (into.new.items ≡ into.old.items ++ merged E.number E.joined (map (E.lifted line) more.now) held.now) }
+{
     let mut at = 0;
     for entry in more {
-        at = push_below(held, at, *entry, into)?;
-        at = push_joined(held, at, *entry, into)?;
+        at = push_entry(held, at, entry.lifted(line), into)?;
     }
     into.extend_from_slice(held.split_at(at).1)?;
     Ok(())
+}
+
+/// Appends the entries that are held from a place on and have a lesser number than this one, and this one, joined to the one of the same
+/// number where that is held. Gives the place of the next that is held.
+pub fn push_entry<E: Entry>(
+    held: &[E],
+    from: usize,
+    entry: E,
+    into: &mut Vec<E>,
+) -> Result<usize, OutOfMemory>
+    requires { from ≤ length held.now }
+    ensures within { IfOk result (λ next. next ≤ length held.now) }
+    ensures pushes { IfOk result (λ next. (go : List E → List E) →
+        into.old.items ++ entered E.number E.joined entry go (drop from held.now) ≡ into.new.items ++ go (drop next held.now)) }
+{
+    let at = push_below(held, from, entry, into)?;
+    push_joined(held, at, entry, into)
 }
 
 /// Appends the entries that are held from a place on and have a lesser number, and gives the place of the first that has not.

@@ -1,4 +1,4 @@
-ghost use Rattle.std.specs.Prelude.{◌≡◌};
+ghost use Rattle.std.specs.Prelude.{◌≡◌, length};
 ghost use Rattle.desk_rollup.specs.Values.{no_values};
 
 use crate::hop::Hop;
@@ -39,5 +39,12 @@ impl Rolled {
             hops: Vec::new(alloc),
             loads: Vec::new(alloc),
         }
+    }
+
+    /// How many hops the node has.
+    pub(crate) fn hop_count(&self) -> usize
+        ensures { result ≡ length self.now.hops }
+    {
+        self.hops.len()
     }
 }

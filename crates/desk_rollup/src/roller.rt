@@ -14,29 +14,46 @@ use crate::values::Values;
 use desk_graph::{BillLine, OutOfMemory};
 use std::alloc::Global;
 
-/// The values of a node, by its own and by those of its children.
-pub fn roll(
-    alloc: Global,
-    weight: u128,
-    own: &Own,
-    lines: &[BillLine],
-    values: &Values,
-) -> Result<Rolled, OutOfMemory>
-    requires { (child : ℕ) → has_line lines.now child ≡ true → IsKnown (place_in values.now.places.now.slots child) values.now.kept.now values.now.new.now child }
-    ensures { IfOk result (λ rolled. let below = λ (child : ℕ). known (place_in values.now.places.now.slots child) values.now.kept.now values.now.new.now child in
-        rolled ≡ record { weight = weight; hops = all_hops below own.now.marks lines.now; loads = all_loads below own.now.loads lines.now }) }
-{
-    let mut hops = Gathering::new(alloc);
-    add_marks(own.marks.as_slice(), &mut hops)?;
-    add_lines(lines, values, &mut hops)?;
-    let mut loads = Gathering::new(alloc);
-    add_each(own.loads.as_slice(), &mut loads)?;
-    add_lines(lines, values, &mut loads)?;
-    Ok(Rolled {
-        weight,
-        hops: hops.copied(alloc)?,
-        loads: loads.copied(alloc)?,
-    })
+/// What makes the values of one node after another. It keeps the room in which it gathers them.
+#[derive(Drop)]
+pub struct Roller {
+    hops: Gathering<Hop>,
+    loads: Gathering<Load>,
+}
+
+impl Roller {
+    /// No room yet.
+    pub fn new(alloc: Global) -> Roller {
+        Roller {
+            hops: Gathering::new(alloc),
+            loads: Gathering::new(alloc),
+        }
+    }
+
+    /// The values of a node, by its own and by those of its children.
+    pub fn roll(
+        &mut self,
+        alloc: Global,
+        weight: u128,
+        own: &Own,
+        lines: &[BillLine],
+        values: &Values,
+    ) -> Result<Rolled, OutOfMemory>
+        requires { (child : ℕ) → has_line lines.now child ≡ true → IsKnown (place_in values.now.places.now.slots child) values.now.kept.now values.now.new.now child }
+        ensures { IfOk result (λ rolled. let below = λ (child : ℕ). known (place_in values.now.places.now.slots child) values.now.kept.now values.now.new.now child in
+            rolled ≡ record { weight = weight; hops = all_hops below own.now.marks lines.now; loads = all_loads below own.now.loads lines.now }) }
+    {
+        self.hops.clear();
+        add_marks(own.marks.as_slice(), &mut self.hops)?;
+        self.loads.clear();
+        add_each(own.loads.as_slice(), &mut self.loads)?;
+        add_lines(lines, values, &mut self.hops, &mut self.loads)?;
+        Ok(Rolled {
+            weight,
+            hops: self.hops.copied(alloc)?,
+            loads: self.loads.copied(alloc)?,
+        })
+    }
 }
 
 /// Adds own marks.
@@ -62,18 +79,23 @@ fn add_each<E: Entry>(entries: &[E], into: &mut Gathering<E>) -> Result<(), OutO
     Ok(())
 }
 
-/// Adds what the children of the lines have.
-fn add_lines<E: Entry>(
+/// Adds what the children of the lines have. Each child is looked up once for both.
+fn add_lines<E: Entry, F: Entry>(
     lines: &[BillLine],
     values: &Values,
-    into: &mut Gathering<E>,
+    first: &mut Gathering<E>,
+    second: &mut Gathering<F>,
 ) -> Result<(), OutOfMemory>
     requires { (child : ℕ) → has_line lines.now child ≡ true → IsKnown (place_in values.now.places.now.slots child) values.now.kept.now values.now.new.now child }
-    ensures { OnOk result (into.new ≡ with_lines E.number E.joined E.lifted E.listed
-        (λ child. known (place_in values.now.places.now.slots child) values.now.kept.now values.now.new.now child) lines.now into.old) }
+    ensures first { OnOk result (first.new ≡ with_lines E.number E.joined E.lifted E.listed
+        (λ child. known (place_in values.now.places.now.slots child) values.now.kept.now values.now.new.now child) lines.now first.old) }
+    ensures second { OnOk result (second.new ≡ with_lines F.number F.joined F.lifted F.listed
+        (λ child. known (place_in values.now.places.now.slots child) values.now.kept.now values.now.new.now child) lines.now second.old) }
 {
     for line in lines {
-        into.add_lifted(*line, E::listed(values.of(line.node)))?;
+        let child = values.of(line.node);
+        first.add_lifted(*line, E::listed(child))?;
+        second.add_lifted(*line, F::listed(child))?;
     }
     Ok(())
 }

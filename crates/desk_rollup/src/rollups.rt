@@ -1,10 +1,10 @@
-ghost use Rattle.std.specs.Prelude.{◌≡◌, ◌+◌, ◌<◌, ◌≤◌, ℕ, true, false, [], List, None, length, map, slice_index, unwrap_or, IfErr, IfOk};
+ghost use Rattle.std.specs.Prelude.{◌≡◌, ◌+◌, ◌<◌, ◌≤◌, ℕ, true, false, [], List, None, length, map, slice_index, unwrap_or, IfErr, IfOk, IfSome};
 ghost use Rattle.desk_graph.specs.Graph.{Graph, lines_of};
 ghost use Rattle.desk_graph.specs.Reaches.{AreAffected, has_node};
 ghost use Rattle.desk_rollup.specs.Chain.{chain, next_to};
 ghost use Rattle.desk_rollup.specs.Numbers.{mark_number};
 ghost use Rattle.desk_rollup.specs.Plan.{AreDistinct, AreRolledUp, CanPrepare, IsAccepted, IsRefused, IsRollPlan, nodes_of};
-ghost use Rattle.desk_rollup.specs.Values.{DoFit, OwnValues, hop_of, own_at, own_with, rolled_at};
+ghost use Rattle.desk_rollup.specs.Values.{DoFit, OwnValues, hop_of, hop_total, own_at, own_with, rolled_at};
 
 use crate::fault::RollFault;
 use crate::hop::Hop;
@@ -27,6 +27,8 @@ const NODE_LIMIT: usize = 24_576;
 pub struct Rollups {
     pub(crate) owns: Vec<Own>,
     pub(crate) rolled: Vec<Rolled>,
+    /// How many hops all nodes have together, or none once there were too many to count.
+    pub(crate) hops: Option<usize>,
 }
 
 impl Model for Rollups {
@@ -52,6 +54,7 @@ impl Rollups {
         Ok(Rollups {
             owns: Vec::with_capacity(alloc, NODE_LIMIT)?,
             rolled: Vec::with_capacity(alloc, NODE_LIMIT)?,
+            hops: Some(0),
         })
     }
 
@@ -112,7 +115,8 @@ impl Rollups {
         } = plan;
         self.grow(alloc, count);
         put_owns(self.owns.as_mut_slice(), owns);
-        put_rolled(self.rolled.as_mut_slice(), places.as_slice(), rolled);
+        let kept = self.rolled.as_mut_slice();
+        self.hops = put_rolled(kept, places.as_slice(), rolled, self.hops);
     }
 
     /// Sees to it that so many nodes are kept. New ones have nothing. It takes no memory.
@@ -145,6 +149,13 @@ impl Rollups {
         ensures fit { DoFit self.now.rolled }
     {
         self.rolled.as_slice()
+    }
+
+    /// How many hops all nodes have together, unless there were too many to count.
+    pub(crate) fn hops(&self) -> Option<usize>
+        ensures { IfSome result (λ hops. hops ≡ hop_total self.now.rolled) }
+    {
+        self.hops
     }
 
     /// The values that are kept of a node. It takes one step.
@@ -255,17 +266,34 @@ fn put_owns(kept: &mut [Own], new: Vec<Own>)
     }
 }
 
-/// Puts values in, each at its node.
-fn put_rolled(kept: &mut [Rolled], nodes: &[NodeId], mut new: Vec<Rolled>)
+/// Puts values in, each at its node, and gives how many hops all nodes have then, if it is told how many they have now.
+fn put_rolled(
+    kept: &mut [Rolled],
+    nodes: &[NodeId],
+    mut new: Vec<Rolled>,
+    mut hops: Option<usize>,
+) -> Option<usize>
     requires distinct { AreDistinct nodes.now }
     requires inside { (node : ℕ) → has_node nodes.now node ≡ true → node < length kept.old }
     requires sizes { length new.items ≡ length nodes.now }
+    requires hops { IfSome hops (λ hops. hops ≡ hop_total kept.old) }
     ensures size { length kept.new ≡ length kept.old }
     ensures stays { (node : ℕ) → has_node nodes.now node ≡ false → rolled_at kept.new node ≡ rolled_at kept.old node }
     ensures put { (place : ℕ) → place < length nodes.now → rolled_at kept.new (slice_index nodes.now place) ≡ rolled_at new.items place }
     ensures fit { DoFit kept.old → DoFit new.items → DoFit kept.new }
+    ensures hops { IfSome result (λ hops. hops ≡ hop_total kept.new) }
 {
     while let Some(values) = new.pop() {
-        kept[nodes[new.len()] as usize] = values;
+        let node = nodes[new.len()] as usize;
+        hops = exchanged(hops, kept[node].hop_count(), values.hop_count());
+        kept[node] = values;
     }
+    hops
+}
+
+/// The sum once one of its parts is exchanged for another, if that can be told.
+fn exchanged(sum: Option<usize>, old: usize, new: usize) -> Option<usize>
+    ensures { (rest : ℕ) → IfSome sum (λ sum. sum ≡ rest + old) → IfSome result (λ sum. sum ≡ rest + new) }
+{
+    sum?.checked_sub(old)?.checked_add(new)
 }

@@ -4,14 +4,14 @@ ghost use Rattle.desk_rollup.specs.Places.{IsKnown, known, place_in};
 ghost use Rattle.desk_rollup.specs.Plan.{AllFit, IsAccepted, IsRefused};
 ghost use Rattle.desk_rollup.specs.Rolled.{mark_count, weight};
 ghost use Rattle.desk_rollup.specs.Sweep.{AreRolledOf, IsSweep, IsTooLargeOr, lesser_of};
-ghost use Rattle.desk_rollup.specs.Values.{own_with};
+ghost use Rattle.desk_rollup.specs.Values.{hop_total, own_with};
 ghost use Rattle.desk_rollup.specs.Weights.{fitting};
 
 use crate::fault::RollFault;
 use crate::own::Own;
 use crate::places::Places;
 use crate::rolled::Rolled;
-use crate::roller::roll;
+use crate::roller::Roller;
 use crate::rollups::Rollups;
 use crate::values::Values;
 use crate::weights::weigh;
@@ -92,6 +92,7 @@ impl<'a, B: BillView> Sweep<'a, B> {
         ensures size { IfOk result (λ rolled. length rolled.items ≡ length self.now.places.now.nodes) }
         ensures right { IfOk result (λ rolled. AreRolledOf (B.graph self.now.bill.now) self.now.owns.now self.now.kept.now self.now.places.now.nodes rolled.items) }
     {
+        let mut roller = Roller::new(alloc);
         let mut rolled = Vec::with_capacity(alloc, self.lists.len())?;
         for (place, node) in self.places.as_slice().iter().enumerate() {
             let values = Values {
@@ -100,7 +101,7 @@ impl<'a, B: BillView> Sweep<'a, B> {
                 new: rolled.as_slice(),
             };
             let weight = weights[place].unwrap_or(0);
-            let new = roll(alloc, weight, self.own(*node), self.lists[place], &values)?;
+            let new = roller.roll(alloc, weight, self.own(*node), self.lists[place], &values)?;
             rolled.push(new)?;
         }
         Ok(rolled)
@@ -145,6 +146,11 @@ impl<'a, B: BillView> Sweep<'a, B> {
         requires right { AreRolledOf (B.graph self.now.bill.now) self.now.owns.now self.now.kept.now self.now.places.now.nodes rolled.now }
         ensures { result ≡ nat_lt 4194304 (mark_count (B.graph self.now.bill.now).lines (own_with self.now.owns.now self.now.kept.now.owns)) }
     {
+        if let Some(most) = self.most_hops(rolled)
+            && most <= MARK_LIMIT
+        {
+            return false;
+        }
         let values = Values {
             places: self.places,
             kept: self.kept.values(),
@@ -158,6 +164,17 @@ impl<'a, B: BillView> Sweep<'a, B> {
             }
         }
         false
+    }
+
+    /// How many hops are kept of all nodes and stand in the new values, if that can be told. It is no less than there will be.
+    fn most_hops(&self, rolled: &[Rolled]) -> Option<usize>
+        ensures { IfSome result (λ most. most ≡ hop_total self.now.kept.now.rolled + hop_total rolled.now) }
+    {
+        let mut sum = self.kept.hops()?;
+        for values in rolled {
+            sum = sum.checked_add(values.hop_count())?;
+        }
+        Some(sum)
     }
 
     /// The sum together with the marks of a node, if it has lines.

@@ -5,7 +5,7 @@ use Rattle.desk_rollup.specs.declared.rolled.Rolled.{Rolled}
 use Rattle.desk_rollup.specs.Places.{IsKnown, known, place_in}
 use Rattle.desk_rollup.specs.Rolled.{mark_count}
 use Rattle.desk_rollup.specs.Values.{own_with}
-use Rattle.desk_rollup.proofs.MarkCount.{all_known, count_all, count_more, count_within, so_far}
+use Rattle.desk_rollup.proofs.MarkCount.{all_known, count_all, count_more, count_most, count_within, so_far}
 use Rattle.desk_rollup.proofs.sweep.Sweep.are_marks_too_many.Goals as goal
 
 pub with_marks-sum-requires-clause-known : goal.with_marks-sum-requires-clause-known
@@ -40,6 +40,13 @@ loop-node-preserved g c =
 
 pub returns : goal.returns
 returns g c =
+    let bill = g.B.BillView.graph c.args.self.now.bill.now in
+    let s = c.args.self.now in
+    let most = count_most bill s.owns.now s.kept.now s.of_owns.now s.places.now _ c.requires.sweep c.args.rolled.now c.requires.size c.requires.right in
+    sym (le-ltb 4194304 (mark_count bill.lines (own_with s.owns.now s.kept.now.owns)) (omega (arith, most, c.in-Some.ensures, c.if-most-le-MARK_LIMIT.true)))
+
+pub returns-2 : goal.returns-2
+returns-2 g c =
     let bill = g.B.BillView.graph c.args.self.now.bill.now in
     let s = c.args.self.now in
     let all : c.loop-node.node ≡ length bill.labels = omega (arith, c.loop-node-test.false, c.loop-node.auto.node-end, c.node_count-node-end.ensures.count) in
