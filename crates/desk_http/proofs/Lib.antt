@@ -11,3 +11,4 @@ pub mod ReplyLemmas
 pub mod RestLemmas
 pub mod RouteLemmas
 pub mod StreamLemmas
+pub mod AskLemmas

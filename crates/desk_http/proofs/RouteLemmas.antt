@@ -1,7 +1,7 @@
 -- The rows of the router are those of the table of routes.
-use Rattle.std.proofs.Common.{◌≡◌, ◌∙◌, sym, ap, refl, subst, ℕ, zero, suc, ◌+◌, ◌<◌, arith, add-one, drop, get_or, length, Ok, Err, Bool, true, false, List, [], ◌∷◌, Option, Some, None, is_some}
+use Rattle.std.proofs.Common.{◌≡◌, ◌∙◌, sym, ap, refl, subst, ℕ, zero, suc, ◌+◌, ◌<◌, arith, add-one, drop, get_or, length, Result, Ok, Err, Bool, true, false, List, [], ◌∷◌, Option, Some, None, is_some, option_map}
 use Rattle.std.specs.Prelude.{find, ltb, IsUtf8, MatchOption, if◌then◌else◌}
-use Rattle.std.specs.Option.{option_map_or}
+use Rattle.std.specs.Option.{option_and_then, option_map_or}
 use Rattle.std.specs.List.{AllByRecursion, list_all, list_any}
 use Rattle.std.specs.Str.{bytes_eq}
 use Rattle.std.proofs.lemmas.Slice.Eq.{bytes_eq-Decides}
@@ -20,10 +20,12 @@ use Rattle.desk_model.proofs.Elements.{each_from_all, find_each}
 use Rattle.desk_http.specs.declared.endpoint.Endpoint.{Endpoint}
 use Rattle.desk_http.specs.declared.endpoint.Endpoint.TheVariants.{Material, Rohs, Article33, Article7, Part, Uses, Summary, Version, Edit, Declare}
 use Rattle.desk_http.specs.Endpoints.{literal_row, row_at, row_place, router_rows, rows_with}
+use Rattle.desk_http.specs.declared.ask.Ask.{Ask}
+use Rattle.desk_http.specs.declared.http_fault.HttpFault.{HttpFault}
 use Rattle.desk_http.specs.declared.http_fault.HttpFault.TheVariants.{NoRoute, WrongMethod}
 use Rattle.desk_http.specs.declared.method.Method.{Method}
-use Rattle.desk_http.specs.Query.{pairs_of}
-use Rattle.desk_http.specs.Routes.{FromQuery, RouteRow, asked_by, asked_with, path_of, path_taken, query_of, route_of, route_row, routes, same_method}
+use Rattle.desk_http.specs.Query.{Pair, pairs_of}
+use Rattle.desk_http.specs.Routes.{FromQuery, RouteRow, asked_at, asked_by, asked_with, behind_word, path_of, path_word, query_of, route_of, route_row, routes, same_method, taken_from_path}
 use Rattle.desk_http.proofs.Literals.{are_literal, found-is, found_each}
 
 -- the table has the row of each name under its word
@@ -132,22 +134,42 @@ read_as_is Version = refl
 read_as_is Edit = refl
 read_as_is Declare = refl
 
--- what a request asks, by what is found of its path
+-- what a request asks, by the row of its path's word
 module _ (method : Method) (target : List ℕ) where
-  pub unrouted : None ≡ path_taken (path_of target) → Err NoRoute ≡ route_of method target
-  unfolding route_of
-  unrouted found = ap (λ taken. option_map_or (asked_with method (pairs_of (query_of target))) taken (Err NoRoute)) found
+  abbrev behind : List ℕ
+  behind = behind_word (path_of target)
 
-  pub otherwise_taken : (allow : Method) (next : FromQuery) → Some (allow, next) ≡ path_taken (path_of target) → same_method allow method ≡ false
-      → Err (WrongMethod allow) ≡ route_of method target
-  unfolding route_of
-  otherwise_taken allow next found other =
-      sym (ap (λ same. if same then asked_by [] next (pairs_of (query_of target)) else Err (WrongMethod allow)) other)
-      ∙ ap (λ taken. option_map_or (asked_with method (pairs_of (query_of target))) taken (Err NoRoute)) found
+  abbrev pairs : List Pair
+  pairs = pairs_of (query_of target)
 
-  pub routed : (allow : Method) (next : FromQuery) → Some (allow, next) ≡ path_taken (path_of target) → same_method allow method ≡ true
-      → asked_by [] next (pairs_of (query_of target)) ≡ route_of method target
+  abbrev asked_of : Option RouteRow → Result Ask HttpFault
+  asked_of found = option_map_or (asked_with method pairs) (option_and_then (λ row. option_map (λ next. (row.method, next)) (taken_from_path row.path behind)) found) (Err NoRoute)
+
+  pub unrouted : None ≡ route_row (path_word (path_of target)) → Err NoRoute ≡ route_of method target
   unfolding route_of
-  routed allow next found same =
-      sym (ap (λ is. if is then asked_by [] next (pairs_of (query_of target)) else Err (WrongMethod allow)) same)
-      ∙ ap (λ taken. option_map_or (asked_with method (pairs_of (query_of target))) taken (Err NoRoute)) found
+  unrouted found = ap asked_of found
+
+  module _ (row : RouteRow) (found : Some row ≡ route_row (path_word (path_of target))) where
+    pub routed : same_method row.method method ≡ true → asked_at row behind pairs ≡ route_of method target
+    unfolding route_of
+    routed same = by (taken_from_path row.path behind) ∙ ap asked_of found
+      where
+        by : (taken : Option FromQuery) → option_map_or (λ next. asked_by [] next pairs) taken (Err NoRoute) ≡ option_map_or (asked_with method pairs) (option_map (λ next. (row.method, next)) taken) (Err NoRoute)
+        by None = refl
+        by (Some next) = rw same refl
+
+    pub otherwise_taken : same_method row.method method ≡ false → is_some (taken_from_path row.path behind) ≡ true → Err (WrongMethod row.method) ≡ route_of method target
+    unfolding route_of
+    otherwise_taken other there = by (taken_from_path row.path behind) there ∙ ap asked_of found
+      where
+        by : (taken : Option FromQuery) → is_some taken ≡ true → Err (WrongMethod row.method) ≡ option_map_or (asked_with method pairs) (option_map (λ next. (row.method, next)) taken) (Err NoRoute)
+        by None e = cc
+        by (Some next) e = rw other refl
+
+    pub not_taken : is_some (taken_from_path row.path behind) ≡ false → Err NoRoute ≡ route_of method target
+    unfolding route_of
+    not_taken none = by (taken_from_path row.path behind) none ∙ ap asked_of found
+      where
+        by : (taken : Option FromQuery) → is_some taken ≡ false → Err NoRoute ≡ option_map_or (asked_with method pairs) (option_map (λ next. (row.method, next)) taken) (Err NoRoute)
+        by None e = refl
+        by (Some next) e = cc

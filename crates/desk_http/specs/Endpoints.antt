@@ -3,13 +3,10 @@ use Rattle.std.specs.Prelude.{ℕ, List, [], ◌∷◌, get_or}
 use Rattle.matchit.specs.Order.{placed}
 use Rattle.matchit.specs.Router.{RouteOf}
 use Rattle.matchit.specs.Rows.{RowsOf}
-use Rattle.desk_scratch.specs.declared.question.Question.TheVariants.{Material, Rohs, Reach33, Reach7, Part, Uses, Summary, Version}
 use Rattle.desk_http.specs.declared.ask.Ask.TheVariants as ask
 use Rattle.desk_http.specs.declared.endpoint.Endpoint.{Endpoint}
 use Rattle.desk_http.specs.declared.endpoint.Endpoint.TheVariants as endpoint
-use Rattle.desk_http.specs.declared.path.Path.{Path}
-use Rattle.desk_http.specs.declared.path.Path.TheVariants as path
-use Rattle.desk_http.specs.Routes.{FromQuery, RouteRow, asks, asks_for, day, ends, get, kind, routes}
+use Rattle.desk_http.specs.Routes.{RouteRow, asks, ends, get, routes}
 
 -- the place of a row in the table
 unfoldable pub row_place : Endpoint → ℕ
@@ -27,19 +24,6 @@ row_place endpoint.Declare = 9
 -- the row of the table
 abbrev pub row_at : Endpoint → RouteRow
 row_at e = get_or routes (row_place e) (get [] (ends (asks ask.Edit)))
-
--- what is left to take from the query where a path was read
-unfoldable pub left_to_take : Path → FromQuery
-left_to_take (path.Material c) = kind (λ k. day (λ d. asks_for (Material c k d)))
-left_to_take (path.Rohs c) = day (λ d. asks_for (Rohs c d))
-left_to_take (path.Article33 c) = day (λ d. asks_for (Reach33 c d))
-left_to_take (path.Article7 y) = day (λ d. asks_for (Reach7 y d))
-left_to_take (path.Part c) = asks_for (Part c)
-left_to_take (path.Uses c) = asks_for (Uses c)
-left_to_take path.Summary = day (λ d. asks_for (Summary d))
-left_to_take path.Version = asks_for Version
-left_to_take path.Edit = asks ask.Edit
-left_to_take path.Declare = asks ask.Declaration
 
 -- the rows that the router holds of a row of the table: its word as it stands
 abbrev pub literal_row : Endpoint → List ℕ × RouteOf Endpoint

@@ -124,6 +124,10 @@ asked_by names (kind next) pairs =
 asked_by names (day next) pairs =
     option_map_or (λ d. asked_by (codes "day" ∷ names) (next d) pairs) (day_in pairs) (Err (BadQuery key.Day))
 
+-- what a row asks with the bytes behind its word and a query
+abbrev pub asked_at : RouteRow → List ℕ → List Pair → Result Ask HttpFault
+asked_at row behind pairs = option_map_or (λ next. asked_by [] next pairs) (taken_from_path row.path behind) (Err NoRoute)
+
 -- the two are the same method
 abbrev pub same_method : Method → Method → Bool
 same_method Get Get = true

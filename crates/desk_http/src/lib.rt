@@ -10,7 +10,6 @@ mod laws;
 mod limits;
 mod lines;
 mod method;
-mod path;
 mod query;
 mod reply;
 mod request;

@@ -6,14 +6,14 @@ ghost use Rattle.desk_http.specs.declared.ask.Ask.{Ask};
 ghost use Rattle.desk_http.specs.declared.http_fault.HttpFault.TheVariants as fault;
 ghost use Rattle.desk_http.specs.declared.http_fault.QueryKey.TheVariants as key;
 ghost use Rattle.desk_law.specs.Kind.{kind_of};
-ghost use Rattle.desk_http.specs.Endpoints.{left_to_take};
+ghost use Rattle.desk_http.specs.Endpoints.{row_at};
 ghost use Rattle.desk_http.specs.Fields.{IsAsked, IsField, IsQueryOf, by_day, by_kind_and_day, by_nothing, is_absent, key_named, names_of};
 ghost use Rattle.desk_http.specs.Query.{Pair, askable_day, day_in, kind_in, pairs_of};
-ghost use Rattle.desk_http.specs.Routes.{are_named, asked_by};
+ghost use Rattle.desk_http.specs.Routes.{are_named, asked_at, asked_by};
 
 use crate::ask::Ask;
+use crate::endpoint::Endpoint;
 use crate::http_fault::{HttpFault, QueryKey};
-use crate::path::Path;
 use desk_law::Kind;
 use desk_text::Day;
 use form_urlencoded::parse;
@@ -163,12 +163,17 @@ impl Query {
     }
 }
 
-/// What a path asks with a query.
-pub(crate) fn asked(alloc: Global, path: Path, query: &[u8]) -> Result<Ask, HttpFault>
-    ensures { result ≢ Err fault.OutOfMemory → result ≡ asked_by [] (left_to_take path) (pairs_of query.now) }
+/// What a row of the table asks with the bytes behind its word and a query.
+pub(crate) fn asked(
+    alloc: Global,
+    endpoint: Endpoint,
+    behind: &[u8],
+    query: &[u8],
+) -> Result<Ask, HttpFault>
+    ensures { result ≢ Err fault.OutOfMemory → result ≡ asked_at (row_at endpoint) behind.now (pairs_of query.now) }
 {
     match Query::read(alloc, query) {
-        Ok(query) => path.ask(&query),
+        Ok(query) => endpoint.ask(behind, &query),
         Err(_) => Err(HttpFault::OutOfMemory),
     }
 }

@@ -1,6 +1,6 @@
-ghost use Rattle.std.specs.Prelude.{◌≡◌, ◌++◌, IsTrue, OnOk, OnErr};
+ghost use Rattle.std.specs.Prelude.{◌≡◌, ◌++◌, codes, IsTrue, OnOk, OnErr};
 ghost use Rattle.httparse.specs.Ascii.{crlf_bytes};
-ghost use Rattle.desk_http.specs.Reply.{GrewTo, is_reply_status, fits_status, status_line, body_lines, allow_line, close_line, reply};
+ghost use Rattle.desk_http.specs.Reply.{GrewTo, is_reply_status, fits_status, status_line, allow_line, close_line, reply};
 
 use crate::method::Method;
 use desk_text::{Bytes, OutOfMemory, push_u128};
@@ -33,7 +33,7 @@ pub fn write_reply(
 }
 
 /// Appends a reply, or a beginning of it where memory runs out.
-#[tactic(auto, unfolding(crate::specs::Reply::reply))]
+#[tactic(auto, unfolding(crate::specs::Reply::reply, crate::specs::Reply::body_lines))]
 fn push_reply(
     status: StatusCode,
     body: &[u8],
@@ -46,61 +46,54 @@ fn push_reply(
     ensures ok { OnOk result (out.new ≡ out.old ++ reply status body.now allow close) }
     ensures err { OnErr result (GrewTo out.old out.new) }
 {
-    out.push_all(status_line(status).as_bytes())?;
-    push_body_lines(out, body.len())?;
-    out.push_all(allow_line(allow).as_bytes())?;
-    out.push_all(head_end(close).as_bytes())?;
+    out.push_all(head_start(status).as_bytes())?;
+    push_u128(out, body.len() as u128)?;
+    out.push_all(head_rest(allow, close).as_bytes())?;
     out.push_all(body)
 }
 
-/// The line that a reply begins with. It is one text, as each reply has one, and to write its five pieces takes longer.
-fn status_line(status: StatusCode) -> &'static str
+/// The text of a reply up to the length of its body.
+macro_rules! head_start {
+    ($status:literal) => {
+        concat!(
+            "HTTP/1.1 ", $status, "\r\n",
+            "Content-Type: text/plain; charset=utf-8\r\n",
+            "Content-Length: "
+        )
+    };
+}
+
+/// What a reply begins with, up to the length of its body. It is one text, as to write its pieces takes longer.
+fn head_start(status: StatusCode) -> &'static str
     requires { IsTrue (is_reply_status status) }
-    ensures { result.now ≡ status_line status }
+    ensures { result.now ≡ status_line status ++ codes "Content-Type: text/plain; charset=utf-8" ++ crlf_bytes ++ codes "Content-Length: " }
 {
     match status.as_u16() {
-        200 => "HTTP/1.1 200 OK\r\n",
-        400 => "HTTP/1.1 400 Bad Request\r\n",
-        404 => "HTTP/1.1 404 Not Found\r\n",
-        405 => "HTTP/1.1 405 Method Not Allowed\r\n",
-        409 => "HTTP/1.1 409 Conflict\r\n",
-        411 => "HTTP/1.1 411 Length Required\r\n",
-        413 => "HTTP/1.1 413 Payload Too Large\r\n",
-        431 => "HTTP/1.1 431 Request Header Fields Too Large\r\n",
-        503 => "HTTP/1.1 503 Service Unavailable\r\n",
-        507 => "HTTP/1.1 507 Insufficient Storage\r\n",
+        200 => head_start!("200 OK"),
+        400 => head_start!("400 Bad Request"),
+        404 => head_start!("404 Not Found"),
+        405 => head_start!("405 Method Not Allowed"),
+        409 => head_start!("409 Conflict"),
+        411 => head_start!("411 Length Required"),
+        413 => head_start!("413 Payload Too Large"),
+        431 => head_start!("431 Request Header Fields Too Large"),
+        503 => head_start!("503 Service Unavailable"),
+        507 => head_start!("507 Insufficient Storage"),
         _ => unreachable!(),
     }
 }
 
-/// The lines that say what the body is and how long.
-fn push_body_lines(reply: &mut Bytes, body_len: usize) -> Result<(), OutOfMemory>
-    ensures ok { OnOk result (reply.new ≡ reply.old ++ body_lines body_len) }
-    ensures err { OnErr result (GrewTo reply.old reply.new) }
+/// What stands between the length of a reply's body and the body: the end of that line, the line that names the method allowed, the
+/// line that says that the connection ends, and the empty line.
+fn head_rest(allow: Option<Method>, close: bool) -> &'static str
+    ensures { result.now ≡ crlf_bytes ++ allow_line allow ++ close_line close ++ crlf_bytes }
 {
-    reply.push_all(b"Content-Type: text/plain; charset=utf-8\r\nContent-Length: ")?;
-    push_u128(reply, body_len as u128)?;
-    reply.push_all(b"\r\n")
-}
-
-/// The line that names the method allowed.
-fn allow_line(allow: Option<Method>) -> &'static str
-    ensures { result.now ≡ allow_line allow }
-{
-    match allow {
-        Some(Method::Get) => "Allow: GET\r\n",
-        Some(Method::Post) => "Allow: POST\r\n",
-        _ => "",
-    }
-}
-
-/// What stands behind the lines of a head: the line that says that the connection ends, where it does, and the empty line.
-fn head_end(close: bool) -> &'static str
-    ensures { result.now ≡ close_line close ++ crlf_bytes }
-{
-    if close {
-        "Connection: close\r\n\r\n"
-    } else {
-        "\r\n"
+    match (allow, close) {
+        (Some(Method::Get), false) => "\r\nAllow: GET\r\n\r\n",
+        (Some(Method::Get), true) => "\r\nAllow: GET\r\nConnection: close\r\n\r\n",
+        (Some(Method::Post), false) => "\r\nAllow: POST\r\n\r\n",
+        (Some(Method::Post), true) => "\r\nAllow: POST\r\nConnection: close\r\n\r\n",
+        (_, false) => "\r\n\r\n",
+        (_, true) => "\r\nConnection: close\r\n\r\n",
     }
 }

@@ -1,24 +1,15 @@
-ghost use Rattle.std.specs.Prelude.{◌≡◌, ◌≢◌, ◌≤◌, ◌==◌, Err, true, IfOk, length, option_map, position};
+ghost use Rattle.std.specs.Prelude.{◌≡◌, ◌≢◌, ◌≤◌, ◌==◌, Err, true, IfOk, length, position};
 ghost use Rattle.desk_http.specs.declared.http_fault.HttpFault.TheVariants as fault;
-ghost use Rattle.desk_http.specs.Endpoints.{left_to_take};
-ghost use Rattle.desk_http.specs.Routes.{behind_word, is_ask_in_range, path_of, path_taken, query_of, route_of, path_word};
+ghost use Rattle.desk_http.specs.Routes.{behind_word, is_ask_in_range, path_of, query_of, route_of, path_word};
 ghost use Rattle.desk_http.specs.Taken.{span_bytes};
 
 use crate::ask::Ask;
 use crate::http_fault::HttpFault;
-use crate::method::{Method, same_method};
-use crate::path::Path;
+use crate::method::same_method;
 use crate::query::asked;
 use crate::request::Request;
 use crate::routes::Routes;
 use std::alloc::Global;
-
-/// A path of the table of routes, with the method that it takes.
-#[derive(Clone, Copy, Debug)]
-struct Found {
-    method: Method,
-    path: Path,
-}
 
 /// What a request asks that was taken from this buffer, or the first reason why it asks nothing: there is no such path, the path
 /// takes another method, or its query fails at a key.
@@ -36,29 +27,19 @@ pub fn route(
     ensures value { result ≢ Err fault.OutOfMemory → result ≡ route_of request.now.method (span_bytes buffer.now request.now.target) }
     ensures range { IfOk result (λ asked. is_ask_in_range asked ≡ true) }
 {
-    let target = request.target.of(buffer);
-    let (path, query) = split_target(target);
-    let found = match find(routes, path) {
-        Some(found) => found,
-        None => return Err(HttpFault::NoRoute),
-    };
-    if !same_method(found.method, request.method) {
-        return Err(HttpFault::WrongMethod {
-            allow: found.method,
-        });
-    }
-    asked(alloc, found.path, query)
-}
-
-/// The path of the table that these bytes are.
-fn find(routes: &Routes, path: &[u8]) -> Option<Found>
-    ensures { option_map (λ found. (found.method, left_to_take found.path)) result ≡ path_taken path.now }
-{
+    let (path, query) = split_target(request.target.of(buffer));
     let (word, behind) = split_path(path);
-    let endpoint = routes.find(word)?;
-    let path = Path::read(endpoint, behind)?;
-    let method = endpoint.method();
-    Some(Found { method, path })
+    let Some(endpoint) = routes.find(word) else {
+        return Err(HttpFault::NoRoute);
+    };
+    let allow = endpoint.method();
+    if same_method(allow, request.method) {
+        asked(alloc, endpoint, behind, query)
+    } else if endpoint.takes(behind) {
+        Err(HttpFault::WrongMethod { allow })
+    } else {
+        Err(HttpFault::NoRoute)
+    }
 }
 
 /// What stands before the first `?` of a target, and what stands behind it.
