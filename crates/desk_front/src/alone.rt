@@ -12,6 +12,7 @@ use crate::stream::serve;
 use desk_clerk::Clerk;
 use desk_edge::{Keeper, Link};
 use desk_http::Routes;
+use desk_text::Bytes;
 use std::alloc::Global;
 use std::sync::Wait;
 
@@ -72,7 +73,14 @@ fn serve_by<R: Wait + Sync, L: Link, K: Keeper>(
 {
     clerk.tables();
     let met = clerk.number();
-    let mut connection = Connection { routes, clerk, met };
+    let mut room = Bytes::start(alloc);
+    let body = &mut room;
+    let mut connection = Connection {
+        routes,
+        clerk,
+        met,
+        body,
+    };
     serve_connection(rt, alloc, link, &mut connection)
 }
 

@@ -32,6 +32,8 @@ pub(crate) struct Connection<'a, K: Keeper> {
     pub(crate) clerk: &'a mut Clerk<K>,
     /// The number of the longest list that the connection has met.
     pub(crate) met: u64,
+    /// Room for the body of an answer, which is kept from one to the next.
+    pub(crate) body: &'a mut Bytes,
 }
 
 impl<K: Keeper> Answerer for Connection<'_, K> {
@@ -56,7 +58,8 @@ impl<K: Keeper> Answerer for Connection<'_, K> {
         let close = request.close;
         match route(alloc, self.routes, buffer, request) {
             Ok(Ask::Question(question)) => {
-                answer(alloc, self.clerk, &mut self.met, &question, close, out)
+                let met = &mut self.met;
+                answer(alloc, self.clerk, met, &question, close, self.body, out)
             }
             Ok(Ask::Edit) => { enter_json(rt, alloc, self.clerk, &mut self.met, body, close, out) }
             Ok(Ask::Declaration) => {
@@ -74,6 +77,7 @@ fn answer<K: Keeper>(
     met: &mut u64,
     question: &Question,
     close: bool,
+    body: &mut Bytes,
     out: &mut Bytes,
 ) -> Result<(), Fixed>
     requires { is_question_in_range question.now ≡ true }
@@ -86,7 +90,7 @@ fn answer<K: Keeper>(
     ensures allow { IfErr result (λ fixed. allow_of fixed ≢ Some method.Other) }
     ensures err { OnErr result (out.new ≡ out.old) }
 {
-    match tell_answer(alloc, clerk.tables(), question, close, out) {
+    match tell_answer(alloc, clerk.tables(), question, close, body, out) {
         Ok(()) => {
             *met = clerk.number();
             Ok(())

@@ -35,12 +35,13 @@ fn tell(status: StatusCode, body: &[u8], close: bool, out: &mut Bytes) -> Result
     }
 }
 
-/// Appends the answer to a question, or that there is none.
+/// Appends the answer to a question, or that there is none. Its body is written into the room for it first, as its length comes before it.
 pub(crate) fn tell_answer(
     alloc: Global,
     tables: &Tables,
     question: &Question,
     close: bool,
+    body: &mut Bytes,
     out: &mut Bytes,
 ) -> Result<(), Fixed>
     requires sound { Sound tables.now.lists }
@@ -49,8 +50,8 @@ pub(crate) fn tell_answer(
     ensures memory { IfErr result (λ told. told ≡ refusal.Memory) }
     ensures err { OnErr result (out.new ≡ out.old) }
 {
-    let mut body = Bytes::start(alloc);
-    match answer_plain(alloc, tables, question, &mut body) {
+    body.truncate(0);
+    match answer_plain(alloc, tables, question, body) {
         Ok(()) => tell(StatusCode::OK, body.as_slice(), close, out),
         Err(AskFault::OutOfMemory) => Err(Fixed::Memory),
         Err(fault) => tell_no_answer(alloc, tables, &fault, close, out),

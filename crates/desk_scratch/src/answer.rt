@@ -6,6 +6,7 @@ ghost use Rattle.desk_scratch.specs.declared.ask_fault.AskFault.TheVariants as a
 ghost use Rattle.desk_scratch.specs.declared.question.Question.TheVariants as question;
 ghost use Rattle.desk_scratch.specs.Eval.{eval};
 ghost use Rattle.desk_scratch.specs.Questions.{is_question_in_range};
+ghost use Rattle.desk_scratch.specs.SharedLines.{version_line};
 
 use crate::ask_fault::AskFault;
 use crate::material::material_text;
@@ -14,12 +15,11 @@ use crate::question::Question;
 use crate::reach7::reach7_text;
 use crate::reach33::reach33_text;
 use crate::rohs::rohs_text;
-use crate::shared_lines::push_version_line;
 use crate::summary::summary_text;
 use crate::uses::uses_text;
 use desk_law::{Kind, KindOnDay};
 use desk_tables::Tables;
-use desk_text::{Bytes, Code, Day};
+use desk_text::{Bytes, Code, Day, OutOfMemory, push_u128};
 use std::alloc::Global;
 
 /// Appends the answer to the question, made of the tables alone.
@@ -39,7 +39,27 @@ pub fn answer_plain(
     ensures refusal { IfErr result (λ fault. fault ≢ ask.OutOfMemory → eval tables.now.lists question.now ≡ Err fault) }
     ensures unchanged { OnErr result (out.new ≡ out.old) }
 {
-    let text = answer_text(alloc, tables, question)?;
+    match *question {
+        Question::Material { code, kind, day } => {
+            give(on_material(alloc, tables, code, kind, day), out)
+        }
+        Question::Rohs { code, day } => give(on_rohs(alloc, tables, code, day), out),
+        Question::Reach33 { code, day } => give(on_reach33(alloc, tables, code, day), out),
+        Question::Reach7 { year, day } => give(on_reach7(alloc, tables, year, day), out),
+        Question::Part { code } => give(on_part(alloc, tables, code), out),
+        Question::Uses { code } => give(on_uses(alloc, tables, code), out),
+        Question::Summary { day } => give(on_summary(alloc, tables, day), out),
+        Question::Version => on_version(tables, out),
+    }
+}
+
+/// Appends an answer that was made, or tells why none was.
+fn give(answer: Result<Bytes, AskFault>, out: &mut Bytes) -> Result<(), AskFault>
+    ensures answer { OnOk result ((text : List ℕ) × (answer ≡ Ok text) × (out.new ≡ out.old ++ text)) }
+    ensures refusal { IfErr result (λ fault. fault ≢ ask.OutOfMemory → answer ≡ Err fault) }
+    ensures unchanged { OnErr result (out.new ≡ out.old) }
+{
+    let text = answer?;
     if out.is_empty() {
         // The text is given as it is, and not copied.
         *out = text;
@@ -47,24 +67,6 @@ pub fn answer_plain(
         out.push_all(text.as_slice())?;
     }
     Ok(())
-}
-
-/// The answer to the question.
-fn answer_text(alloc: Global, tables: &Tables, question: &Question) -> Result<Bytes, AskFault>
-    requires sound { Sound tables.now.lists }
-    requires in_range { is_question_in_range question.now ≡ true }
-    ensures { result ≢ Err ask.OutOfMemory → result ≡ eval tables.now.lists question.now }
-{
-    match *question {
-        Question::Material { code, kind, day } => on_material(alloc, tables, code, kind, day),
-        Question::Rohs { code, day } => on_rohs(alloc, tables, code, day),
-        Question::Reach33 { code, day } => on_reach33(alloc, tables, code, day),
-        Question::Reach7 { year, day } => on_reach7(alloc, tables, year, day),
-        Question::Part { code } => on_part(alloc, tables, code),
-        Question::Uses { code } => on_uses(alloc, tables, code),
-        Question::Summary { day } => on_summary(alloc, tables, day),
-        Question::Version => on_version(alloc, tables),
-    }
 }
 
 /// The answer on a material.
@@ -171,15 +173,30 @@ fn on_summary(alloc: Global, tables: &Tables, day: Day) -> Result<Bytes, AskFaul
     Ok(text)
 }
 
-/// The most bytes of a version's text: a word, a space, twenty digits and the end of the line.
-const VERSION_TEXT_MOST: usize = 29;
-
-/// The answer on the number of the tables. It has one line.
+/// Appends the answer on the number of the tables. It has one line, and takes no memory but for what `out` grows by.
 #[tactic(auto, unfolding(crate::specs::Eval::eval))]
-fn on_version(alloc: Global, tables: &Tables) -> Result<Bytes, AskFault>
-    ensures { result ≢ Err ask.OutOfMemory → result ≡ eval tables.now.lists question.Version }
+fn on_version(tables: &Tables, out: &mut Bytes) -> Result<(), AskFault>
+    ensures answer { OnOk result ((text : List ℕ) × (eval tables.now.lists question.Version ≡ Ok text) × (out.new ≡ out.old ++ text)) }
+    ensures refusal { IfErr result (λ fault. fault ≡ ask.OutOfMemory) }
+    ensures unchanged { OnErr result (out.new ≡ out.old) }
 {
-    let mut text = String::with_capacity(alloc, VERSION_TEXT_MOST)?;
-    push_version_line(&mut text, tables)?;
-    Ok(Bytes::from(text.into_bytes()))
+    let len = out.len();
+    match push_version(tables, out) {
+        Ok(()) => Ok(()),
+        Err(fault) => {
+            out.truncate(len);
+            Err(fault.into())
+        }
+    }
+}
+
+/// Appends the line with the number of the tables, or a beginning of it where memory runs out.
+#[tactic(auto, unfolding(crate::specs::SharedLines::version_line))]
+fn push_version(tables: &Tables, out: &mut Bytes) -> Result<(), OutOfMemory>
+    ensures ok { OnOk result (out.new ≡ out.old ++ version_line tables.now.lists) }
+    ensures err { OnErr result ((more : List ℕ) × (out.new ≡ out.old ++ more)) }
+{
+    out.push_all(b"version ")?;
+    push_u128(out, u128::from(tables.number()))?;
+    out.push_all(b"\n")
 }
