@@ -1,6 +1,3 @@
-ghost use Rattle.std.specs.Prelude.{IsTrue};
-ghost use Rattle.desk_text.specs.Day.{is_askable};
-
 use crate::kind::Kind;
 use desk_text::Day;
 
@@ -9,7 +6,6 @@ use desk_text::Day;
 pub struct KindOnDay {
     /// The kind of equipment.
     pub kind: Kind,
-    /// The day, 2014-07-22 or later.
+    /// The day. Calls that judge ask that it is 2014-07-22 or later.
     pub day: Day,
-    ghost askable: { IsTrue (is_askable day) },
 }

@@ -1,4 +1,5 @@
-ghost use Rattle.std.specs.Prelude.{◌≡◌, ◌≤◌, length, IfOk};
+ghost use Rattle.std.specs.Prelude.{◌≡◌, ◌≤◌, length, true, IfOk};
+ghost use Rattle.desk_text.specs.Day.{is_askable};
 ghost use Rattle.desk_history.specs.Sound.{Sound};
 ghost use Rattle.desk_model.specs.declared.limits.TheConstants.{CONTENT_LIMIT};
 ghost use Rattle.desk_model.specs.declared.rows.material.MaterialRow.{MaterialRow};
@@ -25,7 +26,8 @@ pub(crate) struct Assessment<'a> {
 }
 
 impl<'a> Model for Assessment<'a> {
-    ghost use Rattle.std.specs.Prelude.{◌≡◌};
+    ghost use Rattle.std.specs.Prelude.{◌≡◌, true};
+    ghost use Rattle.desk_text.specs.Day.{is_askable};
     ghost use Rattle.desk_history.specs.Sound.{Sound};
     ghost use Rattle.desk_findings.specs.Verdicts.{terms_of};
     ghost use Rattle.desk_scratch.specs.Assessment.{Assessed};
@@ -34,7 +36,7 @@ impl<'a> Model for Assessment<'a> {
 
     ghost view = { λ a. record { lists = a.tables.now.lists; kind = a.asked.kind; day = a.asked.day } };
 
-    ghost invariant = { λ a. Sound a.tables.now.lists × (a.terms.now ≡ terms_of a.tables.now.lists) };
+    ghost invariant = { λ a. Sound a.tables.now.lists × (a.terms.now ≡ terms_of a.tables.now.lists) × (is_askable a.asked.day ≡ true) };
 }
 
 impl<'a> Assessment<'a> {
@@ -42,6 +44,7 @@ impl<'a> Assessment<'a> {
     pub(crate) fn new(tables: &'a Tables, terms: &'a [Terms], asked: KindOnDay) -> Assessment<'a>
         requires sound { Sound tables.now.lists }
         requires terms { terms.now ≡ terms_of tables.now.lists }
+        requires askable { is_askable asked.day ≡ true }
         ensures { result ≡ record { lists = tables.now.lists; kind = asked.kind; day = asked.day } }
     {
         Assessment {

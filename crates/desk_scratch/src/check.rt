@@ -1,5 +1,6 @@
-ghost use Rattle.std.specs.Prelude.{◌≡◌, ◌↔◌, ◌++◌, codes, false, IfOk, OnOk, string_bytes};
+ghost use Rattle.std.specs.Prelude.{◌≡◌, ◌↔◌, ◌++◌, codes, false, true, IfOk, OnOk, string_bytes};
 ghost use Rattle.std.specs.List.{flat_map};
+ghost use Rattle.desk_text.specs.Day.{is_askable};
 ghost use Rattle.desk_history.specs.Sound.{Sound};
 ghost use Rattle.desk_model.specs.Effect.{declared_row};
 ghost use Rattle.desk_scratch.specs.Assessment.{facts_of};
@@ -28,7 +29,8 @@ pub fn check_text(
     asked: &KindOnDay,
     declaration: &Declaration,
 ) -> Result<Bytes, OutOfMemory>
-    requires { Sound tables.now.lists }
+    requires sound { Sound tables.now.lists }
+    requires askable { is_askable asked.now.day ≡ true }
     ensures value { IfOk result (λ text. text ≡ check_text tables.now.lists asked.now.kind asked.now.day declaration.now) }
     // "compliant" means that no verdict on any material for any rule is a breach.
     ensures compliant { IfOk result (λ text.

@@ -1,4 +1,5 @@
-ghost use Rattle.std.specs.Prelude.{◌≡◌, ◌≤◌, length, IfOk};
+ghost use Rattle.std.specs.Prelude.{◌≡◌, ◌≤◌, length, true, IfOk};
+ghost use Rattle.desk_text.specs.Day.{is_askable};
 ghost use Rattle.desk_history.specs.Sound.{Sound};
 ghost use Rattle.desk_model.specs.declared.limits.TheConstants.{CONTENT_LIMIT};
 ghost use Rattle.desk_scratch.specs.Material.{material_text};
@@ -24,6 +25,7 @@ pub(crate) fn material_text(
     material: &MaterialRow,
 ) -> Result<Bytes, OutOfMemory>
     requires sound { Sound tables.now.lists }
+    requires askable { is_askable asked.now.day ≡ true }
     requires few { length material.now.substances ≤ CONTENT_LIMIT }
     ensures { IfOk result (λ text. text ≡ material_text tables.now.lists asked.now.kind asked.now.day material.now) }
 {

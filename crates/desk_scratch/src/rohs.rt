@@ -1,5 +1,6 @@
 ghost use Rattle.std.specs.Prelude.{◌≡◌, ◌++◌, ◌≤◌, ◌&&◌, [], codes, length, map, true, string_bytes, if◌then◌else◌, IfOk, OnOk};
 ghost use Rattle.std.specs.List.{flat_map};
+ghost use Rattle.desk_text.specs.Day.{is_askable};
 ghost use Rattle.desk_history.specs.Sound.{Sound};
 ghost use Rattle.desk_model.specs.declared.limits.TheConstants.{CONTENT_LIMIT};
 ghost use Rattle.desk_model.specs.Lists.{is_part};
@@ -39,6 +40,7 @@ pub(crate) fn rohs_text(
     product: &ProductRow,
 ) -> Result<Bytes, OutOfMemory>
     requires sound { Sound tables.now.lists }
+    requires askable { is_askable asked.now.day ≡ true }
     requires kept { is_part tables.now.lists product.now.part ≡ true }
     requires kind { asked.now.kind ≡ product.now.kind }
     ensures { IfOk result (λ text. text ≡ rohs_text tables.now.lists product.now asked.now.day) }

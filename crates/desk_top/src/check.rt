@@ -17,7 +17,6 @@ use desk_model::Edit;
 use desk_scratch::check_text;
 use desk_tables::Tables;
 use desk_text::{Bytes, OutOfMemory};
-use desk_words::Check;
 use std::alloc::Global;
 
 /// The greatest number of bytes in a declaration that is checked.
@@ -76,7 +75,7 @@ impl From<OutOfMemory> for CheckFault {
 /// Reads a declaration from the console and writes the answer to `check`.
 ///
 /// It has no runtime, so it waits for nobody but the console's own calls, and returns.
-pub fn answer_check<L: Link>(alloc: Global, check: &Check, console: &mut L) -> Status
+pub fn answer_check<L: Link>(alloc: Global, check: &KindOnDay, console: &mut L) -> Status
     requires { is_askable check.now.day ≡ true }
     ensures words { result ≢ Status.BadWords }
     ensures console_fault { result ≡ Status.ConsoleFault → Rose (L.faults console.old) (L.faults console.new) }
@@ -115,7 +114,7 @@ fn answer_refused<L: Link>(alloc: Global, refusal: &Refusal, console: &mut L) ->
 /// The answer to `check` for the bytes that the console gives. After an error nothing was written.
 pub fn check_input<L: Link>(
     alloc: Global,
-    check: &Check,
+    check: &KindOnDay,
     console: &mut L,
 ) -> Result<Bytes, CheckFault>
     requires { is_askable check.now.day ≡ true }
@@ -137,7 +136,7 @@ pub fn check_input<L: Link>(
 
 /// The answer to `check` for these bytes.
 #[tactic(auto, unfolding(crate::specs::Check::checked))]
-pub fn check_bytes(alloc: Global, check: &Check, bytes: &[u8]) -> Result<Bytes, CheckFault>
+pub fn check_bytes(alloc: Global, check: &KindOnDay, bytes: &[u8]) -> Result<Bytes, CheckFault>
     requires { is_askable check.now.day ≡ true }
     ensures answer { Agrees result (checked check.now bytes.now) }
     ensures within { OnOk result (length bytes.now ≤ input_limit) }
@@ -150,7 +149,7 @@ pub fn check_bytes(alloc: Global, check: &Check, bytes: &[u8]) -> Result<Bytes, 
 }
 
 /// The answer to `check` for a declaration that was read.
-fn check_edit(alloc: Global, check: &Check, edit: &Edit) -> Result<Bytes, CheckFault>
+fn check_edit(alloc: Global, check: &KindOnDay, edit: &Edit) -> Result<Bytes, CheckFault>
     requires askable { is_askable check.now.day ≡ true }
     requires declares { (d : Declared) × (edit.now ≡ Declare d) }
     ensures answer { (d : Declared) → edit.now ≡ Declare d → Agrees result (judged check.now (Ok d)) }
@@ -159,12 +158,8 @@ fn check_edit(alloc: Global, check: &Check, edit: &Edit) -> Result<Bytes, CheckF
         unreachable!()
     };
     let tables = Tables::start(alloc)?;
-    let asked = KindOnDay {
-        kind: check.kind,
-        day: check.day,
-    };
     match tables.refused_at_start(declaration) {
         Some(fault) => Err(CheckFault::Refused(Refusal::Rule(fault))),
-        None => Ok(check_text(alloc, &tables, &asked, declaration)?),
+        None => Ok(check_text(alloc, &tables, check, declaration)?),
     }
 }

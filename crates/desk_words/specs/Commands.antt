@@ -12,7 +12,7 @@ use Rattle.desk_law.specs.Kind.{kind_of}
 use Rattle.desk_words.specs.Forms.{Word, has_one_dash, command_line_of, value_in}
 use Rattle.desk_words.specs.Table.{forms}
 use Rattle.desk_words.specs.declared.command.Audit.{Audit}
-use Rattle.desk_words.specs.declared.command.Check.{Check}
+use Rattle.desk_law.specs.declared.kind_on_day.KindOnDay.{KindOnDay}
 use Rattle.desk_words.specs.declared.command.Command.{Command}
 use Rattle.desk_words.specs.declared.command.Command.TheVariants as asked
 use Rattle.desk_words.specs.declared.command.Export.{Export}
@@ -59,13 +59,13 @@ sample_size_of word =
 abbrev pub read_by : {T : Type 0} → (Word → Option T) → Option Word → Option T
 read_by read text = option_and_then read text
 
-abbrev pub check_with : Option Date → Option Kind → Option Check
+abbrev pub check_with : Option Date → Option Kind → Option KindOnDay
 check_with (Some day) (Some kind) = Some (record { day = day; kind = kind })
 check_with (Some day) None = None
 check_with None kind = None
 
 -- the check: a day and a kind
-abbrev pub check_of : (Word → Option Word) → Option Check
+abbrev pub check_of : (Word → Option Word) → Option KindOnDay
 check_of text = check_with (read_by askable_day_of (text (codes "DAY"))) (read_by kind_of (text (codes "KIND")))
 
 -- a store that may be missing

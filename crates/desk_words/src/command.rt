@@ -1,4 +1,4 @@
-use desk_law::Kind;
+use desk_law::KindOnDay;
 use desk_text::{Bytes, Day};
 
 /// The most bytes in the name of a store.
@@ -10,8 +10,8 @@ pub const SAMPLE_LIMIT: u32 = 2000;
 /// What the program is asked to do.
 #[derive(Debug, Drop)]
 pub enum Command {
-    /// Judge a declaration.
-    Check(Check),
+    /// Judge a declaration for a kind of equipment and a day, 2014-07-22 or later.
+    Check(KindOnDay),
     /// Serve a stream of requests.
     Session(Session),
     /// Write what a store keeps.
@@ -22,15 +22,6 @@ pub enum Command {
     Audit(Audit),
     /// Make a sample desk and summarise it.
     Sample(Sample),
-}
-
-/// The command `check`: judge a declaration for a day and a kind of equipment.
-#[derive(Clone, Copy, Debug)]
-pub struct Check {
-    /// The day that is asked about, 2014-07-22 or later.
-    pub day: Day,
-    /// The kind of equipment that the materials are for.
-    pub kind: Kind,
 }
 
 /// The command `session`: serve one stream of requests on the console.

@@ -8,7 +8,7 @@ mod read;
 mod readers;
 
 pub use command::{
-    Audit, Check, Command, Export, Import, SAMPLE_LIMIT, STORE_NAME_LIMIT, Sample, Session,
+    Audit, Command, Export, Import, SAMPLE_LIMIT, STORE_NAME_LIMIT, Sample, Session,
 };
 pub use command_fault::CommandFault;
 pub use read::read_command;

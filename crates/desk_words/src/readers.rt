@@ -8,11 +8,11 @@ ghost use Rattle.desk_words.specs.Commands.{read_by, sample_of, session_of, stor
 ghost use Rattle.desk_words.specs.declared.command_fault.CommandFault.TheVariants as fault;
 
 use crate::command::{
-    Audit, Check, Command, Export, Import, SAMPLE_LIMIT, STORE_NAME_LIMIT, Sample, Session,
+    Audit, Command, Export, Import, SAMPLE_LIMIT, STORE_NAME_LIMIT, Sample, Session,
 };
 use crate::command_fault::CommandFault;
 use clap::ArgMatches;
-use desk_law::Kind;
+use desk_law::{Kind, KindOnDay};
 use desk_text::{Bytes, Day, read_u32};
 use std::alloc::Global;
 
@@ -47,7 +47,7 @@ pub(crate) fn read_values(
     Err(CommandFault::NoCommand)
 }
 
-fn read_check(values: &ArgMatches<'_>) -> Result<Check, CommandFault>
+fn read_check(values: &ArgMatches<'_>) -> Result<KindOnDay, CommandFault>
     ensures value { result ≡ ok_or (check_of (first_value (found_of values.now))) fault.NoCommand }
     ensures bounds { IfOk result (λ check. is_askable check.day ≡ true) }
 {
@@ -56,7 +56,7 @@ fn read_check(values: &ArgMatches<'_>) -> Result<Check, CommandFault>
         return Err(CommandFault::NoCommand);
     };
     match Kind::read(kind.as_bytes()) {
-        Some(kind) => Ok(Check { day, kind }),
+        Some(kind) => Ok(KindOnDay { kind, day }),
         None => Err(CommandFault::NoCommand),
     }
 }
