@@ -12,9 +12,22 @@ pub fn join_held<E: Entry>(held: &mut [E], line: BillLine, more: &[E]) -> (usize
     ensures joins { merged E.number E.joined (map (E.lifted line) more.now) held.old ≡
         take result.0 held.new ++ merged E.number E.joined (map (E.lifted line) (drop result.1 more.now)) (drop result.0 held.new) }
 {
-    let mut at = 0;
-    for (place, entry) in more.iter().enumerate() {
-        let entry = entry.lifted(line);
+    let front = join_front(held, line, more);
+    join_from(held, front, line, more)
+}
+
+/// The same from a place on, at which both lists go on.
+fn join_from<E: Entry>(held: &mut [E], from: usize, line: BillLine, more: &[E]) -> (usize, usize)
+    requires within { from ≤ length held.old }
+    requires few { from ≤ length more.now }
+    ensures within { result.0 ≤ length held.new }
+    ensures few { result.1 ≤ length more.now }
+    ensures joins { take from held.old ++ merged E.number E.joined (map (E.lifted line) (drop from more.now)) (drop from held.old) ≡
+        take result.0 held.new ++ merged E.number E.joined (map (E.lifted line) (drop result.1 more.now)) (drop result.0 held.new) }
+{
+    let mut at = from;
+    for place in from..more.len() {
+        let entry = more[place].lifted(line);
         at = past_below(held, at, entry);
         if at >= held.len() || held[at].number() != entry.number() {
             return (at, place);
@@ -23,6 +36,24 @@ pub fn join_held<E: Entry>(held: &mut [E], line: BillLine, more: &[E]) -> (usize
         at += 1;
     }
     (at, more.len())
+}
+
+/// Joins what the entries of a child are at the parent of the line to those that are held at the same places, up to the first that has
+/// another number, and tells how many are joined. Most nodes have what their children have, so this is most of the work.
+fn join_front<E: Entry>(held: &mut [E], line: BillLine, more: &[E]) -> usize
+    ensures within { result ≤ length held.new }
+    ensures few { result ≤ length more.now }
+    ensures joins { merged E.number E.joined (map (E.lifted line) more.now) held.old ≡
+        take result held.new ++ merged E.number E.joined (map (E.lifted line) (drop result more.now)) (drop result held.new) }
+{
+    for (place, entry) in more.iter().enumerate() {
+        let entry = entry.lifted(line);
+        if place >= held.len() || held[place].number() != entry.number() {
+            return place;
+        }
+        held[place] = held[place].joined(entry);
+    }
+    more.len()
 }
 
 /// Of the entries that are held from a place on, the place of the first that hasn't a lesser number.
