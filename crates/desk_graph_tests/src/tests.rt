@@ -85,6 +85,16 @@ fn affected(bill: &Bill, alloc: Global, seed: NodeId) -> Result<Vec<NodeId>, Fai
     Ok(bill.affected(alloc, &[seed])?)
 }
 
+#[test]
+fn a_label_is_taken_once(rt: HostRuntime) -> Result<(), Fail> {
+    let mut bill = Bill::start(rt.alloc())?;
+    assert_eq!(rt; bill.add_node(rt.alloc(), b"A"), Ok(0));
+    assert_eq!(rt; bill.add_node(rt.alloc(), b"B"), Ok(1));
+    assert_eq!(rt; bill.add_node(rt.alloc(), b"A"), Err(NodeFault::Taken));
+    assert_eq!(rt; bill.add_node(rt.alloc(), b"AA"), Ok(2));
+    Ok(())
+}
+
 /// The labels of a bill, its lines, the parent and the child of one that closes a cycle, and its chain.
 type Cycle = (
     &'static str,

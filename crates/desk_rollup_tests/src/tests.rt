@@ -101,20 +101,21 @@ fn add(desk: &mut Desk, alloc: Global, label: &[u8]) -> Result<usize, Fail> {
     Ok(enter::<Brand>(Blank::new(1), alloc, desk, plan, own)??)
 }
 
-/// Sets a line whose parent has no own values.
+/// Sets a line, with an own weight of its parent and no mark.
 fn set(
     desk: &mut Desk,
     alloc: Global,
     parent: NodeId,
     child: NodeId,
     count: u32,
+    weight: u128,
 ) -> Result<usize, Fail> {
     let nodes = desk.bill.node_count();
     if parent as usize >= nodes || child as usize >= nodes || count == 0 {
         return Err(Fail::new("no line"));
     }
     let plan = desk.bill.plan_set(alloc, parent, child, count)?;
-    let own = own_of(alloc, parent, 0, &[])?;
+    let own = own_of(alloc, parent, weight, &[])?;
     Ok(enter::<Brand>(Blank::new(1), alloc, desk, plan, own)??)
 }
 
@@ -199,7 +200,7 @@ fn desk_of(alloc: Global, labels: &str, lines: &[(NodeId, NodeId, u32)]) -> Resu
         add(&mut desk, alloc, &[*label])?;
     }
     for (parent, child, count) in lines {
-        set(&mut desk, alloc, *parent, *child, *count)?;
+        set(&mut desk, alloc, *parent, *child, *count, 0)?;
     }
     Ok(desk)
 }
@@ -273,6 +274,7 @@ fn layers(alloc: Global) -> Result<Desk, Fail> {
             2 * layer + line % 2,
             2 * layer + 2 + line / 2 % 2,
             1,
+            0,
         )?;
     }
     Ok(desk)
@@ -283,7 +285,164 @@ fn a_line_at_the_bottom_of_40_layers_moves_all(rt: HostRuntime) -> Result<(), Fa
     let mut desk = layers(rt.alloc())?;
     let bottom = give(&mut desk, rt.alloc(), 80, 1, &[])?;
     assert_eq!(rt; bottom, Ok(1));
-    assert_eq!(rt; set(&mut desk, rt.alloc(), 78, 80, 1)?, 79);
+    assert_eq!(rt; set(&mut desk, rt.alloc(), 78, 80, 1, 0)?, 79);
     assert_eq!(rt; values_of(&desk, 0)?.weight, 1 << 38);
+    Ok(())
+}
+
+/// How many nodes the plain bill has.
+const COUNT: usize = 12;
+
+/// A node of the plain bill: its own weight, whether it has a mark, and how many it takes of each node with a greater number.
+#[derive(Clone, Copy)]
+struct PlainNode {
+    weight: u128,
+    is_marked: bool,
+    counts: [u32; COUNT],
+}
+
+/// A node that has nothing.
+const NOTHING: PlainNode = PlainNode {
+    weight: 0,
+    is_marked: false,
+    counts: [0; COUNT],
+};
+
+/// The place of a node in the order of labels.
+fn rank(node: usize) -> u8 {
+    (node % COUNT * 5 % COUNT) as u8
+}
+
+/// What each node has, from the last node on: its own of these and, for each of its lines, count times what the child has.
+fn plain_sums(nodes: &[PlainNode; COUNT], own: [u128; COUNT]) -> [u128; COUNT] {
+    let mut sums = own;
+    for at in 0..COUNT {
+        let node = COUNT - 1 - at;
+        for child in 0..COUNT {
+            let count = u128::from(nodes[node].counts[child]);
+            sums[node] = sums[node].saturating_add(sums[child].saturating_mul(count));
+        }
+    }
+    sums
+}
+
+/// Of the children that have a mark, by how often each node has it, the one with the least label.
+fn plain_next(node: &PlainNode, marks: &[u128; COUNT]) -> Option<NodeId> {
+    (0..COUNT as NodeId)
+        .filter(|child| {
+            let place = *child as usize % COUNT;
+            node.counts[place] > 0 && marks[place] > 0
+        })
+        .min_by_key(|child| rank(*child as usize))
+}
+
+/// The hop of a mark at a node, if the node has the mark.
+fn plain_hop(nodes: &[PlainNode; COUNT], node: usize, mark: usize) -> Option<Hop> {
+    let (node, mark) = (node % COUNT, mark % COUNT);
+    let mut own = [0_u128; COUNT];
+    own[mark] = u128::from(nodes[mark].is_marked);
+    let marks = plain_sums(nodes, own);
+    if marks[node] == 0 {
+        return None;
+    }
+    let next = plain_next(&nodes[node], &marks);
+    Some(Hop {
+        mark: Mark {
+            node: mark as NodeId,
+            what: 1,
+        },
+        next: if own[node] > 0 { None } else { next },
+    })
+}
+
+/// Whether the hops that are kept of a node are those that come out from scratch.
+fn has_plain_hops(desk: &Desk, nodes: &[PlainNode; COUNT], node: usize) -> Result<bool, Fail> {
+    let mut hops = values_of(desk, node)?.hops.iter();
+    for mark in 0..COUNT {
+        if let Some(hop) = plain_hop(nodes, node, mark)
+            && hops.next() != Some(&hop)
+        {
+            return Ok(false);
+        }
+    }
+    Ok(hops.next().is_none())
+}
+
+/// Whether what is kept of each node comes out from scratch.
+fn is_as_from_scratch(desk: &Desk, nodes: &[PlainNode; COUNT]) -> Result<bool, Fail> {
+    let mut own_weights = [0_u128; COUNT];
+    let mut own_loads = [0_u128; COUNT];
+    for node in 0..COUNT {
+        own_weights[node] = nodes[node].weight;
+        own_loads[node] = u128::from(nodes[node].weight > 0);
+    }
+    let weights = plain_sums(nodes, own_weights);
+    let loads = plain_sums(nodes, own_loads);
+    for node in 0..COUNT {
+        let values = values_of(desk, node)?;
+        let load = Load {
+            what: 7,
+            amount: loads[node],
+        };
+        let has_load = match values.loads.as_slice() {
+            [] => load.amount == 0,
+            [only] => *only == load,
+            _ => false,
+        };
+        if !has_load || values.weight != weights[node] || !has_plain_hops(desk, nodes, node)? {
+            return Ok(false);
+        }
+    }
+    Ok(true)
+}
+
+/// Makes one edit on both: a line that is set or dropped, or new own values with a mark.
+fn edit_both(
+    desk: &mut Desk,
+    alloc: Global,
+    nodes: &mut [PlainNode; COUNT],
+    number: u64,
+) -> Result<(), Fail> {
+    let parent = (number % 12) as usize;
+    let child = parent + 1 + (number / 12 % 11) as usize;
+    let weight = u128::from(number / 132 % 50);
+    let (parent_id, child_id) = (parent as NodeId, child as NodeId);
+    let sort = number / 6_600 % 4;
+    nodes[parent].is_marked = sort == 0 || child >= COUNT;
+    nodes[parent].weight = weight;
+    if nodes[parent].is_marked {
+        let mark = Mark {
+            node: parent_id,
+            what: 1,
+        };
+        give(desk, alloc, parent_id, weight, &[mark])??;
+    } else if sort == 1 {
+        drop_line(desk, alloc, parent_id, child_id)?;
+        nodes[parent].weight = 0;
+        nodes[parent].counts[child] = 0;
+    } else {
+        let count = (number / 26_400 % 3) as u32 + 1;
+        set(desk, alloc, parent_id, child_id, count, weight)?;
+        nodes[parent].counts[child] = count;
+    }
+    Ok(())
+}
+
+#[test]
+fn after_each_of_a_thousand_edits_all_is_as_from_scratch(rt: HostRuntime) -> Result<(), Fail> {
+    let alloc = rt.alloc();
+    let mut desk = start(alloc)?;
+    for node in 0..COUNT {
+        add(&mut desk, alloc, &[rank(node)])?;
+    }
+    let mut nodes = [NOTHING; COUNT];
+    let mut number = 88_172_645_463_325_252_u64;
+    for edit in 0..1_000 {
+        number ^= number << 13;
+        number ^= number >> 7;
+        number ^= number << 17;
+        edit_both(&mut desk, alloc, &mut nodes, number)?;
+        assert!(rt; is_as_from_scratch(&desk, &nodes)?, "edit {edit}");
+    }
     Ok(())
 }
