@@ -1,5 +1,5 @@
 -- What the looks find of the records that the rows keep.
-use Rattle.std.proofs.Common.{◌≡◌, ◌⊎◌, ◌&&◌, ◌||◌, not, inl, inr, ℕ, ℤ, pos, List, [], ◌∷◌, find, Bool, true, false, cond, Option, option_map, Some, None, refl, sym, ap, subst, ◌∙◌, true≢false}
+use Rattle.std.proofs.Common.{◌≡◌, ◌⊎◌, ◌&&◌, ◌||◌, not, inl, inr, ℕ, ℤ, pos, List, [], ◌∷◌, ◌++◌, length, arith, find, Bool, true, false, cond, Option, option_map, Some, None, refl, sym, ap, subst, ◌∙◌, true≢false}
 use Rattle.std.proofs.lemmas.Cmp.{nat_cmp_total, nat_list_cmp_total}
 use Rattle.std.specs.Cmp.Lexicographic.{slice_cmp}
 use Rattle.std.specs.List.{list_any}
@@ -23,11 +23,11 @@ use Rattle.desk_edge.specs.Content.{IsFirstPast, is_past, key_cmp, key_of}
 use Rattle.desk_edge.proofs.Keys.{key_order}
 use Rattle.desk_edge.specs.declared.key.Key.{Key}
 use Rattle.desk_edge.specs.declared.record.Record.{Record}
-use Rattle.desk_sqlite.specs.Content.{content_of, IsPut, IsOf, AreKeyed, IsFirstRow, IsShown}
+use Rattle.desk_sqlite.specs.Content.{content_of, IsPut, IsOf, AreKeyed, AreNext, AreLooked, AreNextRows, AreFirstRows, AreNextPast, AreFirstPast, AreShown, IsShown}
 use Rattle.desk_sqlite.specs.Rows.{is_of, body_of, same_key}
-use Rattle.desk_sqlite.specs.Store.{IsStore, rows_in, Dropped, Inserted, IsLook, any_key, is_within, is_beyond}
-use Rattle.desk_sqlite.proofs.ContentLemmas.{both_true, same_number, number_itself, is_key}
-use Rattle.desk_sqlite.proofs.ListLemmas.{find_only}
+use Rattle.desk_sqlite.specs.Store.{IsStore, rows_in, Dropped, Inserted, any_key, is_within, is_beyond}
+use Rattle.desk_sqlite.proofs.ContentLemmas.{both_true, same_number, number_itself}
+use Rattle.desk_sqlite.proofs.ListLemmas.{find_only, le_lt}
 use Rattle.desk_sqlite.proofs.ValueLemmas.{columns_of, of_columns, number_eq, blob_eq, bytes_itself, same_int}
 use Rattle.sqlite_rules.proofs.ListLemmas.{has_found}
 
@@ -40,9 +40,6 @@ twice false x y = refl
 pub put_made : (kept : Record) (old mid new : List Row) → Dropped kept.kind kept.code old mid → Inserted kept.kind kept.code kept.body mid new → IsPut kept old new
 put_made kept old mid new d i k =
     i k.kind k.code ∙ ap (λ o. cond (same_key kept.kind kept.code k.kind k.code) (Some kept.body) o) (d k.kind k.code) ∙ twice (same_key kept.kind kept.code k.kind k.code) (Some kept.body) (body_of old k.kind k.code)
-
-pub none_left : (kind : ℕ) (code : List ℕ) (old new : List Row) → Dropped kind code old new → body_of new kind code ≡ None
-none_left kind code old new d = d kind code ∙ ap (λ b. cond b None (body_of old kind code)) (is_key kind code kind code refl refl)
 
 -- ---- looks
 
@@ -79,34 +76,116 @@ either_true : (a b : Bool) → (a || b) ≡ true → (a ≡ true) ⊎ (b ≡ tru
 either_true true b e = inl refl
 either_true false b e = inr e
 
-pub first_of_all : (rows : List Row) (found : Option Row) → IsLook any_key rows found → IsFirstRow None rows found
-first_of_all rows None look = λ key x there own. absurd (true≢false (look key.kind key.code x there own))
-first_of_all rows (Some shown) look = (look.0, look.1, look.2, λ own is key x there has past. (look.3 own.kind own.code is).1 key.kind key.code x there has refl)
-
 greater : (o p : Ordering) → is_gt o ≡ true → is_lt (ordering_then o p) ≡ false
 greater Less p e = absurd (true≢false (sym e))
 greater Equal p e = absurd (true≢false (sym e))
 greater Greater p e = refl
 
-pub first_within : (after : Key) (rows : List Row) (shown : Row) → IsLook (is_within after.kind after.code) rows (Some shown) → IsFirstRow (Some after) rows (Some shown)
-first_within after rows shown look = (look.0, look.1, look.2, λ own is key x there has past. go own is key x there has (either_true _ _ (sym (past_is after key) ∙ past)))
-  where
-    go : (own : Key) → IsOf own look.0 → (key : Key) (x : Row) → Has rows x → IsOf key x
-        → (is_within after.kind after.code key.kind key.code ≡ true) ⊎ (is_beyond after.kind key.kind key.code ≡ true) → is_lt (key_cmp key own) ≡ false
-    go own is key x there has (inl within) = (look.3 own.kind own.code is).1 key.kind key.code x there has within
-    go own is key x there has (inr beyond) =
-        let one : own.kind ≡ after.kind = same_number own.kind after.kind (both_true _ _ (look.3 own.kind own.code is).0).0 in
-        greater (nat_cmp key.kind own.kind) (slice_cmp nat_cmp key.code own.code) (subst (λ k. is_gt (nat_cmp key.kind k) ≡ true) (sym one) beyond)
+-- the key stands behind all wanted keys
+abbrev Above : (ℕ → List ℕ → Bool) → Key → Type 0
+Above wanted key = (other : Key) → wanted other.kind other.code ≡ true → is_lt (key_cmp key other) ≡ false
 
-pub first_beyond : (after : Key) (rows : List Row) (found : Option Row) → IsLook (is_within after.kind after.code) rows None → IsLook (is_beyond after.kind) rows found → IsFirstRow (Some after) rows found
-first_beyond after rows None none look = λ key x there own. past_is after key ∙ ap (λ b. b || is_beyond after.kind key.kind key.code) (none key.kind key.code x there own) ∙ look key.kind key.code x there own
-first_beyond after rows (Some shown) none look = (
-  look.0,
-  look.1,
-  look.2,
-  λ own is key x there has past. (look.3 own.kind own.code is).1 key.kind key.code x there has
-      (sym (ap (λ b. b || is_beyond after.kind key.kind key.code) (none key.kind key.code x there has)) ∙ sym (past_is after key) ∙ past),
-)
+-- where what is past a wanted key is wanted too or stands behind all wanted keys, rows that were looked for are the next ones
+module _ (rows : List Row) (wanted : ℕ → List ℕ → Bool) where
+  convert : ((own : Key) → wanted own.kind own.code ≡ true → (key : Key) → is_past (Some own) key ≡ true → (wanted key.kind key.code ≡ true) ⊎ Above wanted key) → (bound after : Option Key)
+      → ((key : Key) → is_past after key ≡ true → ((wanted key.kind key.code ≡ true) × (is_past bound key ≡ true)) ⊎ Above wanted key) → (shown : List Row) → AreNext wanted bound rows shown → AreNextRows after rows shown
+  convert on bound after first [] h = tt
+  convert on bound after first (shown ∷ more) h = (
+    h.0,
+    h.1,
+    h.2,
+    λ own is. (
+      λ key x has hx past. least own is key x has hx (first key past),
+      convert on (Some own) (Some own) (λ key past. next own is key past (on own (h.3 own is).0 key past)) more (h.3 own is).2,
+    ),
+  )
+    where
+      least : (own : Key) → IsOf own h.0 → (key : Key) (x : Row) → Has rows x → IsOf key x → ((wanted key.kind key.code ≡ true) × (is_past bound key ≡ true)) ⊎ Above wanted key → is_lt (key_cmp key own) ≡ false
+      least own is key x has hx (inl w) = (h.3 own is).1 key x has hx w.0 w.1
+      least own is key x has hx (inr above) = above own (h.3 own is).0
+
+      next : (own : Key) → IsOf own h.0 → (key : Key) → is_past (Some own) key ≡ true → (wanted key.kind key.code ≡ true) ⊎ Above wanted key
+          → ((wanted key.kind key.code ≡ true) × (is_past (Some own) key ≡ true)) ⊎ Above wanted key
+      next own is key past (inl w) = inl (w, past)
+      next own is key past (inr above) = inr above
+
+pub first_of_all : (rows shown : List Row) → AreLooked any_key rows shown → AreFirstRows None rows shown
+first_of_all rows [] look = λ key x has own. look key x has own
+first_of_all rows (shown ∷ more) look = convert rows any_key (λ own w key past. inl refl) None None (λ key past. inl (refl, refl)) (shown ∷ more) look
+
+-- what is past a key that is past another is past that
+past_on : (after own key : Key) → is_past (Some after) own ≡ true → is_past (Some own) key ≡ true → is_past (Some after) key ≡ true
+past_on after own key one two = le_lt key_order after own key (not_less (key_cmp after own) (key_cmp own after) one (key_order.antisymm own after)) two
+  where
+    not_less : (o p : Ordering) → is_lt o ≡ true → p ≡ ordering_reverse o → is_lt p ≡ false
+    not_less Less p e is = ap is_lt is
+    not_less Equal p e is = absurd (true≢false (sym e))
+    not_less Greater p e is = absurd (true≢false (sym e))
+
+-- where the one holds or the other, and the first does
+or_left : (a b : Bool) → a ≡ true → (a || b) ≡ true
+or_left true b e = refl
+or_left false b e = absurd (true≢false (sym e))
+
+or_right : (a b : Bool) → b ≡ true → (a || b) ≡ true
+or_right true b e = refl
+or_right false b e = e
+
+-- a key of a later kind stands behind all keys of this one
+above_within : (after key : Key) → is_beyond after.kind key.kind key.code ≡ true → (other : Key) → is_within after.kind after.code other.kind other.code ≡ true → is_lt (key_cmp key other) ≡ false
+above_within after key beyond other within =
+    let one : other.kind ≡ after.kind = same_number other.kind after.kind (both_true _ _ within).0 in
+    greater (nat_cmp key.kind other.kind) (slice_cmp nat_cmp key.code other.code) (subst (λ k. is_gt (nat_cmp key.kind k) ≡ true) (sym one) beyond)
+
+within_or : (after key : Key) → (is_within after.kind after.code key.kind key.code ≡ true) ⊎ (is_beyond after.kind key.kind key.code ≡ true)
+    → (is_within after.kind after.code key.kind key.code ≡ true) ⊎ Above (is_within after.kind after.code) key
+within_or after key (inl within) = inl within
+within_or after key (inr beyond) = inr (above_within after key beyond)
+
+first_within : (after : Key) (rows : List Row) (shown : Row) (more : List Row) → AreLooked (is_within after.kind after.code) rows (shown ∷ more) → AreFirstRows (Some after) rows (shown ∷ more)
+first_within after rows shown more look =
+    convert rows (is_within after.kind after.code)
+    (λ own w key past. within_or after key (either_true _ _ (sym (past_is after key) ∙ past_on after own key (past_is after own ∙ or_left _ _ w) past)))
+    None (Some after) (λ key past. wants key (within_or after key (either_true _ _ (sym (past_is after key) ∙ past)))) (shown ∷ more) look
+  where
+    wants : (key : Key) → (is_within after.kind after.code key.kind key.code ≡ true) ⊎ Above (is_within after.kind after.code) key
+        → ((is_within after.kind after.code key.kind key.code ≡ true) × (true ≡ true)) ⊎ Above (is_within after.kind after.code) key
+    wants key (inl w) = inl (w, refl)
+    wants key (inr above) = inr above
+
+pub first_some : (after : Key) (rows shown : List Row) → (shown ≡ [] → ⊥) → AreLooked (is_within after.kind after.code) rows shown → AreFirstRows (Some after) rows shown
+first_some after rows [] some look = absurd (some refl)
+first_some after rows (shown ∷ more) some look = first_within after rows shown more look
+
+-- a key past one of a later kind is of a later kind
+beyond_on : (after own key : Key) → is_beyond after.kind own.kind own.code ≡ true → is_past (Some own) key ≡ true
+    → (is_within after.kind after.code key.kind key.code ≡ true) ⊎ (is_beyond after.kind key.kind key.code ≡ true) → is_beyond after.kind key.kind key.code ≡ true
+beyond_on after own key beyond past (inr is) = is
+beyond_on after own key beyond past (inl within) =
+    let one : key.kind ≡ after.kind = same_number key.kind after.kind (both_true _ _ within).0 in
+    let not_past = greater (nat_cmp own.kind key.kind) (slice_cmp nat_cmp own.code key.code) (subst (λ k. is_gt (nat_cmp own.kind k) ≡ true) (sym one) beyond) in
+    absurd (true≢false (sym past ∙ not_past))
+
+pub first_beyond : (after : Key) (rows shown : List Row) → AreLooked (is_within after.kind after.code) rows [] → AreLooked (is_beyond after.kind) rows shown → AreFirstRows (Some after) rows shown
+first_beyond after rows [] none look =
+    λ key x has own. past_is after key ∙ ap (λ b. b || is_beyond after.kind key.kind key.code) (none key x has own) ∙ look key x has own
+first_beyond after rows (shown ∷ more) none look = go (shown ∷ more) look
+  where
+    go : (all : List Row) → AreNext (is_beyond after.kind) None rows all → AreNextRows (Some after) rows all
+    go [] h = tt
+    go (s ∷ rest) h = (
+      h.0,
+      h.1,
+      h.2,
+      λ own is. (
+        λ key x has hx past. (h.3 own is).1 key x has hx (sym (ap (λ b. b || is_beyond after.kind key.kind key.code) (none key x has hx)) ∙ sym (past_is after key) ∙ past) refl,
+        convert rows (is_beyond after.kind)
+            (λ it w key past. inl (on it w key past)) (Some own) (Some own) (λ key past. inl (on own (h.3 own is).0 key past, past)) rest (h.3 own is).2,
+      ),
+    )
+      where
+        on : (it : Key) → is_beyond after.kind it.kind it.code ≡ true → (key : Key) → is_past (Some it) key ≡ true → is_beyond after.kind key.kind key.code ≡ true
+        on it w key past = beyond_on after it key w past (either_true _ _ (sym (past_is after key) ∙ past_on after it key (past_is after it ∙ or_right _ _ w) past))
 
 -- ---- keys
 
@@ -169,14 +248,43 @@ module _ (rows : List Row) (keyed : AreKeyed rows) (after : Option Key) where
   found_row key None is none = refl
   found_row key (Some x) is none = let f = has_found (is_of key.kind key.code) rows x is in absurd (none x f.0 f.1)
 
-  pub none_past : IsFirstRow after rows None → IsFirstPast (content_of rows) after None
+  pub none_past : AreFirstRows after rows [] → IsFirstPast (content_of rows) after None
   none_past h key past = found_row key (find (is_of key.kind key.code) rows) refl (λ x there own. true≢false (sym past ∙ h key x there own))
 
-  pub some_past : (kept : Record) (shown : Row) → IsShown kept shown → IsFirstRow after rows (Some shown) → IsFirstPast (content_of rows) after (Some kept)
-  some_past kept shown is first =
-      let row = first.0 in
-      let own : IsOf (key_of kept) row = of_columns kept.kind kept.code row (sym (ap (λ r. column r 0) first.2) ∙ is.kind) (sym (ap (λ r. column r 1) first.2) ∙ is.code) in
-      let body : column row 3 ≡ Blob kept.body = sym (ap (λ r. column r 2) first.2) ∙ is.body in (
-        ap (option_map (λ r. bytes (column r 3))) (find_only (is_of kept.kind kept.code) rows row first.1 own (λ y there has. keyed (key_of kept) y row there first.1 has own)) ∙ ap (λ v. Some (bytes v)) body,
-        λ key past less. found_row key (find (is_of key.kind key.code) rows) refl (λ x there has. true≢false (sym less ∙ first.3 (key_of kept) own key x there has past)),
+  some_past : (kept : Record) (shown row : Row) → IsShown kept shown → Has rows row → shown ≡ column row 1 ∷ column row 2 ∷ column row 3 ∷ [] → IsOf (key_of kept) row
+      → ((key : Key) (x : Row) → Has rows x → IsOf key x → is_past after key ≡ true → is_lt (key_cmp key (key_of kept)) ≡ false) → IsFirstPast (content_of rows) after (Some kept)
+  some_past kept shown row is there same own least =
+      let body : column row 3 ≡ Blob kept.body = sym (ap (λ r. column r 2) same) ∙ is.body in (
+        ap (option_map (λ r. bytes (column r 3))) (find_only (is_of kept.kind kept.code) rows row there own (λ y has hy. keyed (key_of kept) y row has there hy own)) ∙ ap (λ v. Some (bytes v)) body,
+        λ key past less. found_row key (find (is_of key.kind key.code) rows) refl (λ x has hx. true≢false (sym less ∙ least key x has hx past)),
       )
+
+-- the records that rows show come as these do
+pub records_next : (rows : List Row) → AreKeyed rows → (after : Option Key) (records : List Record) (shown : List Row) → AreShown records shown → AreNextRows after rows shown → AreNextPast (content_of rows) after records
+records_next rows keyed after [] shown is next = tt
+records_next rows keyed after (kept ∷ more) [] is next = absurd is
+records_next rows keyed after (kept ∷ more) (shown ∷ rest) is next =
+    let row = next.0 in
+    let own : IsOf (key_of kept) row = of_columns kept.kind kept.code row (sym (ap (λ r. column r 0) next.2) ∙ is.0.kind) (sym (ap (λ r. column r 1) next.2) ∙ is.0.code) in (
+      some_past rows keyed after kept shown row is.0 next.1 next.2 own (next.3 (key_of kept) own).0,
+      records_next rows keyed (Some (key_of kept)) more rest is.1 (next.3 (key_of kept) own).1,
+    )
+
+pub records_first : (rows : List Row) → AreKeyed rows → (after : Option Key) (records : List Record) (shown : List Row) → (records ≡ [] → shown ≡ []) → AreShown records shown → AreFirstRows after rows shown
+    → AreFirstPast (content_of rows) after records
+records_first rows keyed after [] [] none is first = none_past rows keyed after first
+records_first rows keyed after [] (shown ∷ rest) none is first = absurd (let bad = none refl in cc)
+records_first rows keyed after (kept ∷ more) [] none is first = absurd is
+records_first rows keyed after (kept ∷ more) (shown ∷ rest) none is first = records_next rows keyed after (kept ∷ more) (shown ∷ rest) is first
+
+pub shown_more : (records : List Record) (shown rest : List Row) → AreShown records shown → AreShown records (shown ++ rest)
+shown_more [] shown rest is = tt
+shown_more (k ∷ ks) [] rest is = absurd is
+shown_more (k ∷ ks) (s ∷ ss) rest is = (is.0, shown_more ks ss rest is.1)
+
+-- one more record, where all rows so far show one
+pub shown_push : (records : List Record) (shown : List Row) (kept : Record) (row : Row) → length records ≡ length shown → AreShown records shown → IsShown kept row → AreShown (records ++ kept ∷ []) (shown ++ row ∷ [])
+shown_push [] [] kept row long is one = (one, tt)
+shown_push [] (s ∷ ss) kept row long is one = absurd (omega (arith, long))
+shown_push (k ∷ ks) [] kept row long is one = absurd is
+shown_push (k ∷ ks) (s ∷ ss) kept row long is one = (is.0, shown_push ks ss kept row (omega (arith, long)) is.1 one)

@@ -2,9 +2,10 @@
 use Rattle.std.proofs.Common.{◌≡◌, ◌⊎◌, ◌||◌, ◌<◌, not, inl, inr, ℕ, suc, ℤ, arith, length, get_or, List, [], ◌∷◌, ◌++◌, flat_map, filter, find, Bool, true, false, cond, Option, None, Some, refl, sym, ap, subst, ◌∙◌, true≢false}
 use Rattle.std.specs.declared.cmp.Ordering.{Ordering}
 use Rattle.std.specs.declared.cmp.Ordering.TheVariants.{Less, Equal, Greater}
-use Rattle.std.specs.Ordering.{is_eq, is_lt, match_ordering}
+use Rattle.std.specs.Ordering.{is_eq, is_lt, match_ordering, ordering_reverse}
 use Rattle.std.specs.List.Sorted.{IsPermutation, IsSorted}
 use Rattle.std.specs.Cmp.{IsTotalOrder}
+use native.Mathlib.Numerals.{unary_clauses}
 use Rattle.std.proofs.lemmas.List.Sorted.{Contains-permutation, sorted_far, ranks_by}
 use Rattle.sqlite_value.specs.Order.{Row, value_cmp}
 use Rattle.sqlite_trees.specs.Tree.{rowid, has_rowid, put_row, without_rowid}
@@ -116,6 +117,17 @@ taken_not [] new x free h = absurd h
 taken_not (r ∷ rows) new x free (inl same) = rw same (neither _ _ free).0
 taken_not (r ∷ rows) new x free (inr later) = taken_not rows new x (neither (is_eq (value_cmp (rowid r) (rowid new))) _ free).1 later
 
+-- a row stays where another is put in under a number that none has
+pub kept_put : (new : Row) (rows : List Row) (x : Row) → is_taken rows new ≡ false → Has rows x → Has (put_row new rows) x
+kept_put new [] x free h = absurd h
+kept_put new (r ∷ rows) x free h = go (value_cmp (rowid r) (rowid new)) refl h (λ later. kept_put new rows x (neither (is_eq (value_cmp (rowid r) (rowid new))) _ free).1 later)
+  where
+    go : (o : Ordering) → value_cmp (rowid r) (rowid new) ≡ o → Has (r ∷ rows) x → (Has rows x → Has (put_row new rows) x) → Has (match_ordering o (r ∷ put_row new rows) (new ∷ rows) (new ∷ r ∷ rows)) x
+    go Less e (inl is) on = inl is
+    go Less e (inr later) on = inr (on later)
+    go Equal e h on = absurd (true≢false (sym (ap is_eq e) ∙ (neither (is_eq (value_cmp (rowid r) (rowid new))) _ free).0))
+    go Greater e h on = inr h
+
 -- ---- the matches of a test
 
 pub has_matched : {X Y : Type 0} (p : X → Bool) (f : X → Y) (xs : List X) (y : Y) → Has (flat_map (λ x. cond (p x) (f x ∷ []) []) xs) y → (x : X) × Has xs x × (p x ≡ true) × (y ≡ f x)
@@ -147,3 +159,20 @@ pub sorted_first : {X : Type 0} (cmp : X → X → Ordering) → IsTotalOrder cm
 sorted_first cmp total x xs sorted y there =
     let p = has_place (x ∷ xs) y there in
     subst (λ z. is_lt (cmp z x) ≡ false) (p.2 x) (sorted_far (λ a b. is_lt (cmp a b)) (ranks_by total (λ z. z)) (x ∷ xs) sorted 0 p.0 x (omega arith) p.1)
+
+pub sorted_tail : {X : Type 0} (cmp : X → X → Ordering) (x : X) (xs : List X) → IsSorted cmp (x ∷ xs) → IsSorted cmp xs
+sorted_tail cmp x xs sorted k d low less = simp unary_clauses (simp unary_clauses at (sorted (suc k) d (omega arith) (omega (arith, less))))
+
+lt_is : (o : Ordering) → is_lt o ≡ true → o ≡ Less
+lt_is Less e = refl
+lt_is Equal e = absurd (true≢false (sym e))
+lt_is Greater e = absurd (true≢false (sym e))
+
+-- what is greater than one is greater than each that isn't greater than that
+pub le_lt : {X : Type 0} {cmp : X → X → Ordering} → IsTotalOrder cmp → (x y z : X) → is_lt (cmp y x) ≡ false → is_lt (cmp y z) ≡ true → is_lt (cmp x z) ≡ true
+le_lt {X} {cmp} total x y z low less = go (cmp x y) refl
+  where
+    go : (o : Ordering) → cmp x y ≡ o → is_lt (cmp x z) ≡ true
+    go Less e = ap is_lt (total.trans x y z e (lt_is (cmp y z) less))
+    go Equal e = ap is_lt (total.congr x y z e) ∙ less
+    go Greater e = absurd (true≢false (sym (ap is_lt (total.antisymm y x ∙ ap ordering_reverse e)) ∙ low))

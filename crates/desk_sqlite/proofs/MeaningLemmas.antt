@@ -18,12 +18,12 @@ use Rattle.sqlite_rules.specs.Edit.{edit_of, edited, without_all, is_taken, are_
 use Rattle.sqlite_rules.specs.Cast.{cast}
 use Rattle.sqlite_rules.specs.Calls.{ids_of}
 use Rattle.sqlite_rules.specs.declared.error.Rowids.TheVariants.{Chosen, Given}
-use Rattle.sqlite.specs.Effect.{Database}
+use Rattle.sqlite.specs.Effect.{Database, IsDatabase}
 use Rattle.sqlite.specs.Does.{Tally, Does}
 use Rattle.sqlite.specs.Rows.{Written}
 use Rattle.sqlite.specs.Listing.{understood}
-use Rattle.sqlite.specs.State.{State, mode_of, Executes, QueriesRow, Shown}
-use Rattle.sqlite.proofs.Callers.{statement_of, runs_as, first_as, reads_as, one_step}
+use Rattle.sqlite.specs.State.{State, mode_of, Executes, Shown}
+use Rattle.sqlite.proofs.Callers.{statement_of, runs_as, reads_as, one_step}
 use Rattle.desk_sqlite.specs.Texts.{first_text, within_text, beyond_text, numbers_text, insert_text, drop_text}
 use Rattle.desk_sqlite.specs.Table.{record_table, store_schema}
 use Rattle.desk_sqlite.proofs.TextLemmas.{first_query, drop_query, numbers_query, insert_is, insert_plain, drop_is, drop_plain, first_is, first_plain, first_listed, within_is, within_plain, within_listed, beyond_is, beyond_plain, beyond_listed, numbers_is, numbers_plain, numbers_listed}
@@ -89,9 +89,10 @@ module _ (checks : List Term) (name : List ℕ) (old new : State) (has : old.now
       let rows = (one_step (store_schema checks name) _ db applied.0 (edit_of db (record_table checks) (ids_of given.0) Given 0 []) refl applied.1).rows in
       (ap (λ (d : Database). d.schema) now, given.0, given.1.answer Null, ap (λ (d : Database). d.trees 0) now ∙ ap (λ (t : Trees). t 0) trees ∙ rows)
 
-  -- an insert puts in one row, under a number that none had
+  -- an insert puts in one row, under a number that none had, and leaves a database
   pub inserts : (kind : ℕ) (code body : List ℕ) (count : ℕ) → Executes insert_text (Int (pos kind) ∷ Blob code ∷ Blob body ∷ []) old new (Ok count)
       → (new.now.schema ≡ store_schema checks name) × (n : ℤ) × (is_taken (old.now.trees 0) (row_of n kind code body) ≡ false) × (new.now.trees 0 ≡ put_row (row_of n kind code body) (old.now.trees 0))
+      × IsDatabase new.now
   inserts kind code body count h =
       let params = Int (pos kind) ∷ Blob code ∷ Blob body ∷ [] in
       let db = old.now.trees in
@@ -110,39 +111,22 @@ module _ (checks : List Term) (name : List ℕ) (old new : State) (has : old.now
       let news : (edit_of db table [] Chosen 0 given.0).news ≡ row_of n kind code body ∷ [] = ap (λ all. (edit_of db table [] Chosen 0 all).news) given.1.1 ∙ rw (cast_null, cast_number (pos kind)) refl in
       let fresh = not_it _ (both _ _ (subst (λ all. are_fresh (db 0) all ≡ true) news applies.fresh)).0 in
       let rows : written.0 0 ≡ put_row (row_of n kind code body) (db 0) = applies.rows ∙ ap (λ all. edited db (record { table = table; gone = []; news = all })) news in
-      (ap (λ (d : Database). d.schema) now, n, fresh, ap (λ (d : Database). d.trees 0) now ∙ ap (λ (t : Trees). t 0) trees ∙ rows)
+      (ap (λ (d : Database). d.schema) now, n, fresh, ap (λ (d : Database). d.trees 0) now ∙ ap (λ (t : Trees). t 0) trees ∙ rows, w.sound)
 
   -- what the looks show
-  pub shows_first : (row : Row) → QueriesRow first_text [] old new (Ok row) → (tail : List Row) × IsAnswer (first_query []) (overlay old.now.trees []) [] (row ∷ tail)
-  shows_first row h =
-      let got = (first_as first_text [] old new (store_schema checks name) has _ (first_is checks name) (first_plain checks name) (first_listed checks name) row h).1 in
-      (got.0, got.1 Null)
+  pub shows_first : (rows : List Row) → Shown first_text [] old new rows → IsAnswer (first_query []) (overlay old.now.trees []) [] rows
+  shows_first rows h =
+      (reads_as first_text [] old new (store_schema checks name) has _ (first_is checks name) (first_plain checks name) (first_listed checks name) rows h).answer Null
 
-  pub shows_within : (kind : ℕ) (code : List ℕ) (row : Row) → QueriesRow within_text (Int (pos kind) ∷ Blob code ∷ []) old new (Ok row)
-      → (tail : List Row) × IsAnswer (first_query within_tests) (overlay old.now.trees []) (Int (pos kind) ∷ Blob code ∷ []) (row ∷ tail)
-  shows_within kind code row h =
-      let got = (first_as within_text (Int (pos kind) ∷ Blob code ∷ []) old new (store_schema checks name) has _ (within_is checks name) (within_plain checks name) (within_listed checks name) row h).1 in
-      (got.0, got.1 Null)
+  pub shows_within : (kind : ℕ) (code : List ℕ) (rows : List Row) → Shown within_text (Int (pos kind) ∷ Blob code ∷ []) old new rows
+      → IsAnswer (first_query within_tests) (overlay old.now.trees []) (Int (pos kind) ∷ Blob code ∷ []) rows
+  shows_within kind code rows h =
+      (reads_as within_text (Int (pos kind) ∷ Blob code ∷ []) old new (store_schema checks name) has _ (within_is checks name) (within_plain checks name) (within_listed checks name) rows h).answer Null
 
-  pub shows_beyond : (kind : ℕ) (row : Row) → QueriesRow beyond_text (Int (pos kind) ∷ []) old new (Ok row)
-      → (tail : List Row) × IsAnswer (first_query beyond_tests) (overlay old.now.trees []) (Int (pos kind) ∷ []) (row ∷ tail)
-  shows_beyond kind row h =
-      let got = (first_as beyond_text (Int (pos kind) ∷ []) old new (store_schema checks name) has _ (beyond_is checks name) (beyond_plain checks name) (beyond_listed checks name) row h).1 in
-      (got.0, got.1 Null)
-
-  pub shows_no_first : Shown first_text [] old new [] → IsAnswer (first_query []) (overlay old.now.trees []) [] []
-  shows_no_first h =
-      (reads_as first_text [] old new (store_schema checks name) has _ (first_is checks name) (first_plain checks name) (first_listed checks name) [] h).answer Null
-
-  pub shows_none_within : (kind : ℕ) (code : List ℕ) → Shown within_text (Int (pos kind) ∷ Blob code ∷ []) old new []
-      → IsAnswer (first_query within_tests) (overlay old.now.trees []) (Int (pos kind) ∷ Blob code ∷ []) []
-  shows_none_within kind code h =
-      (reads_as within_text (Int (pos kind) ∷ Blob code ∷ []) old new (store_schema checks name) has _ (within_is checks name) (within_plain checks name) (within_listed checks name) [] h).answer Null
-
-  pub shows_none_beyond : (kind : ℕ) → Shown beyond_text (Int (pos kind) ∷ []) old new []
-      → IsAnswer (first_query beyond_tests) (overlay old.now.trees []) (Int (pos kind) ∷ []) []
-  shows_none_beyond kind h =
-      (reads_as beyond_text (Int (pos kind) ∷ []) old new (store_schema checks name) has _ (beyond_is checks name) (beyond_plain checks name) (beyond_listed checks name) [] h).answer Null
+  pub shows_beyond : (kind : ℕ) (rows : List Row) → Shown beyond_text (Int (pos kind) ∷ []) old new rows
+      → IsAnswer (first_query beyond_tests) (overlay old.now.trees []) (Int (pos kind) ∷ []) rows
+  shows_beyond kind rows h =
+      (reads_as beyond_text (Int (pos kind) ∷ []) old new (store_schema checks name) has _ (beyond_is checks name) (beyond_plain checks name) (beyond_listed checks name) rows h).answer Null
 
   pub shows_numbers : (rows : List Row) → Shown numbers_text [] old new rows → IsAnswer numbers_query (overlay old.now.trees []) [] rows
   shows_numbers rows h =

@@ -1,20 +1,27 @@
 -- One look after another, and what they find past a key.
-use Rattle.std.proofs.Common.{◌≡◌, List, Option, None, Some, Result, Ok, Err, IfOk, IsTrue, sym, subst, ◌∙◌}
+use Rattle.std.proofs.Common.{◌≡◌, List, [], Option, None, Some, Result, Ok, Err, IfOk, IsTrue, sym, subst, ◌∙◌}
 use Rattle.sqlite_value.specs.Order.{Row}
 use Rattle.sqlite.specs.declared.error.Error.{Error}
 use Rattle.sqlite.specs.Effect.{Database}
 use Rattle.sqlite.specs.State.{State, HasCleanDisk, IsLive}
-use Rattle.desk_edge.specs.Content.{IsFirstPast}
 use Rattle.desk_edge.specs.declared.key.Key.{Key}
 use Rattle.desk_edge.specs.declared.record.Record.{Record}
-use Rattle.desk_sqlite.specs.Content.{AreKeyed, IsFirstRow, content_of}
+use Rattle.desk_sqlite.specs.Content.{AreKeyed, AreLooked, AreFirstRows, AreFirstPast, content_of}
 use Rattle.desk_sqlite.specs.Rows.{AreNumbered}
-use Rattle.desk_sqlite.specs.Store.{IsOurs, IsStore, IsStill, Suits, IsLook, any_key, is_within, is_beyond, rows_in}
+use Rattle.desk_sqlite.specs.Store.{IsOurs, IsStore, IsStill, Suits, any_key, is_within, is_beyond, rows_in}
 use Rattle.desk_sqlite.proofs.FindLemmas.{are_keyed, first_of_all, first_beyond}
 
 pub if_ok : {X E : Type 0} (P Q : X → Type 0) (r : Result X E) → ((x : X) → P x → Q x) → IfOk r P → IfOk r Q
 if_ok P Q (Ok x) f h = f x h
 if_ok P Q (Err e) f h = tt
+
+pub if_both : {X E : Type 0} (P Q : X → Type 0) (r : Result X E) → IfOk r P → IfOk r Q → IfOk r (λ x. P x × Q x)
+if_both P Q (Ok x) p q = (p, q)
+if_both P Q (Err e) p q = tt
+
+pub if_ok_later : {X E A B : Type 0} (P : X → Type 0) (r : Result X E) → (A → B → IfOk r P) → IfOk r (λ x. A → B → P x)
+if_ok_later P (Ok x) f = f
+if_ok_later P (Err e) f = tt
 
 pub store_same : (a b : State) → b.now ≡ a.now → IsStore a → IsStore b
 store_same a b same store = record {
@@ -35,22 +42,23 @@ still_then a b c s t = record {
 pub keyed_still : (a b : State) → IsStill a b → IsLive a → Suits a → HasCleanDisk b → IsTrue b.is_open → AreKeyed (rows_in a)
 keyed_still a b still live suits clean now = let was = still.was_open clean now in are_keyed a (live was).0 (suits (still.clean clean) was)
 
--- nothing is within, and this is beyond
-pub past_beyond : (a b c : State) (key : Key) (found : Result (Option Row) Error) → IsStill a b → IsStill b c → Suits a → HasCleanDisk c → IsTrue c.is_open
-    → (HasCleanDisk b → IsTrue b.is_open → IsLook (is_within key.kind key.code) (rows_in a) None)
-    → (Suits b → HasCleanDisk c → IsTrue c.is_open → IfOk found (IsLook (is_beyond key.kind) (rows_in b))) → IfOk found (IsFirstRow (Some key) (rows_in a))
-past_beyond a b c key found s t suits clean now none look =
-    let mid_clean = t.clean clean in
-    let mid_open = t.was_open clean now in
-    let same = s.same suits mid_clean mid_open in
-    let looked = look (suits_still a b s suits) clean now in
-    if_ok (IsLook (is_beyond key.kind) (rows_in a)) (IsFirstRow (Some key) (rows_in a)) found (λ o h. first_beyond key (rows_in a) o (none mid_clean mid_open) h)
-    (subst (λ (d : Database). IfOk found (IsLook (is_beyond key.kind) (d.trees 0))) same looked)
+module _ {X : Type 0} (items : X → List Row) where
+  -- nothing is within, and these are beyond
+  pub past_beyond : (a b c : State) (key : Key) (found : Result X Error) → IsStill a b → IsStill b c → Suits a → HasCleanDisk c → IsTrue c.is_open
+      → (HasCleanDisk b → IsTrue b.is_open → AreLooked (is_within key.kind key.code) (rows_in a) [])
+      → (Suits b → HasCleanDisk c → IsTrue c.is_open → IfOk found (λ shown. AreLooked (is_beyond key.kind) (rows_in b) (items shown))) → IfOk found (λ shown. AreFirstRows (Some key) (rows_in a) (items shown))
+  past_beyond a b c key found s t suits clean now none look =
+      let mid_clean = t.clean clean in
+      let mid_open = t.was_open clean now in
+      let same = s.same suits mid_clean mid_open in
+      let looked = look (suits_still a b s suits) clean now in
+      if_ok (λ shown. AreLooked (is_beyond key.kind) (rows_in a) (items shown)) (λ shown. AreFirstRows (Some key) (rows_in a) (items shown)) found (λ o h. first_beyond key (rows_in a) (items o) (none mid_clean mid_open) h)
+      (subst (λ (d : Database). IfOk found (λ shown. AreLooked (is_beyond key.kind) (d.trees 0) (items shown))) same looked)
 
-pub past_all : (rows : List Row) (found : Result (Option Row) Error) → IfOk found (IsLook any_key rows) → IfOk found (IsFirstRow None rows)
-past_all rows found = if_ok (IsLook any_key rows) (IsFirstRow None rows) found (λ o h. first_of_all rows o h)
+  pub past_all : (rows : List Row) (found : Result X Error) → IfOk found (λ shown. AreLooked any_key rows (items shown)) → IfOk found (λ shown. AreFirstRows None rows (items shown))
+  past_all rows found = if_ok (λ shown. AreLooked any_key rows (items shown)) (λ shown. AreFirstRows None rows (items shown)) found (λ o h. first_of_all rows (items o) h)
 
 -- what is found of the rows as they were is found of them as they are
-pub past_after : (a b : State) (after : Option Key) (found : Option Record) → IsStill a b → Suits a → HasCleanDisk b → IsTrue b.is_open
-    → IsFirstPast (content_of (rows_in a)) after found → IsFirstPast (content_of (rows_in b)) after found
-past_after a b after found still suits clean now = subst (λ (d : Database). IsFirstPast (content_of (d.trees 0)) after found) (sym (still.same suits clean now))
+pub past_after : (a b : State) (after : Option Key) (found : List Record) → IsStill a b → Suits a → HasCleanDisk b → IsTrue b.is_open
+    → AreFirstPast (content_of (rows_in a)) after found → AreFirstPast (content_of (rows_in b)) after found
+past_after a b after found still suits clean now = subst (λ (d : Database). AreFirstPast (content_of (d.trees 0)) after found) (sym (still.same suits clean now))

@@ -1,33 +1,45 @@
 -- What a statement leaves of a connection's state, and what it does to a store.
-use Rattle.std.proofs.Common.{◌≡◌, ◌&&◌, inl, inr, ℕ, pos, List, [], ◌∷◌, Bool, true, false, Option, Some, None, Result, Ok, Err, IsTrue, refl, sym, ap, subst, ◌∙◌}
+use Rattle.std.proofs.Common.{◌≡◌, ◌&&◌, inl, inr, ℕ, zero, suc, ℤ, pos, List, [], ◌∷◌, map, take, Bool, true, false, Option, option_map, Some, None, Ok, IsTrue, refl, sym, ap, subst, ◌∙◌, true≢false}
+use Rattle.std.proofs.lemmas.Cmp.{tied_itself}
+use Rattle.std.specs.List.Sorted.{IsSorted}
 use Rattle.std.specs.Cmp.Lexicographic.{slice_cmp}
 use Rattle.std.specs.declared.cmp.Ordering.TheVariants.{Equal}
 use Rattle.std.specs.Ordering.{nat_cmp, is_eq, is_lt, is_gt, ordering_then}
 use Rattle.sqlite_value.specs.declared.value.Value.TheVariants.{Int, Blob}
 use Rattle.sqlite_value.specs.declared.keys.Collation.TheVariants.{Binary}
-use Rattle.sqlite_value.specs.Order.{Row, column, value_cmp}
-use Rattle.sqlite_value.proofs.OrderLemmas.{value_cmp-Blob, then-Equal}
+use Rattle.sqlite_value.specs.Order.{Row, bytes, column, value_cmp}
+use Rattle.sqlite_value.proofs.OrderLemmas.{value_cmp_total, value_cmp-Blob, then-Equal}
 use Rattle.sqlite_sql.specs.declared.ops.BinaryOp.TheVariants.{Compare}
 use Rattle.sqlite_sql.specs.declared.ops.CompareOp.TheVariants.{Eq, Gt}
 use Rattle.sqlite_sql.specs.Ops.{binary, is_true}
 use Rattle.sqlite_sql.specs.Term.{Term}
+use Rattle.sqlite_sql.specs.Query.{Output, output_cmp}
+use Rattle.sqlite_sql.proofs.QueryLemmas.{output_cmp_total}
 use Rattle.sqlite_sql.specs.Program.{overlay}
 use Rattle.sqlite_schema.specs.declared.command.Returning.{Returning}
 use Rattle.sqlite_rules.specs.Lists.{Has}
-use Rattle.sqlite_rules.specs.Edit.{without_all}
+use Rattle.sqlite_rules.specs.Edit.{is_taken, without_all}
+use Rattle.sqlite_trees.specs.Tree.{rowid}
 use Rattle.sqlite_rules.specs.Calls.{ids_of}
 use Rattle.sqlite_resolve.specs.declared.compiled.Compiled.{Compiled}
 use Rattle.sqlite.specs.declared.error.Error.{Error}
 use Rattle.sqlite.specs.Given.{IsPlain}
 use Rattle.sqlite.specs.Listing.{understood}
-use Rattle.sqlite.specs.State.{State, IsNotRun, FailsToShow, FailsToQuery, ShowsRows, Shown, QueriesRow, ExecutesInside}
+use Rattle.sqlite.specs.State.{State, IsNotRun, FailsToShow, FailsToQuery, ShowsRows, Shown, ExecutesInside}
+use Rattle.desk_edge.specs.Content.{is_past, key_cmp}
+use Rattle.desk_edge.specs.declared.key.Key.{Key}
+use Rattle.desk_edge.proofs.Keys.{key_order}
+use Rattle.desk_sqlite.specs.Content.{AreKeyed, IsOf, AreNext, AreLooked}
 use Rattle.desk_sqlite.specs.Texts.{first_text, within_text, beyond_text, insert_text, drop_text}
 use Rattle.desk_sqlite.specs.Rows.{is_of, body_of, AreNumbered}
-use Rattle.desk_sqlite.specs.Store.{IsOurs, IsStore, rows_in, Dropped, Inserted, IsLook, any_key, is_within, is_beyond}
+use Rattle.desk_sqlite.specs.Store.{IsOurs, IsStore, rows_in, Dropped, Inserted, any_key, is_within, is_beyond}
 use Rattle.desk_sqlite.proofs.ContentLemmas.{drop_numbered, drop_bodies, insert_numbered, insert_bodies}
-use Rattle.desk_sqlite.proofs.MeaningLemmas.{drop_tests, drops, inserts, shows_first, shows_within, shows_beyond, shows_no_first, shows_none_within, shows_none_beyond, within_tests, beyond_tests}
-use Rattle.desk_sqlite.proofs.ReadLemmas.{passes, IsFirstIn, first_in, none_in, numbers_in}
-use Rattle.desk_sqlite.proofs.ValueLemmas.{columns_of, number_cmp, number_eq, number_gt, blob_gt}
+use Rattle.desk_sqlite.proofs.MeaningLemmas.{drop_tests, drops, inserts, row_of, shows_first, shows_within, shows_beyond, within_tests, beyond_tests}
+use Rattle.desk_sqlite.proofs.ReadLemmas.{passes, shown_of, AreListed, listed_in, numbers_in}
+use Rattle.desk_sqlite.proofs.TextLemmas.{first_query}
+use Rattle.desk_sqlite.proofs.ListLemmas.{has_put, kept_put, le_lt, none_found, sorted_first, sorted_tail, taken_not}
+use Rattle.desk_sqlite.proofs.FindLemmas.{are_keyed}
+use Rattle.desk_sqlite.proofs.ValueLemmas.{columns_of, of_columns, number_cmp, number_eq, number_gt, blob_gt}
 
 module _ (sql : List ℕ) (params : Row) (old new : State) where
   not_run_open : (e : Error) → IsNotRun old new sql params e → IsTrue new.is_open → IsTrue old.is_open
@@ -47,15 +59,6 @@ module _ (sql : List ℕ) (params : Row) (old new : State) where
   shown_open : (rows : List Row) → Shown sql params old new rows → IsTrue old.is_open
   unfolding Shown
   shown_open rows h = shows_open h.0 _ rows h.0.returning h.2
-
-  -- a connection that is open after a query was open before it
-  pub asked_open : (r : Result Row Error) → QueriesRow sql params old new r → IsTrue new.is_open → IsTrue old.is_open
-  unfolding QueriesRow FailsToQuery
-  asked_open (Ok row) (inl h) now = h.1.0.was_open
-  asked_open (Ok row) (inr h) now = shown_open h.0 h.1
-  asked_open (Err e) (inl (inl h)) now = not_run_open e h now
-  asked_open (Err e) (inl (inr h)) now = fails_open h.0 _ e h.0.returning h.2 now
-  asked_open (Err e) (inr h) now = shown_open [] h.1
 
   pub listed_open : (e : Error) → FailsToQuery sql params old new e → IsTrue new.is_open → IsTrue old.is_open
   unfolding FailsToQuery
@@ -83,15 +86,6 @@ module _ (sql : List ℕ) (params : Row) (old new : State) where
     unfolding Shown
     shown_same rows h = shows_same h.0 _ rows h.0.returning (subst IsPlain h.1.is plain).0 h.2
 
-    -- a query changes nothing, also where it fails
-    pub asked_same : (r : Result Row Error) → QueriesRow sql params old new r → IsTrue new.is_open → new.now ≡ old.now
-    unfolding QueriesRow FailsToQuery
-    asked_same (Ok row) (inl h) now = h.1.0.now_is
-    asked_same (Ok row) (inr h) now = shown_same h.0 h.1
-    asked_same (Err e) (inl (inl h)) now = not_run_same e h now
-    asked_same (Err e) (inl (inr h)) now = fails_same h.0 _ e h.0.returning (subst IsPlain h.1.is plain).0 h.2
-    asked_same (Err e) (inr h) now = shown_same [] h.1
-
     pub listed_same : (e : Error) → FailsToQuery sql params old new e → IsTrue new.is_open → new.now ≡ old.now
     unfolding FailsToQuery
     listed_same e (inl h) now = not_run_same e h now
@@ -99,6 +93,25 @@ module _ (sql : List ℕ) (params : Row) (old new : State) where
 
     pub all_same : (rows : List Row) → Shown sql params old new rows → new.now ≡ old.now
     all_same = shown_same
+
+-- a row of the key that was put in beside the others was the first of its key
+none_of : (old new : List Row) (kind : ℕ) (code : List ℕ) (row : Row) (n : ℤ) → AreKeyed new → Has new row → row ≡ row_of n kind code (bytes (column row 3)) → is_taken old row ≡ false
+    → ((x : Row) → Has old x → Has new x) → body_of old kind code ≡ None
+none_of old new kind code row n keyed here is free stays = ap (option_map (λ r. bytes (column r 3))) (none_found (is_of kind code) old absent)
+  where
+    its : is_of kind code row ≡ true
+    its = of_columns kind code row (ap (λ r. column r 1) is) (ap (λ r. column r 2) is)
+
+    absent : (x : Row) → Has old x → is_of kind code x ≡ false
+    absent x has = go (is_of kind code x) refl
+      where
+        go : (b : Bool) → is_of kind code x ≡ b → b ≡ false
+        go false e = refl
+        go true e =
+            let same = keyed (record { kind = kind; code = code }) x row (stays x has) here e its in
+            let apart : is_eq (value_cmp (rowid row) (rowid row)) ≡ false = subst (λ r. is_eq (value_cmp (rowid r) (rowid row)) ≡ false) same (taken_not old row x free has) in
+            let one : is_eq (value_cmp (rowid row) (rowid row)) ≡ true = ap is_eq (tied_itself value_cmp_total (rowid row)) in
+            absurd (true≢false (sym one ∙ apart))
 
 module _ (old new : State) (store : IsStore old) where
   pub drop_made : (kind : ℕ) (code : List ℕ) (count : ℕ) → ExecutesInside 0 drop_text (Int (pos kind) ∷ Blob code ∷ []) old new (Ok count)
@@ -117,16 +130,21 @@ module _ (old new : State) (store : IsStore old) where
       )
 
   pub insert_made : (kind : ℕ) (code body : List ℕ) (count : ℕ) → ExecutesInside 0 insert_text (Int (pos kind) ∷ Blob code ∷ Blob body ∷ []) old new (Ok count)
-      → IsStore new × (body_of (rows_in old) kind code ≡ None → Inserted kind code body (rows_in old) (rows_in new))
+      → IsStore new × Inserted kind code body (rows_in old) (rows_in new)
   insert_made kind code body count h =
       let checks = store.ours.0 in
       let name = store.ours.1 in
-      let it = inserts checks name old new store.ours.2 kind code body count h.0 in (
-        record {
-          ours = (checks, name, it.0);
-          numbered = subst AreNumbered (sym it.3) (insert_numbered (rows_in old) store.numbered kind code it.1 body it.2);
-        },
-        λ none k c. ap (λ rows. body_of rows k c) it.3 ∙ insert_bodies (rows_in old) store.numbered kind code it.1 body it.2 none k c,
+      let it = inserts checks name old new store.ours.2 kind code body count h.0 in
+      let row = row_of it.1 kind code body in
+      let left : IsStore new = record {
+        ours = (checks, name, it.0);
+        numbered = subst AreNumbered (sym it.3) (insert_numbered (rows_in old) store.numbered kind code it.1 body it.2);
+      } in
+      let here : Has (rows_in new) row = subst (λ l. Has l row) (sym it.3) (has_put row (rows_in old)) in
+      let stays : (x : Row) → Has (rows_in old) x → Has (rows_in new) x = λ x has. subst (λ l. Has l x) (sym it.3) (kept_put row (rows_in old) x it.2 has) in
+      let free = none_of (rows_in old) (rows_in new) kind code row it.1 (are_keyed new it.4 left) here refl it.2 stays in (
+        left,
+        λ k c. ap (λ rows. body_of rows k c) it.3 ∙ insert_bodies (rows_in old) store.numbered kind code it.1 body it.2 free k c,
       )
 
 -- ---- looks
@@ -158,45 +176,85 @@ order_is k c x own code r hx hr =
 
 module _ (tests : List Term) (params : Row) (rows : List Row) (wanted : ℕ → List ℕ → Bool)
     (meant : (k : ℕ) (c : List ℕ) (r : Row) → is_of k c r ≡ true → passes tests params r ≡ wanted k c) where
-  look_some : (shown : Row) → IsFirstIn tests params rows shown → IsLook wanted rows (Some shown)
-  look_some shown f = (
-    f.row,
-    f.there,
-    f.is,
-    λ own code hr. (
-      sym (meant own code f.row hr) ∙ f.good,
-      λ k c x there hx good. sym (ap is_lt (order_is k c x own code f.row hx hr)) ∙ f.least x there (meant k c x hx ∙ good),
+  -- a row that is shown as another has its key
+  one_key : (key own : Key) (x r : Row) → IsOf key x → IsOf own r → shown_of tests params x ≡ shown_of tests params r → key ≡ own
+  one_key key own x r hx hr same =
+      let a = columns_of key.kind key.code x hx in
+      let b = columns_of own.kind own.code r hr in
+      let shown = ap (λ (o : Output). o.1) same in
+      let one : Int (pos key.kind) ≡ Int (pos own.kind) = sym a.0 ∙ ap (λ l. column l 0) shown ∙ b.0 in
+      let two : Blob key.code ≡ Blob own.code = sym a.1 ∙ ap (λ l. column l 1) shown ∙ b.1 in
+      let kind : key.kind ≡ own.kind = cc in
+      let code : key.code ≡ own.code = cc in
+      rw (kind, code) refl
+
+  -- an order of the shown ones is that of the keys
+  key_order_is : (key own : Key) (x r : Row) → IsOf key x → IsOf own r → is_lt (output_cmp (first_query tests) (shown_of tests params x) (shown_of tests params r)) ≡ false → is_lt (key_cmp key own) ≡ false
+  key_order_is key own x r hx hr h = sym (ap is_lt (order_is key.kind key.code x own.kind own.code r hx hr)) ∙ h
+
+  run : (n : ℕ) (os : List Output) (bound : Option Key) → IsSorted (output_cmp (first_query tests)) os
+      → ((o : Output) → Has os o → (r : Row) × Has rows r × (passes tests params r ≡ true) × (o ≡ shown_of tests params r))
+      → ((key : Key) (x : Row) → Has rows x → IsOf key x → wanted key.kind key.code ≡ true → is_past bound key ≡ true → Has os (shown_of tests params x))
+      → ((o : Output) → Has os o → (r : Row) → o ≡ shown_of tests params r → (own : Key) → IsOf own r → (key : Key) → is_past (Some own) key ≡ true → is_past bound key ≡ true)
+      → AreNext wanted bound rows (take n (map (λ (o : Output). o.1) os))
+  run zero os bound sorted from there rises = tt
+  run (suc n) [] bound sorted from there rises = tt
+  run (suc n) (o ∷ os) bound sorted from there rises = (
+    r.0,
+    r.1,
+    ap (λ (k : Output). k.1) r.3,
+    λ own hr. (
+      sym (meant own.kind own.code r.0 hr) ∙ r.2,
+      λ key x has hx good past. first key x hx own hr (there key x has hx good past),
+      run n os (Some own) (sorted_tail (output_cmp (first_query tests)) o os sorted) (λ p hp. from p (inr hp))
+          (λ key x has hx good past. behind key x hx own hr past (there key x has hx good (rises o (inl refl) r.0 r.3 own hr key past)))
+          (λ p hp r′ is own′ hr′ key past. le_lt key_order own own′ key (low p hp r′ is own′ hr′ own hr) past),
     ),
   )
+    where
+      r : (r : Row) × Has rows r × (passes tests params r ≡ true) × (o ≡ shown_of tests params r)
+      r = from o (inl refl)
 
-  look_none : ((x : Row) → Has rows x → passes tests params x ≡ false) → IsLook wanted rows None
-  look_none h k c x there hx = sym (meant k c x hx) ∙ h x there
+      first : (key : Key) (x : Row) → IsOf key x → (own : Key) → IsOf own r.0 → Has (o ∷ os) (shown_of tests params x) → is_lt (key_cmp key own) ≡ false
+      first key x hx own hr has =
+          key_order_is key own x r.0 hx hr
+          (subst (λ k. is_lt (output_cmp (first_query tests) (shown_of tests params x) k) ≡ false) r.3
+          (sorted_first (output_cmp (first_query tests)) (output_cmp_total (first_query tests)) o os sorted (shown_of tests params x) has))
+
+      low : (p : Output) → Has os p → (r′ : Row) → p ≡ shown_of tests params r′ → (own′ : Key) → IsOf own′ r′ → (own : Key) → IsOf own r.0 → is_lt (key_cmp own′ own) ≡ false
+      low p hp r′ is own′ hr′ own hr = first own′ r′ hr′ own hr (inr (subst (Has os) is hp))
+
+      behind : (key : Key) (x : Row) → IsOf key x → (own : Key) → IsOf own r.0 → is_past (Some own) key ≡ true → Has (o ∷ os) (shown_of tests params x) → Has os (shown_of tests params x)
+      behind key x hx own hr past (inr has) = has
+      behind key x hx own hr past (inl e) =
+          let same = one_key key own x r.0 hx hr (e ∙ r.3) in
+          absurd (true≢false (sym past ∙ ap (λ k. is_lt (key_cmp own k)) same ∙ ap is_lt (tied_itself key_order own)))
+
+  looked : (shown : List Row) → AreListed tests params rows shown → AreLooked wanted rows shown
+  looked shown l = subst (AreLooked wanted rows) (sym l.is) (go l.ordered refl)
+    where
+      go : (os : List Output) → l.ordered ≡ os → AreLooked wanted rows (take 64 (map (λ (o : Output). o.1) os))
+      go [] is = λ key x has hx. none key x has hx (wanted key.kind key.code) refl
+        where
+          none : (key : Key) (x : Row) → Has rows x → IsOf key x → (b : Bool) → wanted key.kind key.code ≡ b → b ≡ false
+          none key x has hx false e = refl
+          none key x has hx true e = absurd (subst (λ all. Has all (shown_of tests params x)) is (l.there x has (meant key.kind key.code x hx ∙ e)))
+      go (o ∷ os) is =
+          subst (λ all. AreNext wanted None rows (take 64 (map (λ (k : Output). k.1) all))) is
+          (run 64 l.ordered None l.sorted l.from (λ key x has hx good past. l.there x has (meant key.kind key.code x hx ∙ good)) (λ _ _ _ _ _ _ _ _. refl))
 
 module _ (old new : State) (ours : IsOurs old.now.schema) where
-  pub look_first : (row : Row) → QueriesRow first_text [] old new (Ok row) → IsLook any_key (rows_in old) (Some row)
-  look_first row h =
-      let it = shows_first ours.0 ours.1 old new ours.2 row h in
-      look_some [] [] (rows_in old) any_key (λ k c r own. refl) row (first_in [] (overlay old.now.trees []) [] row it.0 it.1)
+  pub look_first : (shown : List Row) → Shown first_text [] old new shown → AreLooked any_key (rows_in old) shown
+  look_first shown h =
+      looked [] [] (rows_in old) any_key (λ k c r own. refl) shown (listed_in [] (overlay old.now.trees []) [] shown (shows_first ours.0 ours.1 old new ours.2 shown h))
 
-  pub look_no_first : Shown first_text [] old new [] → IsLook any_key (rows_in old) None
-  look_no_first h = look_none [] [] (rows_in old) any_key (λ k c r own. refl) (none_in [] (overlay old.now.trees []) [] (shows_no_first ours.0 ours.1 old new ours.2 h))
+  pub look_within : (kind : ℕ) (code : List ℕ) (shown : List Row) → Shown within_text (Int (pos kind) ∷ Blob code ∷ []) old new shown → AreLooked (is_within kind code) (rows_in old) shown
+  look_within kind code shown h =
+      looked within_tests (Int (pos kind) ∷ Blob code ∷ []) (rows_in old) (is_within kind code)
+      (λ k c r own. within_passes kind code k c r own ∙ ap (λ b. is_eq (nat_cmp k kind) && b) (and_true _)) shown
+      (listed_in within_tests (overlay old.now.trees []) (Int (pos kind) ∷ Blob code ∷ []) shown (shows_within ours.0 ours.1 old new ours.2 kind code shown h))
 
-  pub look_within : (kind : ℕ) (code : List ℕ) (row : Row) → QueriesRow within_text (Int (pos kind) ∷ Blob code ∷ []) old new (Ok row) → IsLook (is_within kind code) (rows_in old) (Some row)
-  look_within kind code row h =
-      let it = shows_within ours.0 ours.1 old new ours.2 kind code row h in
-      look_some within_tests (Int (pos kind) ∷ Blob code ∷ []) (rows_in old) (is_within kind code)
-      (λ k c r own. within_passes kind code k c r own ∙ ap (λ b. is_eq (nat_cmp k kind) && b) (and_true _)) row (first_in within_tests (overlay old.now.trees []) (Int (pos kind) ∷ Blob code ∷ []) row it.0 it.1)
-
-  pub look_none_within : (kind : ℕ) (code : List ℕ) → Shown within_text (Int (pos kind) ∷ Blob code ∷ []) old new [] → IsLook (is_within kind code) (rows_in old) None
-  look_none_within kind code h =
-      look_none within_tests (Int (pos kind) ∷ Blob code ∷ []) (rows_in old) (is_within kind code)
-      (λ k c r own. within_passes kind code k c r own ∙ ap (λ b. is_eq (nat_cmp k kind) && b) (and_true _)) (none_in within_tests (overlay old.now.trees []) (Int (pos kind) ∷ Blob code ∷ []) (shows_none_within ours.0 ours.1 old new ours.2 kind code h))
-
-  pub look_beyond : (kind : ℕ) (row : Row) → QueriesRow beyond_text (Int (pos kind) ∷ []) old new (Ok row) → IsLook (is_beyond kind) (rows_in old) (Some row)
-  look_beyond kind row h =
-      let it = shows_beyond ours.0 ours.1 old new ours.2 kind row h in
-      look_some beyond_tests (Int (pos kind) ∷ []) (rows_in old) (is_beyond kind) (λ k c r own. beyond_passes kind k c r own ∙ and_true _) row (first_in beyond_tests (overlay old.now.trees []) (Int (pos kind) ∷ []) row it.0 it.1)
-
-  pub look_none_beyond : (kind : ℕ) → Shown beyond_text (Int (pos kind) ∷ []) old new [] → IsLook (is_beyond kind) (rows_in old) None
-  look_none_beyond kind h =
-      look_none beyond_tests (Int (pos kind) ∷ []) (rows_in old) (is_beyond kind) (λ k c r own. beyond_passes kind k c r own ∙ and_true _) (none_in beyond_tests (overlay old.now.trees []) (Int (pos kind) ∷ []) (shows_none_beyond ours.0 ours.1 old new ours.2 kind h))
+  pub look_beyond : (kind : ℕ) (shown : List Row) → Shown beyond_text (Int (pos kind) ∷ []) old new shown → AreLooked (is_beyond kind) (rows_in old) shown
+  look_beyond kind shown h =
+      looked beyond_tests (Int (pos kind) ∷ []) (rows_in old) (is_beyond kind) (λ k c r own. beyond_passes kind k c r own ∙ and_true _) shown
+      (listed_in beyond_tests (overlay old.now.trees []) (Int (pos kind) ∷ []) shown (shows_beyond ours.0 ours.1 old new ours.2 kind shown h))

@@ -16,7 +16,7 @@ use Rattle.sqlite.proofs.Callers.{command_of}
 use Rattle.desk_sqlite.specs.Texts.{numbers_text, first_text, within_text, beyond_text, insert_text, drop_text}
 use Rattle.desk_sqlite.specs.Table.{store_schema}
 
--- a query that shows kind, code and body of the rows that pass the tests, the first in the order of the keys
+-- a query that shows kind, code and body of the first rows that pass the tests, in the order of the keys
 abbrev pub first_query : List Term → Query
 first_query tests = record {
   from = inner 0 end;
@@ -26,7 +26,7 @@ first_query tests = record {
   distinct = false;
   collations = [];
   order = (col 1 1, ascending Binary) ∷ (col 1 2, ascending Binary) ∷ [];
-  limit = lit (Int (pos 1));
+  limit = lit (Int (pos 64));
   offset = lit (Int (pos 0));
 }
 

@@ -1,5 +1,5 @@
 -- What a call inside a transaction leaves.
-use Rattle.std.specs.Prelude.{◌≡◌, ℕ, List, Result, Ok, Err, OnOk, IsTrue}
+use Rattle.std.specs.Prelude.{◌≡◌, ◌⊎◌, ℕ, false, List, Result, Ok, Err, OnOk, OnErr, IsTrue}
 use Rattle.sqlite_value.specs.Order.{Row}
 use Rattle.sqlite.specs.declared.error.Error.{Error}
 use Rattle.sqlite.specs.State.{State, HasCleanDisk, KeepsCommit}
@@ -20,3 +20,8 @@ abbrev pub Leaves : State → State → Result (Unit {0}) Error → (List Row �
 Leaves old new result Did =
     HasCleanDisk new → IsTrue old.in_transaction
     → OnOk result (IsTrue new.in_transaction × (IsStore old → IsStore new × Did (rows_in old) (rows_in new)))
+
+-- where it was refused, it changed nothing, or the transaction is ended
+abbrev pub Spares : State → State → Result (Unit {0}) Error → Type 0
+Spares old new result =
+    HasCleanDisk new → IsTrue old.in_transaction → OnErr result (((new.now ≡ old.now) × IsTrue new.in_transaction) ⊎ (new.in_transaction ≡ false))

@@ -3,6 +3,6 @@ pub mod Table
 pub mod Rows
 pub mod Store
 pub mod Content
-pub mod Found
+pub mod Ahead
 pub mod Inside
 pub mod Keeping

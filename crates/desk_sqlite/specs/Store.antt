@@ -1,13 +1,12 @@
 -- When a connection stands over the table of a store.
-use Rattle.std.specs.Prelude.{◌≡◌, ℕ, true, false, Bool, ◌&&◌, List, [], ◌∷◌, Option, None, Some, if◌then◌else◌, IsTrue}
+use Rattle.std.specs.Prelude.{◌≡◌, ℕ, true, Bool, ◌&&◌, List, None, Some, if◌then◌else◌, IsTrue}
 use Rattle.std.specs.Cmp.Lexicographic.{slice_cmp}
-use Rattle.std.specs.Ordering.{nat_cmp, is_eq, is_lt, is_gt, ordering_then}
-use Rattle.sqlite_value.specs.Order.{Row, column}
+use Rattle.std.specs.Ordering.{nat_cmp, is_eq, is_gt}
+use Rattle.sqlite_value.specs.Order.{Row}
 use Rattle.sqlite_sql.specs.Term.{Term}
 use Rattle.sqlite_schema.specs.declared.schema.Schema.{Schema}
-use Rattle.sqlite_rules.specs.Lists.{Has}
 use Rattle.sqlite.specs.State.{State, HasCleanDisk}
-use Rattle.desk_sqlite.specs.Rows.{is_of, body_of, same_key, AreNumbered}
+use Rattle.desk_sqlite.specs.Rows.{body_of, same_key, AreNumbered}
 use Rattle.desk_sqlite.specs.Table.{store_schema}
 
 -- the schema is the table of a store and the index of its keys, and nothing else
@@ -40,19 +39,6 @@ pub record IsStill (old new : State) : Type 0 where
   pub clean : HasCleanDisk new → HasCleanDisk old
   pub was_open : HasCleanDisk new → IsTrue new.is_open → IsTrue old.is_open
   pub same : Suits old → HasCleanDisk new → IsTrue new.is_open → new.now ≡ old.now
-
--- the key comes before the other, by kind and then by the bytes of the code
-abbrev pub is_before : ℕ → List ℕ → ℕ → List ℕ → Bool
-is_before kind code k c = is_lt (ordering_then (nat_cmp kind k) (slice_cmp nat_cmp code c))
-
--- of the rows whose keys are wanted there is none, or the columns of this one were shown, and none has an earlier key
-abbrev pub IsLook : (ℕ → List ℕ → Bool) → List Row → Option Row → Type 0
-IsLook wanted rows None = (k : ℕ) (c : List ℕ) (x : Row) → Has rows x → is_of k c x ≡ true → wanted k c ≡ false
-IsLook wanted rows (Some shown) =
-    (row : Row) × Has rows row × (shown ≡ column row 1 ∷ column row 2 ∷ column row 3 ∷ [])
-    × ((own : ℕ) (code : List ℕ) → is_of own code row ≡ true
-    → (wanted own code ≡ true)
-    × ((k : ℕ) (c : List ℕ) (x : Row) → Has rows x → is_of k c x ≡ true → wanted k c ≡ true → is_before k c own code ≡ false))
 
 -- each key is looked for
 abbrev pub any_key : ℕ → List ℕ → Bool

@@ -5,17 +5,17 @@ use Rattle.std.specs.Prelude.{ℕ, List, codes}
 abbrev pub numbers_text : List ℕ
 numbers_text = codes "SELECT rowid FROM record ORDER BY rowid"
 
--- the first record of all
+-- the first records of all
 abbrev pub first_text : List ℕ
-first_text = codes "SELECT kind, code, body FROM record ORDER BY kind, code LIMIT 1"
+first_text = codes "SELECT kind, code, body FROM record ORDER BY kind, code LIMIT 64"
 
--- the first record of a kind past a code
+-- the first records of a kind past a code
 abbrev pub within_text : List ℕ
-within_text = codes "SELECT kind, code, body FROM record WHERE kind = ?1 AND code > ?2 ORDER BY kind, code LIMIT 1"
+within_text = codes "SELECT kind, code, body FROM record WHERE kind = ?1 AND code > ?2 ORDER BY kind, code LIMIT 64"
 
--- the first record of the kinds past a kind
+-- the first records of the kinds past a kind
 abbrev pub beyond_text : List ℕ
-beyond_text = codes "SELECT kind, code, body FROM record WHERE kind > ?1 ORDER BY kind, code LIMIT 1"
+beyond_text = codes "SELECT kind, code, body FROM record WHERE kind > ?1 ORDER BY kind, code LIMIT 64"
 
 -- keeps a record whose key no other has
 abbrev pub insert_text : List ℕ

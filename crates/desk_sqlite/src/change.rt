@@ -1,7 +1,6 @@
-ghost use Rattle.std.specs.Prelude.{◌≡◌, None};
+ghost use Rattle.std.specs.Prelude.{◌≡◌, false, OnOk};
 ghost use Rattle.sqlite.specs.Held.{state};
-ghost use Rattle.desk_sqlite.specs.Inside.{IsDone, IsInside, Leaves};
-ghost use Rattle.desk_sqlite.specs.Rows.{body_of};
+ghost use Rattle.desk_sqlite.specs.Inside.{IsDone, IsInside, Leaves, Spares};
 ghost use Rattle.desk_sqlite.specs.Store.{Dropped, Inserted};
 
 use sqlite::{Alter, Error, Transaction, params};
@@ -25,6 +24,7 @@ pub(crate) fn drop_record<S: Alter>(
     ensures same_reference { tx.new.conn.ghost_name ≡ tx.old.conn.ghost_name }
     ensures inside { IsInside (state S.Store tx.old.conn.now) (state S.Store tx.new.conn.now) }
     ensures dropped { Leaves (state S.Store tx.old.conn.now) (state S.Store tx.new.conn.now) result (Dropped kind code.now) }
+    ensures ended { (state S.Store tx.old.conn.now).in_transaction ≡ false → OnOk result ⊥ × (tx.new.conn.now ≡ tx.old.conn.now) }
 {
     done_of(tx.execute(
         "DELETE FROM record WHERE kind = ?1 AND code = ?2",
@@ -32,7 +32,7 @@ pub(crate) fn drop_record<S: Alter>(
     ))
 }
 
-/// Keeps the body under the kind and the code, where nothing is kept under them.
+/// Keeps the body under the kind and the code. It is refused where something is kept under them.
 pub(crate) fn insert_record<S: Alter>(
     tx: &mut Transaction<'_, S>,
     kind: u8,
@@ -41,8 +41,8 @@ pub(crate) fn insert_record<S: Alter>(
 ) -> Result<(), Error>
     ensures same_reference { tx.new.conn.ghost_name ≡ tx.old.conn.ghost_name }
     ensures inside { IsInside (state S.Store tx.old.conn.now) (state S.Store tx.new.conn.now) }
-    ensures inserted { Leaves (state S.Store tx.old.conn.now) (state S.Store tx.new.conn.now) result
-        (λ rows left. body_of rows kind code.now ≡ None → Inserted kind code.now body.now rows left) }
+    ensures inserted { Leaves (state S.Store tx.old.conn.now) (state S.Store tx.new.conn.now) result (Inserted kind code.now body.now) }
+    ensures spares { Spares (state S.Store tx.old.conn.now) (state S.Store tx.new.conn.now) result }
 {
     done_of(tx.execute(
         "INSERT INTO record (kind, code, body) VALUES (?1, ?2, ?3)",

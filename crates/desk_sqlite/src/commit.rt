@@ -2,22 +2,46 @@ ghost use Rattle.std.specs.Prelude.{◌≡◌, false, OnErr, OnOk, IsTrue};
 ghost use Rattle.sqlite.specs.Held.{state};
 ghost use Rattle.sqlite.specs.State.{HasCleanDisk};
 ghost use Rattle.desk_sqlite.specs.Content.{AreMade, IsMade, IsPut};
-ghost use Rattle.desk_sqlite.specs.Inside.{IsInside, Leaves};
-ghost use Rattle.desk_sqlite.specs.Store.{IsStore, Suits, rows_in};
+ghost use Rattle.desk_sqlite.specs.Inside.{IsInside, Leaves, Spares};
+ghost use Rattle.desk_sqlite.specs.Store.{Inserted, IsStore, Suits, rows_in};
 
 use crate::change::{drop_record, insert_record};
 use desk_edge::{Change, Record};
-use sqlite::{Alter, Connection, Error, Transaction};
+use sqlite::{Alter, Connection, Error, ErrorCode, Transaction};
 
-/// Keeps the record, in place of the one of its key.
+/// Keeps the record where none of its key is kept.
+fn insert<S: Alter>(tx: &mut Transaction<'_, S>, kept: &Record) -> Result<(), Error>
+    ensures same_reference { tx.new.conn.ghost_name ≡ tx.old.conn.ghost_name }
+    ensures inside { IsInside (state S.Store tx.old.conn.now) (state S.Store tx.new.conn.now) }
+    ensures inserted { Leaves (state S.Store tx.old.conn.now) (state S.Store tx.new.conn.now) result (Inserted kept.now.kind kept.now.code kept.now.body) }
+    ensures spares { Spares (state S.Store tx.old.conn.now) (state S.Store tx.new.conn.now) result }
+{
+    insert_record(tx, kept.kind, kept.code.as_slice(), kept.body.as_slice())
+}
+
+/// Keeps the record in place of the one of its key.
+fn replace<S: Alter>(tx: &mut Transaction<'_, S>, kept: &Record) -> Result<(), Error>
+    ensures same_reference { tx.new.conn.ghost_name ≡ tx.old.conn.ghost_name }
+    ensures inside { IsInside (state S.Store tx.old.conn.now) (state S.Store tx.new.conn.now) }
+    ensures put { Leaves (state S.Store tx.old.conn.now) (state S.Store tx.new.conn.now) result (IsPut kept.now) }
+    ensures ended { (state S.Store tx.old.conn.now).in_transaction ≡ false → OnOk result ⊥ × (tx.new.conn.now ≡ tx.old.conn.now) }
+{
+    match drop_record(tx, kept.kind, kept.code.as_slice()) {
+        Ok(()) => insert(tx, kept),
+        Err(error) => Err(error),
+    }
+}
+
+/// Keeps the record, in place of the one of its key if there is one. Most records that are put in are new, so that is looked at only
+/// where it is refused.
 fn put_record<S: Alter>(tx: &mut Transaction<'_, S>, kept: &Record) -> Result<(), Error>
     ensures same_reference { tx.new.conn.ghost_name ≡ tx.old.conn.ghost_name }
     ensures inside { IsInside (state S.Store tx.old.conn.now) (state S.Store tx.new.conn.now) }
     ensures put { Leaves (state S.Store tx.old.conn.now) (state S.Store tx.new.conn.now) result (IsPut kept.now) }
 {
-    match drop_record(tx, kept.kind, kept.code.as_slice()) {
-        Ok(()) => insert_record(tx, kept.kind, kept.code.as_slice(), kept.body.as_slice()),
-        Err(error) => Err(error),
+    match insert(tx, kept) {
+        Err(Error::SqliteFailure(ErrorCode::ConstraintViolation(_))) => replace(tx, kept),
+        done => done,
     }
 }
 

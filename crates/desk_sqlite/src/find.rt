@@ -1,74 +1,120 @@
-ghost use Rattle.std.specs.Prelude.{◌≡◌, false, pos, IfOk, IfSome, IsTrue, Some, true, option_copied};
+ghost use Rattle.std.specs.Prelude.{◌≡◌, [], false, true, pos, IfOk, IfSome, IsTrue, Some, option_copied};
 ghost use Rattle.sqlite.specs.Held.{state};
 ghost use Rattle.sqlite.specs.State.{HasCleanDisk};
 ghost use Rattle.sqlite_value.specs.Order.{column};
 ghost use Rattle.sqlite_value.specs.declared.value.Value.TheVariants.{Int, Blob};
 ghost use Rattle.desk_edge.specs.Content.{IsFirstPast, is_past, key_of};
-ghost use Rattle.desk_sqlite.specs.Content.{AreKeyed, IsFirstRow, IsShown, content_of};
+ghost use Rattle.desk_sqlite.specs.Ahead.{IsAhead};
+ghost use Rattle.desk_sqlite.specs.Content.{AreFirstPast, AreFirstRows, AreKeyed, AreShown, IsShown, content_of};
 ghost use Rattle.desk_sqlite.specs.Store.{IsStill, Suits, rows_in};
 
-use crate::look::{first_row, row_beyond, row_within};
+use crate::ahead::{Ahead, first_of};
+use crate::look::{first_rows, rows_beyond, rows_within};
 use desk_edge::{Key, Record};
-use desk_rows::Keyed;
 use desk_text::{Bytes, OutOfMemory};
 use sqlite::{Alter, Connection, Error, ErrorCode, Row};
 use sqlite_value::value::ValueRef;
 use std::alloc::Global;
+use std::collections::VecDeque;
 
-/// The first record past the key, or the first of all where no key is given. A row there that is no record is refused.
-pub(crate) fn find_record<S: Alter>(
+/// The first record past the key, or the first of all where no key is given, and those that come behind it. A row there that is no record
+/// is refused.
+///
+/// A desk that opens asks for each record of its store in turn. A query for each was most of what that took, so the records that may be
+/// asked for next come with the first.
+pub(crate) fn look_ahead<S: Alter>(
     conn: &mut Connection<S>,
     alloc: Global,
     after: Option<&Key>,
-) -> Result<Option<Record>, Error>
+) -> Result<(Option<Record>, Option<Ahead>), Error>
     requires { conn.old.in_transaction ≡ false }
     ensures mode { conn.new.in_transaction ≡ false }
     ensures still { IsStill (state S.Store conn.old) (state S.Store conn.new) }
     ensures gives { Suits (state S.Store conn.old) → HasCleanDisk (state S.Store conn.new) → IsTrue (state S.Store conn.new).is_open
-        → IfOk result (IsFirstPast (content_of (rows_in (state S.Store conn.new))) (option_copied after.entry)) }
-    ensures later { IfOk result (λ found. IfSome found (λ kept. is_past (option_copied after.entry) (key_of kept) ≡ true)) }
+        → IfOk result (λ both. IsFirstPast (content_of (rows_in (state S.Store conn.new))) (option_copied after.entry) both.0) }
+    ensures ahead { Suits (state S.Store conn.old) → IfOk result (λ both. IsAhead (state S.Store conn.new) both.1) }
+    ensures later { IfOk result (λ both. IfSome both.0 (λ kept. is_past (option_copied after.entry) (key_of kept) ≡ true)) }
 {
-    match first_past(conn, after) {
-        Ok(None) => Ok(None),
-        Ok(Some(row)) => match record_past(alloc, &row, after) {
-            Ok(kept) => Ok(Some(kept)),
-            Err(error) => Err(error),
-        },
+    match find_records(conn, alloc, after) {
+        Ok(found) => first_of(alloc, found, after),
         Err(error) => Err(error),
     }
 }
 
-/// The first row past the key, or the first of all where no key is given.
-fn first_past<S: Alter>(conn: &mut Connection<S>, after: Option<&Key>) -> Result<Option<Row>, Error>
+/// The first records past the key, or the first of all where no key is given; none where there is none.
+fn find_records<S: Alter>(
+    conn: &mut Connection<S>,
+    alloc: Global,
+    after: Option<&Key>,
+) -> Result<VecDeque<Record>, Error>
+    requires { conn.old.in_transaction ≡ false }
+    ensures mode { conn.new.in_transaction ≡ false }
+    ensures still { IsStill (state S.Store conn.old) (state S.Store conn.new) }
+    ensures gives { Suits (state S.Store conn.old) → HasCleanDisk (state S.Store conn.new) → IsTrue (state S.Store conn.new).is_open
+        → IfOk result (λ found. AreFirstPast (content_of (rows_in (state S.Store conn.new))) (option_copied after.entry) found.items) }
+{
+    match first_past(conn, after) {
+        Ok(rows) => records_of(alloc, rows.as_slice()),
+        Err(error) => Err(error),
+    }
+}
+
+/// The first rows past the key, or the first of all where no key is given.
+fn first_past<S: Alter>(conn: &mut Connection<S>, after: Option<&Key>) -> Result<Vec<Row>, Error>
     requires { conn.old.in_transaction ≡ false }
     ensures mode { conn.new.in_transaction ≡ false }
     ensures still { IsStill (state S.Store conn.old) (state S.Store conn.new) }
     ensures keyed { Suits (state S.Store conn.old) → HasCleanDisk (state S.Store conn.new) → IsTrue (state S.Store conn.new).is_open
         → AreKeyed (rows_in (state S.Store conn.old)) }
     ensures first { Suits (state S.Store conn.old) → HasCleanDisk (state S.Store conn.new) → IsTrue (state S.Store conn.new).is_open
-        → IfOk result (IsFirstRow (option_copied after.entry) (rows_in (state S.Store conn.old))) }
+        → IfOk result (λ shown. AreFirstRows (option_copied after.entry) (rows_in (state S.Store conn.old)) shown.items) }
 {
     // An open database keeps to its schema, by which no two rows have one key.
     let _keyed = conn.schema();
     match after {
-        Some(key) => row_past(conn, key),
-        None => first_row(conn),
+        Some(key) => rows_past(conn, key),
+        None => first_rows(conn),
     }
 }
 
-/// The first row past the key.
-fn row_past<S: Alter>(conn: &mut Connection<S>, key: &Key) -> Result<Option<Row>, Error>
+/// The first rows past the key.
+fn rows_past<S: Alter>(conn: &mut Connection<S>, key: &Key) -> Result<Vec<Row>, Error>
     requires { conn.old.in_transaction ≡ false }
     ensures mode { conn.new.in_transaction ≡ false }
     ensures still { IsStill (state S.Store conn.old) (state S.Store conn.new) }
     ensures first { Suits (state S.Store conn.old) → HasCleanDisk (state S.Store conn.new) → IsTrue (state S.Store conn.new).is_open
-        → IfOk result (IsFirstRow (Some key.now) (rows_in (state S.Store conn.old))) }
+        → IfOk result (λ shown. AreFirstRows (Some key.now) (rows_in (state S.Store conn.old)) shown.items) }
 {
-    match row_within(conn, key.kind, key.code.as_slice()) {
-        Ok(Some(row)) => Ok(Some(row)),
-        Ok(None) => row_beyond(conn, key.kind),
+    match rows_within(conn, key.kind, key.code.as_slice()) {
+        Ok(rows) => {
+            if rows.is_empty() {
+                rows_beyond(conn, key.kind)
+            } else {
+                Ok(rows)
+            }
+        }
         Err(error) => Err(error),
     }
+}
+
+/// The records whose columns the rows show, up to the first row that is no record. It is refused where that is the first of all.
+fn records_of(alloc: Global, rows: &[Row]) -> Result<VecDeque<Record>, Error>
+    ensures shown { IfOk result (λ found. AreShown found.items rows.now) }
+    ensures some { IfOk result (λ found. found.items ≡ [] → rows.now ≡ []) }
+{
+    let mut records = VecDeque::new(alloc);
+    'rows: for at in 0..rows.len() {
+        let kept = match record_of(alloc, &rows[at]) {
+            Ok(Some(kept)) => kept,
+            Ok(None) if at > 0 => return Ok(records),
+            Ok(None) => return Err(Error::SqliteFailure(ErrorCode::DatabaseCorrupt)),
+            Err(_) => return Err(Error::SqliteFailure(ErrorCode::OutOfMemory)),
+        };
+        if records.push_back(kept).is_err() {
+            return Err(Error::SqliteFailure(ErrorCode::OutOfMemory));
+        }
+    }
+    Ok(records)
 }
 
 /// The record whose columns the row shows, where it is one.
@@ -108,33 +154,5 @@ fn bytes_at(alloc: Global, row: &Row, at: usize) -> Result<Option<Bytes>, OutOfM
             Ok(Some(bytes))
         }
         _ => Ok(None),
-    }
-}
-
-/// The record whose columns the row shows. It is refused where the row is no record, or its key isn't past the one that is given.
-fn record_past(alloc: Global, row: &Row, after: Option<&Key>) -> Result<Record, Error>
-    ensures shown { IfOk result (λ kept. IsShown kept row.now) }
-    ensures past { IfOk result (λ kept. is_past (option_copied after.entry) (key_of kept) ≡ true) }
-{
-    match record_of(alloc, row) {
-        Ok(Some(kept)) => {
-            if is_past(&kept, after) {
-                Ok(kept)
-            } else {
-                Err(Error::SqliteFailure(ErrorCode::DatabaseCorrupt))
-            }
-        }
-        Ok(None) => Err(Error::SqliteFailure(ErrorCode::DatabaseCorrupt)),
-        Err(_) => Err(Error::SqliteFailure(ErrorCode::OutOfMemory)),
-    }
-}
-
-/// Whether the record's key is past the one that is given.
-fn is_past(kept: &Record, after: Option<&Key>) -> bool
-    ensures { result ≡ is_past (option_copied after.entry) (key_of kept.now) }
-{
-    match after {
-        Some(key) => kept.compare(key).is_gt(),
-        None => true,
     }
 }

@@ -5,8 +5,9 @@ ghost use Rattle.desk_edge.specs.Faults.{Rose};
 ghost use Rattle.desk_sqlite.specs.Content.{content_of};
 ghost use Rattle.desk_sqlite.specs.Store.{rows_in};
 
+use crate::ahead::Ahead;
 use crate::commit::commit_all;
-use crate::find::find_record;
+use crate::find::look_ahead;
 use crate::form::{is_new, is_ours};
 use crate::ready::make_ready;
 use desk_edge::{Change, KeepFault, Keeper, Key, Record};
@@ -24,12 +25,14 @@ pub struct SqlKeeper<S: Alter> {
     is_ready: bool,
     is_ours: bool,
     faults: u64,
+    ahead: Option<Ahead>,
 }
 
 impl<S: Alter> Model for SqlKeeper<S> {
     ghost use Rattle.std.specs.Prelude.{◌≡◌, false, true};
     ghost use Rattle.sqlite.specs.Held.{state};
     ghost use Rattle.desk_sqlite.specs.Keeping.{Keeping, keeping_code};
+    ghost use Rattle.desk_sqlite.specs.Ahead.{IsAhead};
     ghost use Rattle.desk_sqlite.specs.Store.{Suits};
 
     ghost Value = { Keeping S };
@@ -39,9 +42,10 @@ impl<S: Alter> Model for SqlKeeper<S> {
     ghost view = { λ k. record { connection = k.connection; is_ready = k.is_ready; is_ours = k.is_ours; faults = k.faults } };
 
     // A keeper that is ready is outside a transaction; where the database was found to be a store, it is one as long as the disk is
-    // clean and the connection open.
+    // clean and the connection open, and the records that were read ahead are its own.
     ghost invariant = { λ k. (k.is_ready ≡ true → k.connection.in_transaction ≡ false)
-        × (k.is_ours ≡ true → Suits (state S.Store k.connection)) };
+        × (k.is_ours ≡ true → Suits (state S.Store k.connection))
+        × (k.is_ours ≡ true → IsAhead (state S.Store k.connection) k.ahead) };
 }
 
 impl<S: Alter> SqlKeeper<S> {
@@ -55,6 +59,7 @@ impl<S: Alter> SqlKeeper<S> {
             is_ready: false,
             is_ours: false,
             faults: 0,
+            ahead: None,
         }
     }
 
@@ -67,6 +72,7 @@ impl<S: Alter> SqlKeeper<S> {
             is_ready: _,
             is_ours: _,
             faults: _,
+            ahead: _,
         } = self;
         connection
     }
@@ -103,6 +109,7 @@ impl<S: Alter> SqlKeeper<S> {
     {
         self.is_ready = false;
         self.is_ours = false;
+        self.ahead = None;
         match make_ready(&mut self.connection) {
             Ok(ours) => {
                 self.is_ours = ours;
@@ -171,8 +178,17 @@ impl<S: Alter> Keeper for SqlKeeper<S> {
         if !self.is_ready {
             return Err(self.fault());
         }
-        match find_record(&mut self.connection, alloc, after) {
-            Ok(found) => Ok(found),
+        if let Some(ahead) = self.ahead.take()
+            && let Some((kept, others)) = ahead.next(alloc, after)
+        {
+            self.ahead = others;
+            return Ok(Some(kept));
+        }
+        match look_ahead(&mut self.connection, alloc, after) {
+            Ok((found, others)) => {
+                self.ahead = others;
+                Ok(found)
+            }
             Err(error) => Err(self.refused(error)),
         }
     }
@@ -181,6 +197,7 @@ impl<S: Alter> Keeper for SqlKeeper<S> {
         if !self.is_ready {
             return Err(self.fault());
         }
+        self.ahead = None;
         match commit_all(&mut self.connection, batch) {
             Ok(()) => Ok(()),
             Err(error) => Err(self.refused(error)),

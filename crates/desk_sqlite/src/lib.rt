@@ -1,6 +1,7 @@
 //! Stores of records in SQLite databases, which any tool for SQLite can read.
 #![tactic(auto)]
 
+mod ahead;
 mod change;
 mod commit;
 mod file_keeper;

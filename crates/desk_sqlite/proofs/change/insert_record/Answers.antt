@@ -1,5 +1,5 @@
 use Rattle.sqlite.specs.Held.{state}
-use Rattle.desk_sqlite.proofs.InsideLemmas.{inside_by, insert_leaves}
+use Rattle.desk_sqlite.proofs.InsideLemmas.{inside_by, insert_leaves, refused_spares}
 use Rattle.desk_sqlite.proofs.change.insert_record.Goals as goal
 
 pub returns-clause-inside : goal.returns-clause-inside
@@ -11,3 +11,6 @@ returns-clause-inserted g c =
     let new = state g.S.Store c.execute.new.self.conn.now in
     insert_leaves old new c.args.kind c.args.code.now c.args.body.now c.execute.result c.done_of.result c.done_of.ensures
     (λ clean inside. rw (c.params-to_sql.ensures, c.params-to_sql-2.ensures, c.params-to_sql-3.ensures, c.from.ensures) at (c.execute.ensures.runs clean inside))
+
+pub returns-clause-spares : goal.returns-clause-spares
+returns-clause-spares g c = refused_spares _ _ _ _ 0 c.execute.result c.done_of.result c.done_of.ensures c.execute.ensures.runs

@@ -3,7 +3,7 @@ use Rattle.std.specs.Option.{option_copied}
 use Rattle.std.specs.Ordering.{is_gt}
 use Rattle.desk_edge.specs.Content.{is_past, key_cmp, key_of}
 use Rattle.desk_sqlite.proofs.FindLemmas.{past_gt}
-use Rattle.desk_sqlite.proofs.find.is_past.Goals as goal
+use Rattle.desk_sqlite.proofs.ahead.is_past.Goals as goal
 
 pub returns-in-Some : goal.returns-in-Some
 returns-in-Some c =
