@@ -6,8 +6,8 @@ use Rattle.desk_findings.specs.Articles.{is_article}
 use Rattle.desk_model.specs.Lists.{Lists}
 use Rattle.desk_findings.specs.Rolled.{rolled}
 
--- what a code carries of a substance by itself: an article X, which it holds of it, where the substance is above in the
--- article; all else nothing
+-- what a code carries of a substance by itself: an article all that it holds of the substance, where that is above in it, and
+-- else nothing; what is no article carries nothing by itself
 abbrev pub own_load : Lists → List ℕ → List ℕ → ℕ
 own_load t substance code = if is_article t code && is_above t code substance then content t code substance else 0
 

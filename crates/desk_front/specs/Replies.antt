@@ -88,7 +88,7 @@ unfoldable pub accepted_body : ℕ → ℕ → ℕ → List ℕ
 accepted_body whole met number =
     codes "version " ++ decimal whole ++ codes "\nseen " ++ decimal met ++ codes "\naccepted " ++ decimal number ++ codes "\n"
 
--- the same two numbers, and `refused ..` with the rule's words
+-- `version N` and `seen M` as where an edit is accepted, and `refused ..` with the rule's words
 unfoldable pub refused_body : ℕ → ℕ → RuleFault → List ℕ
 refused_body whole met cause =
     codes "version " ++ decimal whole ++ codes "\nseen " ++ decimal met ++ codes "\nrefused " ++ refusal_words cause ++ codes "\n"

@@ -89,7 +89,7 @@ GoesSo R bytes old new (round.Open used) = (used ≤ length bytes) × IsNotYet (
 GoesSo R bytes old new round.Over = IsOver R bytes old new
 GoesSo R bytes old new round.LinkFault = IsBroken R bytes old new
 
--- the same where nothing waits any more, and what is used was taken out
+-- what came of all bytes that are held, where nothing waits any more and what is used was taken out
 abbrev pub LeavesSo : {A : Type 0} → (A → Message → List ℕ → A → Type 0) → List ℕ → List ℕ → Service A → Service A → Round → Type 0
 LeavesSo R bytes rest old new (round.Open used) = IsNotYet rest × (new.out.waiting ≡ []) × GoesOn R bytes old new rest
 LeavesSo R bytes rest old new round.Over = (new.out.waiting ≡ []) × IsOver R bytes old new

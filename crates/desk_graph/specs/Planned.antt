@@ -76,7 +76,7 @@ pub record IsChange (g : Graph) (change : LineChange) : Type 0 where
   pub by_label : IsByLabel g.labels change.lines
   pub by_user : IsByLabel g.labels change.users
 
--- so is each change that there is
+-- the change, if there is one, is one of this bill
 abbrev pub IsChangeOf : Graph → Option LineChange → Type 0
 IsChangeOf g None = Unit {0}
 IsChangeOf g (Some change) = IsChange g change

@@ -152,7 +152,7 @@ asked_with method pairs taken = if same_method taken.0 method then asked_by [] t
 unfoldable pub route_of : Method → List ℕ → Result Ask HttpFault
 route_of method target = option_map_or (asked_with method (pairs_of (query_of target))) (path_taken (path_of target)) (Err NoRoute)
 
--- a question in it is in range
+-- what is asked is in range: a question is, and an edit or a declaration always
 abbrev pub is_ask_in_range : Ask → Bool
 is_ask_in_range (ask.Question question) = is_question_in_range question
 is_ask_in_range ask.Edit = true

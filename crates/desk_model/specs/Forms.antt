@@ -48,25 +48,25 @@ are_units n = nat_le 1 n && nat_le n UNITS_LIMIT
 abbrev pub is_substance_row : SubstanceRow → Bool
 is_substance_row row = is_code row.code && is_name row.name && is_optional_cas row.cas
 
--- those of a row of table 2, a member of a rule, are, with a factor of at least 1
+-- the values of a row of table 2, a member of a rule, are of their form and in their range, with a factor of at least 1
 abbrev pub is_member_row : MemberRow → Bool
 is_member_row row = is_code row.substance && nat_le 1 row.factor && nat_le row.factor WHOLE_FACTOR
 
--- those of a row of table 3, a material with what it holds and claims, are
+-- the values of a row of table 3, a material with what it holds and claims, are of their form and in their range
 unfoldable pub is_material_row : MaterialRow → Bool
 is_material_row row =
     is_code row.code && is_code row.supplier && is_declaration_number row.number && is_day row.day && is_name row.name
     && is_content row.mass row.substances row.claims && is_content_in_form row.substances row.claims
 
--- those of a row of table 4, a part, are
+-- the values of a row of table 4, a part, are of their form and in their range
 abbrev pub is_part_row : PartRow → Bool
 is_part_row row = is_code row.code && is_name row.name
 
--- those of a row of table 5, a line of the bill of materials, are
+-- the values of a row of table 5, a line of the bill of materials, are of their form and in their range
 abbrev pub is_line_row : LineRow → Bool
 is_line_row row = is_code row.parent && is_code row.child && is_count row.count
 
--- those of a row of table 6, a product, are
+-- the values of a row of table 6, a product, are of their form and in their range
 abbrev pub is_product_row : ProductRow → Bool
 is_product_row row = is_code row.part
 
@@ -79,11 +79,12 @@ are_terms terms =
 unfoldable pub is_exemption_row : ExemptionRow → Bool
 is_exemption_row row = are_terms row.terms && is_name row.application
 
--- those of a row of table 8, a candidate of the list of Article 59 of Regulation (EC) 1907/2006, are
+-- the values of a row of table 8, a candidate of the list of Article 59 of Regulation (EC) 1907/2006, are of their form and in their
+-- range
 abbrev pub is_candidate_row : CandidateRow → Bool
 is_candidate_row row = is_code row.substance && is_day row.day
 
--- those of a row of table 9, a shipment, are
+-- the values of a row of table 9, a shipment, are of their form and in their range
 abbrev pub is_shipment_row : ShipmentRow → Bool
 is_shipment_row row = is_year row.year && is_code row.product && are_units row.units
 

@@ -28,7 +28,7 @@ row_changes (change.PutCandidate row room) = Put (record_of (Candidate row)) ∷
 row_changes (change.PutShipment row room) = Put (record_of (Shipment row)) ∷ []
 row_changes (change.DropShipment year product) = Drop (record { kind = 9; code = pair_code (decimal year) product }) ∷ []
 
--- and for a new edit the record of its ticket is put
+-- the changes of a plan: those of its rows, and for a new edit the record of its ticket is put; none for an edit that is kept
 unfoldable pub plan_changes : TablesPlan → List Change
 plan_changes (plan.Kept number) = []
 plan_changes (plan.New change ticket room) = row_changes change ++ Put (record_of (Ticket ticket)) ∷ []

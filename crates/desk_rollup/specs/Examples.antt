@@ -12,7 +12,7 @@ line_to node count = record { node = node; count = count }
 abbrev pub diamond : List (List BillLine)
 diamond = (line_to 1 2 ∷ line_to 2 3 ∷ []) ∷ (line_to 3 1 ∷ []) ∷ (line_to 3 1 ∷ []) ∷ (line_to 4 1 ∷ []) ∷ [] ∷ []
 
--- the same without the line from node 0 to node 1
+-- the diamond without the line from node 0 to node 1
 abbrev pub cut_diamond : List (List BillLine)
 cut_diamond = (line_to 2 3 ∷ []) ∷ (line_to 3 1 ∷ []) ∷ (line_to 3 1 ∷ []) ∷ (line_to 4 1 ∷ []) ∷ [] ∷ []
 

@@ -22,7 +22,7 @@ StaysLighter = (g : Graph) → IsBill g → (own : ℕ → OwnValues) → (what 
 abbrev pub AreLight : List OwnValues → Type 0
 AreLight owns = (node what : ℕ) → amount_of (own_at owns node).loads what ≤ (own_at owns node).weight
 
--- nor has this one
+-- these own values are of no more of a substance than they weigh
 abbrev pub IsLight : OwnValues → Type 0
 IsLight own = (what : ℕ) → amount_of own.loads what ≤ own.weight
 
@@ -33,7 +33,7 @@ pub record ChangesOne (g new : Graph) (node : ℕ) : Type 0 where
   pub added : (other : ℕ) → length g.labels ≤ other → other < length new.labels → other ≡ node
   pub lines : (other : ℕ) → (other ≡ node → ⊥) → lines_of new.lines other ≡ lines_of g.lines other
 
--- so with new own values of that node the roll-ups may be prepared
+-- where an edit changes one node, the roll-ups may be prepared with new own values of that node
 abbrev pub MayPrepareOne : Type 0
 MayPrepareOne = (g new : Graph) → IsBill g → IsBill new → (kept : Kept) → AreRolledUp g kept → (own : OwnValues) →
     ChangesOne g new own.node → AreLight kept.owns → IsLight own → CanPrepare new (own ∷ []) kept

@@ -21,13 +21,15 @@ each_to (suc n) of = each_to n of ++ of (suc n)
 abbrev pub held : List ℕ → ℕ → SubstanceMass
 held substance mass = record { substance = substance; mass = mass }
 
--- how much cadmium, lead and DEHP material i holds
+-- how much cadmium material i holds
 abbrev pub cadmium : ℕ → SubstanceMass
 cadmium i = held (codes "cadmium") (i * 11 % 130)
 
+-- how much lead material i holds
 abbrev pub lead : ℕ → SubstanceMass
 lead i = held (codes "lead") (i * 37 % 1500)
 
+-- how much DEHP material i holds
 abbrev pub dehp : ℕ → SubstanceMass
 dehp i = held (codes "dehp") (i * 53 % 1400)
 

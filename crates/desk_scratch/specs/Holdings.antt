@@ -17,7 +17,7 @@ pub record Holding : Type 0 where
 abbrev pub holding_of : Lists → SubstanceMass → Holding
 holding_of t held = record { mass = held.mass; members = members_of t held.substance }
 
--- the same of each of the substances
+-- what is held of each of the substances, with what the tables say of it
 abbrev pub holdings_of : Lists → List SubstanceMass → List Holding
 holdings_of t substances = map (holding_of t) substances
 

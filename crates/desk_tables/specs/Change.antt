@@ -29,7 +29,7 @@ changed t (change.DropShipment year product) = record t { shipments = without_ro
 abbrev pub held : {R : Type 0} → List R → ℕ → Held R
 held rows room = record { rows = rows; room = room }
 
--- what the change puts in has room at these tables as they stand, and many rows stand in order
+-- what the change puts in has room at these tables as they stand, and where it puts in several rows, they stand in order
 unfoldable pub IsReady : Desk → RowChange → Type 0
 IsReady desk (change.PutSubstance row room) = IsRoomFor 1 (held desk.lists.substances desk.rooms.substances) room
 IsReady desk (change.PutMember row room) = IsRoomFor 1 (held desk.lists.members desk.rooms.members) room

@@ -68,7 +68,7 @@ check_with None kind = None
 abbrev pub check_of : (Word → Option Word) → Option KindOnDay
 check_of text = check_with (read_by askable_day_of (text (codes "DAY"))) (read_by kind_of (text (codes "KIND")))
 
--- a store that may be missing
+-- the session over a store, or without one where no name is given
 abbrev pub session_with : Option Word → Option Session
 session_with None = Some (record { store = None })
 session_with (Some name) = option_map (λ name. record { store = Some name }) (store_name_of name)
