@@ -23,10 +23,19 @@ use std::sync::Wait;
 
 /// The one writer over a store: the tables, and the store that keeps them. The tables are sound, and where the store tells what it
 /// keeps, that is the tables.
-#[derive(Drop)]
 pub struct Clerk<K: Keeper> {
     tables: Tables,
     keeper: K,
+}
+
+// Written out, so that a function that owns one does not prove anew how each part is dropped.
+impl<K: Keeper + Drop> Drop for Clerk<K> {
+    fn drop(self) {
+        let Clerk {
+            tables: _,
+            keeper: _,
+        } = self;
+    }
 }
 
 impl<K: Keeper> Model for Clerk<K> {
@@ -140,6 +149,7 @@ impl<K: Keeper> Clerk<K> {
         ensures keeper { result ≡ keeper_of self }
         ensures kept { K.Tells result → IsSame (tables_content (whole self)) (K.content result) }
     {
-        self.keeper
+        let Clerk { tables: _, keeper } = self;
+        keeper
     }
 }

@@ -48,7 +48,7 @@ fn rows_of(alloc: Global, records: Vec<Record>) -> Result<Vec<Row>, OpenFault>
         → Any (λ kept. (kept.kind ≡ kind) × (kept.code ≡ code) × IsOfNoRow kept) records.items }
     ensures no_fault { result ≢ Err OpenFault.KeeperFault }
 {
-    let mut rows = Vec::new(alloc);
+    let mut rows = Vec::with_capacity(alloc, records.len())?;
     for kept in records {
         let row = row_of(alloc, kept)?;
         rows.reserve(1)?;

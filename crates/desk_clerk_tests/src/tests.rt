@@ -1,13 +1,21 @@
-use desk_clerk::{Clerk, OpenFault, SubmitFault};
+use desk_clerk::{Accepted, Clerk, OpenFault, OpenRefused, SubmitFault};
 use desk_edge::{Change, Keeper, MapKeeper, Record};
 use desk_fields::read_edit_text;
+use desk_model::Edit;
+use desk_testing::{check, expect_eq};
 use desk_text::{Bytes, OutOfMemory};
 use std::alloc::Global;
+use std::fmt::Debug;
 use std::sync::Wait;
 use std::test::Fail;
 
+// The steps are written for any keeper, and take it, so that the proof of a test doesn't carry what a keeper is made of.
+
 /// A kind, a code, and a body with its fields set apart by `|` here.
 type Told = (u8, &'static str, &'static str);
+
+/// The number that an edit gets, the code of its ticket, and its text with its fields set apart by `|` here.
+type Sent = (u64, &'static str, &'static str);
 
 /// Records of no sound tables, and the key that is told.
 const DAMAGED: &[(&[Told], (u8, &str))] = &[
@@ -46,8 +54,8 @@ const REORDERED: [Told; 10] = [
     (9, "2024/A", "1|5"),
 ];
 
-/// The edits of an ordinary desk: the number that each gets, the code of its ticket, and its text.
-const EDITS: &[(u64, &str, &str)] = &[
+/// The edits of an ordinary desk.
+const EDITS: &[Sent] = &[
     (1, "E:t1", "substance|lead-oxide|Lead oxide|1317-36-8"),
     (2, "E:t2", "member|lead-oxide|lead|928320"),
     (
@@ -77,6 +85,7 @@ const EDITS: &[(u64, &str, &str)] = &[
     (19, "E:t18", "unship|GATEWAY|2023|5"),
 ];
 
+/// The text with TAB for each `|`.
 fn bytes(alloc: Global, text: &str) -> Result<Bytes, OutOfMemory> {
     let mut bytes = Bytes::start(alloc);
     for &byte in text.as_bytes() {
@@ -95,8 +104,9 @@ fn put(alloc: Global, told: Told) -> Result<Change, OutOfMemory> {
     }))
 }
 
-/// A store of these records, which were put in by its first call.
-fn store(alloc: Global, records: &[Told], failing: Vec<u64>) -> Result<MapKeeper, Fail> {
+/// A store of these records, which were put in by its first call, and whose calls of these numbers fail.
+fn store(alloc: Global, records: &[Told], failing: &[u64]) -> Result<MapKeeper, Fail> {
+    let failing = failing.to_vec(alloc)?;
     let mut keeper = MapKeeper::new(Vec::new(alloc), failing);
     let mut batch = Vec::new(alloc);
     for &told in records {
@@ -106,35 +116,38 @@ fn store(alloc: Global, records: &[Told], failing: Vec<u64>) -> Result<MapKeeper
     Ok(keeper)
 }
 
-/// Whether a store of these records is told as damaged by this key.
+/// What the opening of the keeper's desk answers. It has no clause, so that the proof of a step doesn't carry what the desk is.
+fn open<R: Wait + Sync, K: Keeper + Drop>(
+    rt: &R,
+    alloc: Global,
+    keeper: K,
+) -> Result<Clerk<K>, OpenRefused<K>> {
+    Clerk::open(rt, alloc, keeper)
+}
+
+/// Whether a desk isn't opened, and damage is told by this key.
+fn tells_damage<K: Keeper>(answer: &Result<Clerk<K>, OpenRefused<K>>, key: (u8, &str)) -> bool {
+    match answer {
+        Err(
+            OpenRefused {
+                fault: OpenFault::Damaged { kind, code },
+                keeper: _,
+            },
+        ) => *kind == key.0 && code.as_slice() == key.1.as_bytes(),
+        _ => false,
+    }
+}
+
+/// Fails unless a store of these records is told as damaged by this key.
 fn is_damaged_at<R: Wait + Sync>(
     rt: &R,
     alloc: Global,
     records: &[Told],
     key: (u8, &str),
-) -> Result<bool, Fail> {
-    let keeper = store(alloc, records, Vec::new(alloc))?;
-    let Some(refused) = refusal(rt, alloc, keeper) else {
-        return Ok(false);
-    };
-    match &refused.0 {
-        OpenFault::Damaged { kind, code } => {
-            Ok(*kind == key.0 && code.as_slice() == key.1.as_bytes())
-        }
-        _ => Ok(false),
-    }
-}
-
-/// Why the keeper's desk isn't opened, and the keeper.
-fn refusal<R: Wait + Sync, K: Keeper + Drop>(
-    rt: &R,
-    alloc: Global,
-    keeper: K,
-) -> Option<(OpenFault, K)> {
-    match Clerk::open(rt, alloc, keeper) {
-        Ok(_) => None,
-        Err(refused) => Some((refused.fault, refused.keeper)),
-    }
+) -> Result<(), Fail> {
+    let keeper = store(alloc, records, &[])?;
+    let tells = tells_damage(&open(rt, alloc, keeper), key);
+    expect_eq(&(key, tells), &(key, true))
 }
 
 /// Fails at the first store of these records that isn't told as damaged by its key.
@@ -144,9 +157,7 @@ fn are_damaged<R: Wait + Sync>(
     rows: &[(&[Told], (u8, &str))],
 ) -> Result<(), Fail> {
     for &(records, key) in rows {
-        if !is_damaged_at(rt, alloc, records, key)? {
-            return Err(Fail::new(format_args!("of {} {}", key.0, key.1)));
-        }
+        is_damaged_at(rt, alloc, records, key)?;
     }
     Ok(())
 }
@@ -156,117 +167,115 @@ fn a_damaged_store_is_told_by_a_key(rt: HostRuntime) -> Result<(), Fail> {
     are_damaged(&rt, rt.alloc(), DAMAGED)
 }
 
-/// A clerk over this store.
-fn opened<R: Wait + Sync, K: Keeper + Drop>(
-    rt: &R,
-    alloc: Global,
-    keeper: K,
-) -> Result<Clerk<K>, Fail> {
-    match Clerk::open(rt, alloc, keeper) {
-        Ok(clerk) => Ok(clerk),
-        Err(_) => Err(Fail::new("not opened")),
+/// The count of the first line of the clerk's desk.
+fn first_count<K: Keeper>(clerk: &Clerk<K>) -> Option<u32> {
+    match clerk.tables().lines().first() {
+        Some(line) => Some(line.count),
+        None => None,
     }
 }
 
-/// The count of the first line of the keeper's desk.
-fn first_count<R: Wait + Sync, K: Keeper + Drop>(
+/// Fails unless the first line of the keeper's desk has this count.
+fn counts_first<R: Wait + Sync, K: Keeper + Drop + Debug>(
     rt: &R,
     alloc: Global,
     keeper: K,
-) -> Result<Option<u32>, Fail> {
-    let clerk = opened(rt, alloc, keeper)?;
-    match clerk.tables().lines().first() {
-        Some(line) => Ok(Some(line.count)),
-        None => Ok(None),
-    }
+    count: u32,
+) -> Result<(), Fail> {
+    let clerk = open(rt, alloc, keeper)?;
+    expect_eq(&first_count(&clerk), &Some(count))
 }
 
 #[test]
 fn a_store_in_another_order_is_opened(rt: HostRuntime) -> Result<(), Fail> {
-    let keeper = store(rt.alloc(), &REORDERED, Vec::new(rt.alloc()))?;
-    assert_eq!(rt; first_count(&rt, rt.alloc(), keeper)?, Some(1));
-    Ok(())
+    let keeper = store(rt.alloc(), &REORDERED, &[])?;
+    counts_first(&rt, rt.alloc(), keeper, 1)
 }
 
-/// The number that the edit gets, or none where the keeper failed.
-fn submitted<R: Wait + Sync, K: Keeper>(
-    rt: &R,
-    alloc: Global,
-    clerk: &mut Clerk<K>,
-    code: &str,
-    text: &str,
-) -> Result<Option<u64>, Fail> {
-    let text = bytes(alloc, text)?;
-    let edit = read_edit_text(alloc, code.as_bytes(), text.as_slice())?;
-    match clerk.submit(rt, alloc, edit) {
-        Ok(accepted) => Ok(Some(accepted.number)),
-        Err(SubmitFault::KeeperFault) => Ok(None),
-        Err(_) => Err(Fail::new("refused")),
+/// The edit of this text.
+fn edit_of(alloc: Global, sent: &Sent) -> Result<Edit, Fail> {
+    let text = bytes(alloc, sent.2)?;
+    Ok(read_edit_text(alloc, sent.1.as_bytes(), text.as_slice())?)
+}
+
+/// Whether an edit got this number, or none as the keeper failed.
+fn is_answer(answer: &Result<Accepted, SubmitFault>, number: Option<u64>) -> bool {
+    match answer {
+        Ok(accepted) => number == Some(accepted.number),
+        Err(SubmitFault::KeeperFault) => number.is_none(),
+        Err(_) => false,
     }
 }
 
-/// Whether each edit gets its number.
-fn are_numbered<R: Wait + Sync, K: Keeper>(
+/// Fails unless the edit gets this number, or none as the keeper fails.
+fn gets<R: Wait + Sync, K: Keeper>(
     rt: &R,
     alloc: Global,
     clerk: &mut Clerk<K>,
-) -> Result<bool, Fail> {
-    for &(number, code, text) in EDITS {
-        if submitted(rt, alloc, clerk, code, text)? != Some(number) {
-            return Ok(false);
-        }
-    }
-    Ok(true)
+    sent: &Sent,
+    number: Option<u64>,
+) -> Result<(), Fail> {
+    let edit = edit_of(alloc, sent)?;
+    let gets = is_answer(&clerk.submit(rt, alloc, edit), number);
+    check(gets, "an edit gets another answer")
 }
 
-/// Whether each edit fails at first, without being entered, and gets its number when it is sent again.
-fn are_entered_once<R: Wait + Sync, K: Keeper>(
+/// Fails unless the edit gets its number. Where it is to fail, it fails first, without being entered, and is sent again.
+fn is_entered<R: Wait + Sync, K: Keeper>(
     rt: &R,
     alloc: Global,
     clerk: &mut Clerk<K>,
-) -> Result<bool, Fail> {
-    for &(number, code, text) in EDITS {
-        let failed = submitted(rt, alloc, clerk, code, text)?.is_none();
-        if !failed || clerk.number() >= number {
-            return Ok(false);
-        }
-        if submitted(rt, alloc, clerk, code, text)? != Some(number) {
-            return Ok(false);
-        }
+    sent: &Sent,
+    fails: bool,
+) -> Result<(), Fail> {
+    if fails {
+        gets(rt, alloc, clerk, sent, None)?;
+        check(clerk.number() < sent.0, "an edit that failed is entered")?;
     }
-    Ok(true)
+    gets(rt, alloc, clerk, sent, Some(sent.0))
 }
 
-/// The keeper where each edit got its number once it was kept, and the same number after the store was closed and opened
-/// again.
-fn kept_after_faults<R: Wait + Sync, K: Keeper + Drop>(
+/// Fails unless each edit gets its number, of which the last is 19. Where they are to fail, each fails first and is sent again.
+fn are_entered<R: Wait + Sync, K: Keeper>(
+    rt: &R,
+    alloc: Global,
+    clerk: &mut Clerk<K>,
+    fails: bool,
+) -> Result<(), Fail> {
+    for sent in EDITS {
+        is_entered(rt, alloc, clerk, sent, fails)?;
+    }
+    expect_eq(&clerk.number(), &19)
+}
+
+/// The keeper of a desk where each edit gets its number. Where they are to fail, each fails first and is sent again.
+fn kept<R: Wait + Sync, K: Keeper + Drop + Debug>(
     rt: &R,
     alloc: Global,
     keeper: K,
-) -> Result<Option<K>, Fail> {
-    let mut clerk = opened(rt, alloc, keeper)?;
-    if !are_entered_once(rt, alloc, &mut clerk)? {
-        return Ok(None);
-    }
-    let kept = clerk.close(rt);
-    let mut again = opened(rt, alloc, kept)?;
-    if !are_numbered(rt, alloc, &mut again)? || again.number() != 19 {
-        return Ok(None);
-    }
-    Ok(Some(again.close(rt)))
+    fails: bool,
+) -> Result<K, Fail> {
+    let mut clerk = open(rt, alloc, keeper)?;
+    are_entered(rt, alloc, &mut clerk, fails)?;
+    Ok(clerk.close(rt))
 }
 
-/// How many records a store has at each edit of which the keeper failed once. The first two calls open it.
-fn records_after_faults<R: Wait + Sync>(rt: &R, alloc: Global) -> Result<Option<usize>, Fail> {
-    let mut failing = Vec::new(alloc);
-    for call in (3..41).step_by(2) {
-        failing.push(call)?;
-    }
-    let keeper = MapKeeper::new(Vec::new(alloc), failing);
-    match kept_after_faults(rt, alloc, keeper)? {
-        Some(kept) => Ok(Some(kept.records().len())),
-        None => Ok(None),
-    }
+/// The calls that fail, one at each edit. The first two open the store.
+const FAILING: [u64; 19] = [
+    3, 5, 7, 9, 11, 13, 15, 17, 19, 21, 23, 25, 27, 29, 31, 33, 35, 37, 39,
+];
+
+/// The store where each edit got its number once it was kept, and the same number after the store was closed and opened again.
+fn kept_after_faults<R: Wait + Sync>(rt: &R, alloc: Global) -> Result<MapKeeper, Fail> {
+    let keeper = MapKeeper::new(Vec::new(alloc), FAILING.to_vec(alloc)?);
+    let once = kept(rt, alloc, keeper, true)?;
+    kept(rt, alloc, once, false)
+}
+
+/// Fails unless a store has so many records at each edit of which the keeper failed once.
+fn keeps_after_faults<R: Wait + Sync>(rt: &R, alloc: Global, records: usize) -> Result<(), Fail> {
+    let kept = kept_after_faults(rt, alloc)?;
+    expect_eq(&kept.records().len(), &records)
 }
 
 #[test]
@@ -274,35 +283,43 @@ fn an_edit_whose_commit_fails_leaves_no_trace_and_is_kept_then(
     rt: HostRuntime,
 ) -> Result<(), Fail> {
     // Twenty of the start tables, nineteen tickets, and the eighteen rows that the edits leave.
-    assert_eq!(rt; records_after_faults(&rt, rt.alloc())?, Some(57));
-    Ok(())
+    keeps_after_faults(&rt, rt.alloc(), 57)
 }
 
-/// Whether the opening of a store of two records fails at its call of this number, and leaves the records.
-fn fails_at<R: Wait + Sync>(rt: &R, alloc: Global, call: u64) -> Result<bool, Fail> {
-    let records = [(4, "A", "1|assembly|Frame"), (4, "B", "1|assembly|Cover")];
-    let failing = Vec::from_array(alloc, [call])?;
-    match refusal(rt, alloc, store(alloc, &records, failing)?) {
-        Some((OpenFault::KeeperFault, keeper)) => {
-            Ok(keeper.faults() == 1 && keeper.records().len() == 2)
-        }
-        _ => Ok(false),
+/// Whether the keeper failed at the opening, once, and has two records.
+fn is_left(answer: &Result<Clerk<MapKeeper>, OpenRefused<MapKeeper>>) -> bool {
+    match answer {
+        Err(
+            OpenRefused {
+                fault: OpenFault::KeeperFault,
+                keeper,
+            },
+        ) => keeper.faults() == 1 && keeper.records().len() == 2,
+        _ => false,
     }
 }
 
-/// The first call of an opening up to one past its last that fails otherwise than it should.
-fn first_wrong_call<R: Wait + Sync>(rt: &R, alloc: Global) -> Result<Option<u64>, Fail> {
+/// Two records that can be kept.
+const TWO: [Told; 2] = [(4, "A", "1|assembly|Frame"), (4, "B", "1|assembly|Cover")];
+
+/// Fails unless an opening of a store of two records, whose call of this number fails, is refused for it and leaves the records, or
+/// isn't where it is not to fail.
+fn fails_at<R: Wait + Sync>(rt: &R, alloc: Global, call: u64, fails: bool) -> Result<(), Fail> {
+    let keeper = store(alloc, &TWO, &[call])?;
+    let is_left = is_left(&open(rt, alloc, keeper));
+    expect_eq(&(call, is_left), &(call, fails))
+}
+
+/// Fails at the first call of an opening, up to one past its last, that fails otherwise than it should.
+fn fails_at_each<R: Wait + Sync>(rt: &R, alloc: Global) -> Result<(), Fail> {
     // The first call puts the records in. The opening takes three: a call for each record, and one that finds no more.
     for call in 2..6 {
-        if fails_at(rt, alloc, call)? != (call < 5) {
-            return Ok(Some(call));
-        }
+        fails_at(rt, alloc, call, call < 5)?;
     }
-    Ok(None)
+    Ok(())
 }
 
 #[test]
 fn an_opening_fails_at_each_of_its_calls(rt: HostRuntime) -> Result<(), Fail> {
-    assert_eq!(rt; first_wrong_call(&rt, rt.alloc())?, None);
-    Ok(())
+    fails_at_each(&rt, rt.alloc())
 }

@@ -1,13 +1,13 @@
+ghost use Rattle.std.specs.Prelude.{◌≡◌, ℕ, List, false};
+ghost use Rattle.desk_edge.specs.Shelves.{is_lent};
+
 use desk_edge::{Change, KeepFault, Keeper, Key, MapKeeper, MapShelf, Record, Shelf};
+use desk_testing::{bytes, check, expect_eq};
 use desk_text::{Bytes, OutOfMemory};
 use std::alloc::Global;
 use std::test::Fail;
 
-fn bytes(alloc: Global, text: &str) -> Result<Bytes, OutOfMemory> {
-    let mut bytes = Bytes::start(alloc);
-    bytes.push_all(text.as_bytes())?;
-    Ok(bytes)
-}
+// The steps are written for any keeper, and take it, so that the proof of a test doesn't carry what a keeper is made of.
 
 fn key(alloc: Global, kind: u8, code: &str) -> Result<Key, OutOfMemory> {
     let code = bytes(alloc, code)?;
@@ -20,22 +20,35 @@ fn put(alloc: Global, kind: u8, code: &str, body: &str) -> Result<Change, OutOfM
     Ok(Change::Put(Record { kind, code, body }))
 }
 
-/// A keeper of `2 a`, `1 b` and `1 a`, put in in this order.
+/// Records in this order, each put in by a change of one batch.
+const THREE: [(u8, &str, &str); 3] = [(2, "a", "two"), (1, "b", "second"), (1, "a", "first")];
+
+/// The changes that put these records in.
+fn batch(alloc: Global, rows: &[(u8, &str, &str)]) -> Result<Vec<Change>, OutOfMemory> {
+    let mut batch = Vec::new(alloc);
+    for (kind, code, body) in rows {
+        batch.push(put(alloc, *kind, code, body)?)?;
+    }
+    Ok(batch)
+}
+
+/// Puts the three records in.
+fn put_three<K: Keeper>(keeper: &mut K, alloc: Global) -> Result<(), KeepFault> {
+    let changes = batch(alloc, &THREE)?;
+    keeper.commit(alloc, changes.as_slice())
+}
+
+/// A keeper of the three records, whose calls of these numbers fail. The call that put them in was the first.
 fn three_records(alloc: Global, failing: Vec<u64>) -> Result<MapKeeper, KeepFault> {
     let mut keeper = MapKeeper::new(Vec::new(alloc), failing);
-    let batch = [
-        put(alloc, 2, "a", "two")?,
-        put(alloc, 1, "b", "second")?,
-        put(alloc, 1, "a", "first")?,
-    ];
-    keeper.commit(alloc, &batch)?;
+    put_three(&mut keeper, alloc)?;
     Ok(keeper)
 }
 
 /// The body of the first record past the key.
-fn body_past(
+fn body_past<K: Keeper>(
+    keeper: &mut K,
     alloc: Global,
-    keeper: &mut MapKeeper,
     after: Option<&Key>,
 ) -> Result<Option<Bytes>, KeepFault> {
     match keeper.next_record(alloc, after)? {
@@ -44,49 +57,96 @@ fn body_past(
     }
 }
 
-#[test]
-fn records_are_given_in_the_order_of_kind_and_code(rt: HostRuntime) -> Result<(), Fail> {
-    let alloc = rt.alloc();
-    let mut keeper = three_records(alloc, Vec::new(alloc))?;
-    let first = body_past(alloc, &mut keeper, None)?;
-    assert_eq!(rt; first, Some(bytes(alloc, "first")?));
-    for (kind, code, body) in [
-        (1, "a", Some("second")),
-        (1, "bb", Some("two")),
-        (2, "a", None),
-    ] {
-        let found = body_past(alloc, &mut keeper, Some(&key(alloc, kind, code)?))?;
-        let found = found.as_ref().map(|found| found.as_slice());
-        assert_eq!(rt;
-            found,
-            body.map(|body| body.as_bytes()),
-            "past {kind} {code}"
-        );
+/// Fails unless the first record past the key, or of all, has this body, or there is none where there is no body.
+fn gives<K: Keeper>(
+    keeper: &mut K,
+    alloc: Global,
+    after: Option<&Key>,
+    body: Option<&str>,
+) -> Result<(), Fail> {
+    let found = body_past(keeper, alloc, after)?;
+    let found = found.as_ref().map(|found| found.as_slice());
+    expect_eq(&(after, found), &(after, body.map(|body| body.as_bytes())))
+}
+
+/// The kind and the code of a key, and the body of the first record past it, if there is one.
+type Past = (u8, &'static str, Option<&'static str>);
+
+const PAST: [Past; 3] = [
+    (1, "a", Some("second")),
+    (1, "bb", Some("two")),
+    (2, "a", None),
+];
+
+/// Fails unless the first record past this key has this body, or there is none where there is no body.
+fn gives_past<K: Keeper>(keeper: &mut K, alloc: Global, past: &Past) -> Result<(), Fail> {
+    let (kind, code, body) = *past;
+    let after = key(alloc, kind, code)?;
+    gives(keeper, alloc, Some(&after), body)
+}
+
+/// Fails unless the three records are given in the order of their kinds and codes.
+fn gives_in_order<K: Keeper>(keeper: &mut K, alloc: Global) -> Result<(), Fail> {
+    gives(keeper, alloc, None, Some("first"))?;
+    for past in &PAST {
+        gives_past(keeper, alloc, past)?;
     }
     Ok(())
 }
 
 #[test]
-fn a_failing_call_is_counted_and_changes_nothing(rt: HostRuntime) -> Result<(), Fail> {
-    let alloc = rt.alloc();
-    let mut keeper = three_records(alloc, [2, 3].to_vec(alloc)?)?;
+fn records_are_given_in_the_order_of_kind_and_code(rt: HostRuntime) -> Result<(), Fail> {
+    let mut keeper = three_records(rt.alloc(), Vec::new(rt.alloc()))?;
+    gives_in_order(&mut keeper, rt.alloc())
+}
+
+/// Fails unless a change is refused, and then a record.
+fn fails_twice<K: Keeper>(keeper: &mut K, alloc: Global) -> Result<(), Fail> {
     let batch = [Change::Drop(key(alloc, 1, "a")?)];
-    assert_eq!(rt; keeper.commit(alloc, &batch), Err(KeepFault::Failed));
-    assert_eq!(rt; body_past(alloc, &mut keeper, None), Err(KeepFault::Failed));
-    assert_eq!(rt; keeper.faults(), 2);
-    assert_eq!(rt; keeper.records().len(), 3);
-    Ok(())
+    expect_eq(&keeper.commit(alloc, &batch), &Err(KeepFault::Failed))?;
+    expect_eq(&body_past(keeper, alloc, None), &Err(KeepFault::Failed))
+}
+
+#[test]
+fn a_failing_call_is_counted_and_changes_nothing(rt: HostRuntime) -> Result<(), Fail> {
+    let mut keeper = three_records(rt.alloc(), [2, 3].to_vec(rt.alloc())?)?;
+    fails_twice(&mut keeper, rt.alloc())?;
+    expect_eq(&(keeper.faults(), keeper.records().len()), &(2, 3))
+}
+
+/// Whether the shelf opens the store of this name. What was lent stays so.
+fn opens(shelf: &mut MapShelf, alloc: Global, name: &[u8]) -> bool
+    ensures { (other : List ℕ) → is_lent shelf.new other ≡ false → is_lent shelf.old other ≡ false }
+{
+    shelf.open_store(alloc, name).is_ok()
+}
+
+/// Fails unless the next two openings are refused, of the store that is open and of another one, and both are counted.
+fn refuses_two(shelf: &mut MapShelf, alloc: Global) -> Result<(), Fail>
+    ensures { (other : List ℕ) → is_lent shelf.new other ≡ false → is_lent shelf.old other ≡ false }
+{
+    check(
+        !opens(shelf, alloc, b"desk"),
+        "an open store is opened again",
+    )?;
+    check(
+        !opens(shelf, alloc, b"other"),
+        "the third opening does not fail",
+    )?;
+    expect_eq(&shelf.faults(), &2)
+}
+
+/// Fails unless a store is refused while it is open, and is opened once it is closed.
+fn opens_once(shelf: &mut MapShelf, alloc: Global) -> Result<(), Fail> {
+    let store = shelf.open_store(alloc, b"desk")?;
+    refuses_two(shelf, alloc)?;
+    shelf.close_store(b"desk", store);
+    check(opens(shelf, alloc, b"desk"), "a closed store is not opened")
 }
 
 #[test]
 fn a_store_that_is_open_is_not_opened_again(rt: HostRuntime) -> Result<(), Fail> {
-    let alloc = rt.alloc();
-    let mut shelf = MapShelf::new(alloc, Vec::new(alloc), [3].to_vec(alloc)?);
-    let store = shelf.open_store(alloc, b"desk")?;
-    assert!(rt; shelf.open_store(alloc, b"desk").is_err());
-    assert!(rt; shelf.open_store(alloc, b"other").is_err());
-    assert_eq!(rt; shelf.faults(), 2);
-    shelf.close_store(b"desk", store);
-    assert!(rt; shelf.open_store(alloc, b"desk").is_ok());
-    Ok(())
+    let failing = [3].to_vec(rt.alloc())?;
+    let mut shelf = MapShelf::new(rt.alloc(), Vec::new(rt.alloc()), failing);
+    opens_once(&mut shelf, rt.alloc())
 }

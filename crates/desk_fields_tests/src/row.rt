@@ -1,6 +1,8 @@
-use crate::tests::{check, tabbed};
+use crate::tests::{check_row, is_in_words, tabbed};
 use desk_fields::{RowFault, read_row, row_body, row_code};
-use desk_text::Bytes;
+use desk_model::Row;
+use desk_testing::{bytes, check};
+use desk_text::{Bytes, OutOfMemory};
 use std::alloc::{AllocError, Global};
 use std::test::Fail;
 
@@ -96,27 +98,52 @@ const OTHERS: [Record; 43] = [
     (10, "F:t", "1|1|unexempt|R"),
 ];
 
+/// Appends the code of the row, a `|` and its text.
+fn write_row(row: &Row, out: &mut Bytes) -> Result<(), OutOfMemory> {
+    row_code(row, out)?;
+    out.push_all(b"|")?;
+    row_body(row, out)
+}
+
+/// The code, a `|` and the text.
+fn joined(alloc: Global, code: &str, text: &[u8]) -> Result<Bytes, OutOfMemory> {
+    let mut joined = bytes(alloc, code)?;
+    joined.push_all(b"|")?;
+    joined.push_all(text)?;
+    Ok(joined)
+}
+
+/// Whether the row is written like this.
+fn is_written(alloc: Global, row: &Row, wanted: &[u8]) -> Result<bool, OutOfMemory> {
+    let mut written = Bytes::start(alloc);
+    write_row(row, &mut written)?;
+    Ok(written.as_slice() == wanted)
+}
+
+/// Whether the row is written with this code and this text.
+fn has_text(alloc: Global, row: &Row, code: &str, text: &[u8]) -> Result<bool, Fail> {
+    let wanted = joined(alloc, code, text)?;
+    Ok(is_written(alloc, row, wanted.as_slice())?)
+}
+
 /// Whether the row that is read is written as it was.
 fn is_kept(alloc: Global, table: u8, code: &str, text: &[u8]) -> Result<bool, Fail> {
     let row = read_row(alloc, table, code.as_bytes(), text)?;
-    let mut told = Bytes::start(alloc);
-    row_code(&row, &mut told)?;
-    told.push_all(b"|")?;
-    row_body(&row, &mut told)?;
-    drop(row);
-    let mut kept = code.as_bytes().to_vec(alloc)?;
-    kept.push(b'|')?;
-    kept.extend_from_slice(text)?;
-    Ok(told.as_slice() == kept.as_slice())
+    has_text(alloc, &row, code, text)
 }
 
-/// A failure unless each row is written as it was read.
-fn are_kept(alloc: Global, rows: &[Record]) -> Result<(), Fail> {
-    for (table, code, fields) in rows {
-        let text = tabbed(alloc, fields)?;
-        if !is_kept(alloc, *table, code, &text)? {
-            return Err(Fail::new(format_args!("of {code} {fields}")));
-        }
+/// Fails unless the row is written as it was read, and says which it is.
+fn is_record_kept(alloc: Global, record: &Record) -> Result<(), Fail> {
+    let (table, code, fields) = *record;
+    let text = tabbed(alloc, fields)?;
+    let is_kept = is_kept(alloc, table, code, &text)?;
+    check_row(is_kept, code, fields)
+}
+
+/// Fails unless each row is written as it was read.
+fn are_kept(alloc: Global, records: &[Record]) -> Result<(), Fail> {
+    for record in records {
+        is_record_kept(alloc, record)?;
     }
     Ok(())
 }
@@ -126,21 +153,26 @@ fn each_row_is_read_and_written(rt: HostRuntime) -> Result<(), Fail> {
     are_kept(rt.alloc(), &ROWS)
 }
 
-/// A failure unless the text of a table's row has this fault.
-fn is_refused(alloc: Global, row: Record, wanted: RowFault) -> Result<(), Fail> {
-    let (table, code, fields) = row;
+/// The fault of the text of a table's row, if it has one.
+fn fault_of(alloc: Global, record: &Record) -> Result<Option<RowFault>, AllocError> {
+    let (table, code, fields) = *record;
     let text = tabbed(alloc, fields)?;
-    let fault = read_row(alloc, table, code.as_bytes(), &text).err();
+    Ok(read_row(alloc, table, code.as_bytes(), &text).err())
+}
+
+/// Fails unless the text of a table's row has this fault, and says which it has.
+fn is_refused(alloc: Global, record: &Record, wanted: RowFault) -> Result<(), Fail> {
+    let fault = fault_of(alloc, record)?;
     if fault == Some(wanted) {
         return Ok(());
     }
-    Err(Fail::new(format_args!("{fault:?} of {table} {code} {fields}")))
+    Err(Fail::new(format_args!("{fault:?} of {record:?}")))
 }
 
-/// A failure unless no row has these texts.
+/// Fails unless no row has these texts.
 fn are_refused(alloc: Global, rows: &[Record]) -> Result<(), Fail> {
     for row in rows {
-        is_refused(alloc, *row, RowFault::Shape)?;
+        is_refused(alloc, row, RowFault::Shape)?;
     }
     Ok(())
 }
@@ -150,11 +182,11 @@ fn what_no_row_spells_is_refused(rt: HostRuntime) -> Result<(), Fail> {
     are_refused(rt.alloc(), &OTHERS)
 }
 
-/// A failure unless these texts are of another version in each of these tables.
+/// Fails unless these texts are of another version in each of these tables.
 fn are_other_versions(alloc: Global, texts: &[&'static str], tables: &[u8]) -> Result<(), Fail> {
     for fields in texts {
         for table in tables {
-            is_refused(alloc, (*table, "lead", *fields), RowFault::Version)?;
+            is_refused(alloc, &(*table, "lead", *fields), RowFault::Version)?;
         }
     }
     Ok(())
@@ -169,18 +201,30 @@ fn another_version_is_told_first(rt: HostRuntime) -> Result<(), Fail> {
     )
 }
 
-/// The text of a material with 64 substances and 16 claims.
-fn fullest_material(alloc: Global) -> Result<Vec<u8>, AllocError> {
-    let mut text = b"1\tACME\t7\t2024-01-23\tSolder\t1000000000000000\t64".to_vec(alloc)?;
+/// Appends the substances of a material.
+fn push_substances(alloc: Global, text: &mut Vec<u8>) -> Result<(), AllocError> {
     for number in 10..74 {
         let fields = format!(in alloc; "\tS{number}\t1000000000000000")?;
         text.extend_from_slice(fields.as_bytes())?;
     }
-    text.extend_from_slice(b"\t16")?;
+    Ok(())
+}
+
+/// Appends the claims of a material.
+fn push_claims(alloc: Global, text: &mut Vec<u8>) -> Result<(), AllocError> {
     for number in 10..26 {
         let fields = format!(in alloc; "\tlead\t{number}(a)")?;
         text.extend_from_slice(fields.as_bytes())?;
     }
+    Ok(())
+}
+
+/// The text of a material with 64 substances and 16 claims.
+fn fullest_material(alloc: Global) -> Result<Vec<u8>, AllocError> {
+    let mut text = b"1\tACME\t7\t2024-01-23\tSolder\t1000000000000000\t64".to_vec(alloc)?;
+    push_substances(alloc, &mut text)?;
+    text.extend_from_slice(b"\t16")?;
+    push_claims(alloc, &mut text)?;
     Ok(text)
 }
 
@@ -193,15 +237,7 @@ fn the_fullest_material_is_read(rt: HostRuntime) -> Result<(), Fail> {
 
 #[test]
 fn faults_of_rows_are_told(rt: HostRuntime) -> Result<(), Fail> {
-    let told = format!(in rt.alloc();
-        "{}, {}, {}",
-        RowFault::Version,
-        RowFault::Shape,
-        RowFault::OutOfMemory
-    )?;
-    assert_eq!(rt;
-        told.as_str(),
-        "another version, not the text of a row, out of memory"
-    );
-    Ok(())
+    is_in_words(rt.alloc(), &RowFault::Version, "another version")?;
+    is_in_words(rt.alloc(), &RowFault::Shape, "not the text of a row")?;
+    is_in_words(rt.alloc(), &RowFault::OutOfMemory, "out of memory")
 }

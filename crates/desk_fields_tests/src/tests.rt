@@ -1,7 +1,9 @@
 use desk_fields::{TextFault, is_edit_text, read_edit_text};
 use desk_model::Edit;
-use desk_text::Bytes;
+use desk_testing::{check, expect_eq};
+use desk_text::{Bytes, OutOfMemory};
 use std::alloc::{AllocError, Global};
+use std::fmt::Display;
 use std::test::Fail;
 
 /// Texts of edits, with the fields set apart by `|` here, and the codes of their tickets.
@@ -91,9 +93,18 @@ const OTHERS: [&str; 44] = [
     "declare|A|1|2024-01-23|1|M|m|1000000000000001|0|0",
 ];
 
-/// A failure that says what is wrong, unless it holds.
-pub(crate) fn check(holds: bool, wrong: &'static str) -> Result<(), Fail> {
-    if holds { Ok(()) } else { Err(Fail::new(wrong)) }
+/// Fails, and says of which text under which code, unless it holds.
+pub(crate) fn check_row(holds: bool, code: &str, fields: &str) -> Result<(), Fail> {
+    if holds {
+        return Ok(());
+    }
+    Err(Fail::new(format_args!("of {fields} under {code}")))
+}
+
+/// Fails, and says how it is told, unless the fault is told in these words.
+pub(crate) fn is_in_words<T: Display>(alloc: Global, fault: &T, words: &str) -> Result<(), Fail> {
+    let told = format!(in alloc; "{fault}")?;
+    expect_eq(&told.as_str(), &words)
 }
 
 /// The text with a TAB in the place of each `|`.
@@ -105,26 +116,39 @@ pub(crate) fn tabbed(alloc: Global, fields: &str) -> Result<Vec<u8>, AllocError>
     Ok(text)
 }
 
-/// Whether the edit has this text and this code of a ticket.
-fn is_told(alloc: Global, edit: &Edit, code: &str, text: &[u8]) -> Result<bool, Fail> {
+/// Whether the edit has this text.
+fn has_text(alloc: Global, edit: &Edit, text: &[u8]) -> Result<bool, OutOfMemory> {
     let mut told = Bytes::start(alloc);
     edit.text(&mut told)?;
+    Ok(told.as_slice() == text)
+}
+
+/// Whether the ticket of the edit has this code.
+fn has_ticket(alloc: Global, edit: &Edit, code: &str) -> Result<bool, OutOfMemory> {
     let mut ticket = Bytes::start(alloc);
     edit.ticket_code(&mut ticket)?;
-    Ok(told.as_slice() == text && ticket.as_slice() == code.as_bytes())
+    Ok(ticket.as_slice() == code.as_bytes())
 }
 
-/// A failure unless a text is read as the edit that has it and this ticket, and is told to be an edit's.
+/// Whether the edit has this text and this code of a ticket.
+fn is_told(alloc: Global, edit: &Edit, code: &str, text: &[u8]) -> Result<bool, Fail> {
+    Ok(has_text(alloc, edit, text)? && has_ticket(alloc, edit, code)?)
+}
+
+/// Whether a text is read as the edit that has it and this ticket.
+fn is_kept(alloc: Global, code: &str, text: &[u8]) -> Result<bool, Fail> {
+    let edit = read_edit_text(alloc, code.as_bytes(), text)?;
+    is_told(alloc, &edit, code, text)
+}
+
+/// Fails unless a text is read as the edit that has it and this ticket, and is told to be an edit's.
 fn is_read_back(alloc: Global, code: &str, fields: &str) -> Result<(), Fail> {
     let text = tabbed(alloc, fields)?;
-    let edit = read_edit_text(alloc, code.as_bytes(), &text)?;
-    if is_told(alloc, &edit, code, &text)? && is_edit_text(alloc, &text)? {
-        return Ok(());
-    }
-    Err(Fail::new(format_args!("of {fields}")))
+    let is_right = is_kept(alloc, code, &text)? && is_edit_text(alloc, &text)?;
+    check_row(is_right, code, fields)
 }
 
-/// The same of each text.
+/// Fails unless each text is.
 fn are_read_back(alloc: Global, rows: &[(&str, &str)]) -> Result<(), Fail> {
     for (code, fields) in rows {
         is_read_back(alloc, code, fields)?;
@@ -137,17 +161,19 @@ fn each_word_is_read_back(rt: HostRuntime) -> Result<(), Fail> {
     are_read_back(rt.alloc(), &EDITS)
 }
 
-/// A failure unless a text is no edit's under this code, and is told to be that of an edit, or not to be.
-fn is_refused(alloc: Global, code: &str, fields: &str, is_edit: bool) -> Result<(), Fail> {
-    let text = tabbed(alloc, fields)?;
-    let fault = read_edit_text(alloc, code.as_bytes(), &text).err();
-    if fault == Some(TextFault::NotAnEdit) && is_edit_text(alloc, &text)? == is_edit {
-        return Ok(());
-    }
-    Err(Fail::new(format_args!("of {fields} under {code}")))
+/// Whether a text is refused as no edit's under this code.
+fn is_no_edit(alloc: Global, code: &str, text: &[u8]) -> bool {
+    read_edit_text(alloc, code.as_bytes(), text).err() == Some(TextFault::NotAnEdit)
 }
 
-/// A failure unless each text is no edit's.
+/// Fails unless a text is no edit's under this code, and is told to be that of an edit, or not to be.
+fn is_refused(alloc: Global, code: &str, fields: &str, is_edit: bool) -> Result<(), Fail> {
+    let text = tabbed(alloc, fields)?;
+    let is_right = is_no_edit(alloc, code, &text) && is_edit_text(alloc, &text)? == is_edit;
+    check_row(is_right, code, fields)
+}
+
+/// Fails unless each text is no edit's.
 fn are_no_edits(alloc: Global, texts: &[&str]) -> Result<(), Fail> {
     for fields in texts {
         is_refused(alloc, "E:t", fields, false)?;
@@ -161,7 +187,7 @@ fn what_no_edit_spells_is_refused(rt: HostRuntime) -> Result<(), Fail> {
     are_no_edits(rt.alloc(), &OTHERS)
 }
 
-/// A failure unless each text is an edit's, but not under its code.
+/// Fails unless each text is an edit's, but not under its code.
 fn are_under_other_codes(alloc: Global, rows: &[(&str, &str)]) -> Result<(), Fail> {
     for (code, fields) in rows {
         is_refused(alloc, code, fields, true)?;
@@ -190,14 +216,19 @@ fn a_text_under_another_code_is_still_one(rt: HostRuntime) -> Result<(), Fail> {
 
 const FIFTY: &str = "aaaaaaaaaaaaaaaaaaaaaaaaaaaaaaaaaaaaaaaaaaaaaaaaaa";
 
-/// A declaration of 256 materials with names of 200 bytes, a substance and a claim each.
+/// Appends the fields of a material with a name of 200 bytes, a substance and a claim.
+fn push_material(alloc: Global, text: &mut Vec<u8>, number: i32) -> Result<(), AllocError> {
+    let fields = format!(in alloc;
+        "\tM{number}\t{FIFTY}{FIFTY}{FIFTY}{FIFTY}\t1000000\t1\tlead\t1\t1\tlead\t6(c)"
+    )?;
+    text.extend_from_slice(fields.as_bytes())
+}
+
+/// A declaration of 256 such materials.
 fn longest_text(alloc: Global) -> Result<Vec<u8>, AllocError> {
     let mut text = b"declare\tACME\t7\t2024-01-23\t256".to_vec(alloc)?;
     for number in 100..356 {
-        let fields = format!(in alloc;
-            "\tM{number}\t{FIFTY}{FIFTY}{FIFTY}{FIFTY}\t1000000\t1\tlead\t1\t1\tlead\t6(c)"
-        )?;
-        text.extend_from_slice(fields.as_bytes())?;
+        push_material(alloc, &mut text, number)?;
     }
     Ok(text)
 }
@@ -205,9 +236,8 @@ fn longest_text(alloc: Global) -> Result<Vec<u8>, AllocError> {
 #[test]
 fn the_longest_declaration_is_read(rt: HostRuntime) -> Result<(), Fail> {
     let text = longest_text(rt.alloc())?;
-    let edit = read_edit_text(rt.alloc(), b"D:ACME:7", &text)?;
-    let is_told = is_told(rt.alloc(), &edit, "D:ACME:7", &text)?;
-    check(is_told, "the longest text is told otherwise")
+    let is_kept = is_kept(rt.alloc(), "D:ACME:7", &text)?;
+    check(is_kept, "the longest text is told otherwise")
 }
 
 /// A declaration whose 256 materials are TABs up to 65,536 bytes.
@@ -225,7 +255,6 @@ fn a_text_of_tabs_is_refused(rt: HostRuntime) -> Result<(), Fail> {
 
 #[test]
 fn faults_are_told(rt: HostRuntime) -> Result<(), Fail> {
-    let told = format!(in rt.alloc(); "{}, {}", TextFault::NotAnEdit, TextFault::OutOfMemory)?;
-    assert_eq!(rt; told.as_str(), "not the text of an edit, out of memory");
-    Ok(())
+    is_in_words(rt.alloc(), &TextFault::NotAnEdit, "not the text of an edit")?;
+    is_in_words(rt.alloc(), &TextFault::OutOfMemory, "out of memory")
 }

@@ -28,13 +28,25 @@ pub const LINE_LIMIT: usize = 131_072;
 /// A bill of materials: nodes with labels, and lines with counts from a parent to a child, which make no cycle.
 ///
 /// Contracts see the labels and the lines of the nodes by number.
-#[derive(Drop)]
 pub struct Bill {
     pub(crate) labels: Vec<Label>,
     pub(crate) lines: Vec<LineList>,
     pub(crate) users: Vec<LineList>,
     pub(crate) line_count: usize,
     pub(crate) order: NodeOrder,
+}
+
+// Written out, so that a function that owns one does not prove anew how each part is dropped.
+impl Drop for Bill {
+    fn drop(self) {
+        let Bill {
+            labels: _,
+            lines: _,
+            users: _,
+            line_count: _,
+            order: _,
+        } = self;
+    }
 }
 
 impl Model for Bill {

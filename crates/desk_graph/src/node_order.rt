@@ -16,12 +16,23 @@ pub const NODE_LIMIT: usize = 24_576;
 /// The nodes of a bill, each once, in an order. Contracts see the list.
 ///
 /// It keeps the place of each node, and room for all nodes that a bill may have, so that no change of it takes memory.
-#[derive(Drop)]
 pub struct NodeOrder {
     nodes: Vec<NodeId>,
     places: Vec<u32>,
     marks: Vec<bool>,
     room: Vec<NodeId>,
+}
+
+// Written out, so that a function that owns one does not prove anew how each part is dropped.
+impl Drop for NodeOrder {
+    fn drop(self) {
+        let NodeOrder {
+            nodes: _,
+            places: _,
+            marks: _,
+            room: _,
+        } = self;
+    }
 }
 
 impl Model for NodeOrder {

@@ -5,20 +5,17 @@ use desk_law::{
     Annex, Claim, Kind, KindSet, Restriction, Rule, Terms, Verdict, covers, in_force, judge,
     judge_by, limit_ppm, over,
 };
+use desk_testing::{check, expect_eq};
 use desk_text::{Code, Day, DayFault, ExemptionNumber};
-use std::alloc::{AllocError, Global};
+use std::alloc::Global;
 use std::fmt::Display;
 use std::process::Abort;
 use std::test::Fail;
 
-/// A failure that says what is wrong, unless it holds.
-fn check(holds: bool, what: &'static str) -> Result<(), Fail> {
-    if holds { Ok(()) } else { Err(Fail::new(what)) }
-}
-
-/// Whether a value is displayed as this text.
-fn is_shown<T: Display>(alloc: Global, value: &T, text: &str) -> Result<bool, AllocError> {
-    Ok(value.to_string(alloc)?.as_str() == text)
+/// Fails unless the value is displayed as this text, and says as which it is.
+fn shows<T: Display>(alloc: Global, value: &T, text: &str) -> Result<(), Fail> {
+    let shown = value.to_string(alloc)?;
+    expect_eq(&shown.as_str(), &text)
 }
 
 /// The fourteen kinds in the order of their annex, and the code of each.
@@ -39,18 +36,19 @@ const KINDS: [(Kind, &str); 14] = [
     (Kind::Other, "11"),
 ];
 
-/// The code of the first kind that stands elsewhere, or is read or written otherwise.
-fn first_wrong_kind<'a>(
-    alloc: Global,
-    rows: &[(Kind, &'a str); 14],
-) -> Result<Option<&'a str>, AllocError> {
-    for ((kind, code), in_order) in rows.iter().zip(Kind::ALL) {
-        let is_read = Kind::read(code.as_bytes()) == Some(*kind);
-        if in_order != *kind || !is_read || !is_shown(alloc, kind, code)? {
-            return Ok(Some(code));
-        }
+/// Fails unless the kind is read and written as this code.
+fn is_kind(alloc: Global, kind: Kind, code: &str) -> Result<(), Fail> {
+    expect_eq(&Kind::read(code.as_bytes()), &Some(kind))?;
+    shows(alloc, &kind, code)
+}
+
+/// Fails unless these are the kinds in their order, each with its code.
+fn are_kinds(alloc: Global, rows: &[(Kind, &str); 14]) -> Result<(), Fail> {
+    for (place, (kind, code)) in rows.iter().enumerate() {
+        expect_eq(&Kind::ALL.get(place), &Some(kind))?;
+        is_kind(alloc, *kind, code)?;
     }
-    Ok(None)
+    Ok(())
 }
 
 /// The first text that is read as a kind.
@@ -75,10 +73,9 @@ fn first_kind_out_of_order() -> Option<Kind> {
 
 #[test]
 fn reads_and_writes_the_fourteen_kinds(rt: HostRuntime) -> Result<(), Fail> {
-    assert_eq!(rt; first_wrong_kind(rt.alloc(), &KINDS)?, None);
-    assert_eq!(rt; first_kind(&["", "0", "12", "7T", "07", "8i "]), None);
-    assert_eq!(rt; first_kind_out_of_order(), None);
-    Ok(())
+    are_kinds(rt.alloc(), &KINDS)?;
+    expect_eq(&first_kind(&["", "0", "12", "7T", "07", "8i "]), &None)?;
+    expect_eq(&first_kind_out_of_order(), &None)
 }
 
 /// The ten rules in their order, with the number, the code and the limit of each.
@@ -95,33 +92,21 @@ const RULES: [(Rule, u8, &str, u32); 10] = [
     (Rule::Dibp, 10, "dibp", 1000),
 ];
 
-/// Whether a rule is read and written as this code, and has this number and this limit.
-fn is_rule(
-    alloc: Global,
-    rule: Rule,
-    number: u8,
-    code: &str,
-    limit: u32,
-) -> Result<bool, AllocError> {
-    Ok(
-        Rule::read(code.as_bytes()) == Some(rule)
-            && rule.number() == number
-            && limit_ppm(rule) == limit
-            && is_shown(alloc, &rule, code)?,
-    )
+/// Fails unless the rule is read and written as this code, and has this number and this limit.
+fn is_rule(alloc: Global, row: &(Rule, u8, &str, u32)) -> Result<(), Fail> {
+    let (rule, number, code, limit) = *row;
+    let found = (Rule::read(code.as_bytes()), rule.number(), limit_ppm(rule));
+    expect_eq(&found, &(Some(rule), number, limit))?;
+    shows(alloc, &rule, code)
 }
 
-/// The code of the first rule that stands elsewhere, or is another.
-fn first_wrong_rule<'a>(
-    alloc: Global,
-    rows: &[(Rule, u8, &'a str, u32); 10],
-) -> Result<Option<&'a str>, AllocError> {
-    for ((rule, number, code, limit), in_order) in rows.iter().zip(Rule::ALL) {
-        if in_order != *rule || !is_rule(alloc, *rule, *number, code, *limit)? {
-            return Ok(Some(code));
-        }
+/// Fails unless these are the rules in their order, each with what it has.
+fn are_rules(alloc: Global, rows: &[(Rule, u8, &str, u32); 10]) -> Result<(), Fail> {
+    for (place, row) in rows.iter().enumerate() {
+        expect_eq(&Rule::ALL.get(place), &Some(&row.0))?;
+        is_rule(alloc, row)?;
     }
-    Ok(None)
+    Ok(())
 }
 
 /// The first text that is read as a rule.
@@ -146,54 +131,51 @@ fn first_rule_out_of_order() -> Option<Rule> {
 
 #[test]
 fn reads_and_writes_the_ten_rules(rt: HostRuntime) -> Result<(), Fail> {
-    assert_eq!(rt; first_wrong_rule(rt.alloc(), &RULES)?, None);
-    assert_eq!(rt; first_rule(&["", "Lead", "r11", "lead "]), None);
-    assert_eq!(rt; first_rule_out_of_order(), None);
-    Ok(())
+    are_rules(rt.alloc(), &RULES)?;
+    expect_eq(&first_rule(&["", "Lead", "r11", "lead "]), &None)?;
+    expect_eq(&first_rule_out_of_order(), &None)
 }
 
-#[test]
-fn a_set_writes_its_kinds_once_in_the_order_of_the_annex(rt: HostRuntime) -> Result<(), Fail> {
-    let none = KindSet::new();
-    let mut set = KindSet::from([Kind::Other, Kind::Toy, Kind::Other].as_slice());
+/// Fails unless the set takes a kind that it has not, takes none that it has, and has no other.
+fn takes_another(set: &mut KindSet) -> Result<(), Fail> {
     let are_new = set.insert(Kind::LargeHousehold) && !set.insert(Kind::Toy);
     check(
         are_new,
         "a kind is new where it is kept, or is not where it is not",
     )?;
     let has = set.contains(Kind::Other) && !set.contains(Kind::ToyLeisureSports);
-    check(has, "a set has other kinds")?;
+    check(has, "a set has other kinds")
+}
+
+/// Fails unless the second set has kinds, and the first one, which has none, is a subset of it.
+fn are_none_and_some(none: &KindSet, set: &KindSet) -> Result<(), Fail> {
     let is_empty = !set.is_empty() && KindSet::default().is_empty();
     check(is_empty, "a set with kinds is empty, or one without is not")?;
-    let is_subset = none.is_subset(&set) && !set.is_subset(&none);
-    check(is_subset, "a set is a subset of another")?;
-    check(
-        is_shown(rt.alloc(), &set, "1,7t,11")?,
-        "a set is written otherwise",
-    )?;
-    check(
-        is_shown(rt.alloc(), &none, "")?,
-        "an empty set is written otherwise",
-    )
+    let is_subset = none.is_subset(set) && !set.is_subset(none);
+    check(is_subset, "a set is a subset of another")
+}
+
+#[test]
+fn a_set_writes_its_kinds_once_in_the_order_of_the_annex(rt: HostRuntime) -> Result<(), Fail> {
+    let none = KindSet::new();
+    let mut set = KindSet::from([Kind::Other, Kind::Toy, Kind::Other].as_slice());
+    takes_another(&mut set)?;
+    are_none_and_some(&none, &set)?;
+    shows(rt.alloc(), &set, "1,7t,11")?;
+    shows(rt.alloc(), &none, "")
 }
 
 #[test]
 fn annex_four_is_for_medical_devices_and_instruments(rt: HostRuntime) -> Result<(), Fail> {
     let (three, four) = (Annex::Three, Annex::Four);
-    let numbers = (three.number(), four.number());
-    check(numbers == (3, 4), "an annex has another number")?;
-    let of_three = is_shown(
+    expect_eq(&(three.number(), four.number()), &(3, 4))?;
+    shows(
         rt.alloc(),
         &three.kinds(),
         "1,2,3,4,5,6,7,7t,8,8i,9,9i,10,11",
     )?;
-    check(of_three, "annex three is for other kinds")?;
-    let of_four = is_shown(rt.alloc(), &four.kinds(), "8,8i,9,9i")?;
-    check(of_four, "annex four is for other kinds")?;
-    check(
-        is_shown(rt.alloc(), &four, "4")?,
-        "annex four is written otherwise",
-    )
+    shows(rt.alloc(), &four.kinds(), "8,8i,9,9i")?;
+    shows(rt.alloc(), &four, "4")
 }
 
 /// 4294967295 ppm of 18446744073709551615 micrograms, in millionths of a microgram.
@@ -210,7 +192,7 @@ fn first_wrong_share(rows: &[(u128, u64, u32, bool)]) -> Option<usize> {
 }
 
 #[test]
-fn a_share_is_over_only_above_the_limit(rt: HostRuntime) {
+fn a_share_is_over_only_above_the_limit() -> Result<(), Fail> {
     let rows = [
         (1_000_000_000, 1_000_000, 1000, false),
         (1_000_000_001, 1_000_000, 1000, true),
@@ -220,7 +202,7 @@ fn a_share_is_over_only_above_the_limit(rt: HostRuntime) {
         (GREATEST_LIMIT + 1, u64::MAX, u32::MAX, true),
         (u128::MAX, u64::MAX, u32::MAX, true),
     ];
-    assert_eq!(rt; first_wrong_share(&rows), None);
+    expect_eq(&first_wrong_share(&rows), &None)
 }
 
 /// The year for a rule that never comes into force: it is past the last day.
@@ -251,24 +233,20 @@ fn first_wrong_on(rule: Rule, day: Day, years: &[u16; 14]) -> Option<Kind> {
     None
 }
 
-/// The first of the rules that is in force otherwise, with the kind and the day.
-fn first_wrong_year(
-    rules: &[Rule],
-    years: &[u16; 14],
-) -> Result<Option<(Rule, Kind, Day)>, DayFault> {
+/// Fails unless each of the rules is in force on each day from 22 July of the year in this list on.
+fn come_in_years(rules: &[Rule], years: &[u16; 14]) -> Result<(), Fail> {
     for rule in rules {
         for day in &STAGES {
             let day = Day::read(day.as_bytes())?;
-            if let Some(kind) = first_wrong_on(*rule, day, years) {
-                return Ok(Some((*rule, kind, day)));
-            }
+            let wrong = first_wrong_on(*rule, day, years);
+            expect_eq(&(*rule, day, wrong), &(*rule, day, None))?;
         }
     }
-    Ok(None)
+    Ok(())
 }
 
 #[test]
-fn each_rule_comes_into_force_for_each_kind_on_its_day(rt: HostRuntime) {
+fn each_rule_comes_into_force_for_each_kind_on_its_day() -> Result<(), Fail> {
     // kinds 1 to 7, 7t, 8, 8i, 9, 9i, 10, 11
     let first_six = [
         2014, 2014, 2014, 2014, 2014, 2014, 2014, 2014, 2014, 2016, 2014, 2017, 2014, 2019,
@@ -279,9 +257,9 @@ fn each_rule_comes_into_force_for_each_kind_on_its_day(rt: HostRuntime) {
     let dibp = [
         2019, 2019, 2019, 2019, 2019, 2019, 2019, 2019, 2021, 2021, 2021, 2021, 2019, 2019,
     ];
-    assert_eq!(rt; first_wrong_year(&Rule::ALL[..6], &first_six), Ok(None));
-    assert_eq!(rt; first_wrong_year(&Rule::ALL[6..9], &in_entry_51), Ok(None));
-    assert_eq!(rt; first_wrong_year(&[Rule::Dibp], &dibp), Ok(None));
+    come_in_years(&Rule::ALL[..6], &first_six)?;
+    come_in_years(&Rule::ALL[6..9], &in_entry_51)?;
+    come_in_years(&[Rule::Dibp], &dibp)
 }
 
 /// The terms of exemption `6(c)` for lead in equipment of kind 3, from 2014-07-22 to 2026-06-30.
@@ -307,99 +285,121 @@ fn claim(number: &[u8]) -> Result<Claim, Fail> {
     })
 }
 
-/// The place of the first case in which a row covers this share of lead in this mass otherwise, for a kind and on a day.
-fn first_wrong_cover(
+/// Whether the row covers this share of lead in this mass, for a kind and on a day.
+fn covers_lead(
     row: &Terms,
     claims: &[Claim],
     (share, mass): (u128, u64),
-    cases: &[(Kind, &str, bool)],
-) -> Result<Option<usize>, DayFault> {
-    for (place, (kind, day, want)) in cases.iter().enumerate() {
-        let day = Day::read(day.as_bytes())?;
-        if covers(row, claims, Rule::Lead, *kind, day, share, mass) != *want {
-            return Ok(Some(place));
-        }
-    }
-    Ok(None)
+    kind: Kind,
+    day: &str,
+) -> Result<bool, DayFault> {
+    let day = Day::read(day.as_bytes())?;
+    Ok(covers(row, claims, Rule::Lead, kind, day, share, mass))
 }
 
+/// A kind, a day, and whether a row covers for that kind on that day.
+type Covered = (Kind, &'static str, bool);
+
+/// Fails unless the row covers this share of lead in this mass as each of the cases says.
+fn covers_in(
+    row: &Terms,
+    claims: &[Claim],
+    amount: (u128, u64),
+    cases: &[Covered],
+) -> Result<(), Fail> {
+    for (kind, day, want) in cases {
+        let found = covers_lead(row, claims, amount, *kind, day)?;
+        expect_eq(&(*kind, *day, found), &(*kind, *day, *want))?;
+    }
+    Ok(())
+}
+
+const ON_ITS_DAYS: [Covered; 5] = [
+    (Kind::Telecommunications, "2014-07-21", false),
+    (Kind::Telecommunications, "2014-07-22", true),
+    (Kind::Telecommunications, "2026-06-30", true),
+    (Kind::Telecommunications, "2026-07-01", false),
+    (Kind::Consumer, "2026-06-30", false),
+];
+
 #[test]
-fn a_row_covers_on_its_days_for_its_kinds(rt: HostRuntime) -> Result<(), Fail> {
+fn a_row_covers_on_its_days_for_its_kinds() -> Result<(), Fail> {
     let row = copper_alloys(b"R6C", None, Some(40000))?;
     let claims = [claim(b"6(a)")?, claim(b"6(c)")?];
-    let cases = [
-        (Kind::Telecommunications, "2014-07-21", false),
-        (Kind::Telecommunications, "2014-07-22", true),
-        (Kind::Telecommunications, "2026-06-30", true),
-        (Kind::Telecommunications, "2026-07-01", false),
-        (Kind::Consumer, "2026-06-30", false),
-    ];
-    let wrong = first_wrong_cover(&row, &claims, (40_000_000_000, 1_000_000), &cases)?;
-    assert_eq!(rt; wrong, None);
-    Ok(())
+    covers_in(&row, &claims, (40_000_000_000, 1_000_000), &ON_ITS_DAYS)
+}
+
+const ON_ONE_DAY: [Covered; 3] = [
+    (Kind::Telecommunications, "2024-01-22", false),
+    (Kind::Telecommunications, "2024-01-23", true),
+    (Kind::Telecommunications, "2024-01-24", false),
+];
+
+const FOR_NO_KIND: [Covered; 1] = [(Kind::Telecommunications, "2024-01-23", false)];
+
+/// Fails unless a row of one day for these kinds covers as each of the cases says.
+fn covers_one_day(kinds: KindSet, cases: &[Covered]) -> Result<(), Fail> {
+    let mut row = copper_alloys(b"R6C", None, None)?;
+    row.kinds = kinds;
+    row.first = Day::new(2024, 1, 23);
+    row.last = Day::new(2024, 1, 23);
+    covers_in(&row, &[claim(b"6(c)")?], (1, 1), cases)
 }
 
 #[test]
-fn a_row_of_one_day_covers_on_that_day(rt: HostRuntime) -> Result<(), Fail> {
-    let it = Kind::Telecommunications;
-    let mut row = copper_alloys(b"R6C", None, None)?;
-    row.first = Day::new(2024, 1, 23);
-    row.last = Day::new(2024, 1, 23);
-    let claims = [claim(b"6(c)")?];
-    let cases = [
-        (it, "2024-01-22", false),
-        (it, "2024-01-23", true),
-        (it, "2024-01-24", false),
-    ];
-    assert_eq!(rt; first_wrong_cover(&row, &claims, (1, 1), &cases)?, None);
-    row.kinds = KindSet::new();
-    let cases = [(it, "2024-01-23", false)];
-    assert_eq!(rt; first_wrong_cover(&row, &claims, (1, 1), &cases)?, None);
-    Ok(())
+fn a_row_of_one_day_covers_on_that_day() -> Result<(), Fail> {
+    let kinds = KindSet::from([Kind::Telecommunications].as_slice());
+    covers_one_day(kinds, &ON_ONE_DAY)?;
+    covers_one_day(KindSet::new(), &FOR_NO_KIND)
 }
 
 /// A row's floor and cap, a share and a mass, and whether the row covers them.
 type Bounds = (Option<u32>, Option<u32>, u128, u64, bool);
 
+/// Whether a row with this floor and this cap covers the share of the mass.
+fn covers_within(bounds: &Bounds) -> Result<bool, Fail> {
+    let (floor, cap, share, mass, _) = *bounds;
+    let row = copper_alloys(b"R6C", floor, cap)?;
+    let claims = [claim(b"6(c)")?];
+    let (kind, day) = (Kind::Telecommunications, "2024-01-23");
+    Ok(covers_lead(&row, &claims, (share, mass), kind, day)?)
+}
+
 /// The place of the first case in which a row with a floor and a cap covers otherwise.
 fn first_wrong_bounds(cases: &[Bounds]) -> Result<Option<usize>, Fail> {
-    let claims = [claim(b"6(c)")?];
-    let cover = [(Kind::Telecommunications, "2024-01-23", true)];
-    for (place, (floor, cap, share, mass, want)) in cases.iter().enumerate() {
-        let row = copper_alloys(b"R6C", *floor, *cap)?;
-        let wrong = first_wrong_cover(&row, &claims, (*share, *mass), &cover)?;
-        if wrong.is_none() != *want {
+    for (place, bounds) in cases.iter().enumerate() {
+        if covers_within(bounds)? != bounds.4 {
             return Ok(Some(place));
         }
     }
     Ok(None)
 }
 
+const BOUNDS: [Bounds; 13] = [
+    (None, Some(40000), 40_000_000_000, 1_000_000, true),
+    (None, Some(40000), 40_000_000_001, 1_000_000, false),
+    (Some(1500), Some(40000), 1_499_999_999, 1_000_000, false),
+    (Some(1500), Some(40000), 1_500_000_000, 1_000_000, true),
+    (None, None, u128::MAX, 1_000_000, true),
+    (Some(1000), Some(1000), 999_999_999, 1_000_000, false),
+    (Some(1000), Some(1000), 1_000_000_000, 1_000_000, true),
+    (Some(1000), Some(1000), 1_000_000_001, 1_000_000, false),
+    (Some(1000), Some(1000), 0, 0, true),
+    (Some(1000), Some(1000), 1, 0, false),
+    (Some(u32::MAX), None, GREATEST_LIMIT - 1, u64::MAX, false),
+    (
+        Some(u32::MAX),
+        Some(u32::MAX),
+        GREATEST_LIMIT,
+        u64::MAX,
+        true,
+    ),
+    (None, Some(u32::MAX), GREATEST_LIMIT + 1, u64::MAX, false),
+];
+
 #[test]
-fn a_row_covers_from_its_floor_to_its_cap(rt: HostRuntime) -> Result<(), Fail> {
-    let cases = [
-        (None, Some(40000), 40_000_000_000, 1_000_000, true),
-        (None, Some(40000), 40_000_000_001, 1_000_000, false),
-        (Some(1500), Some(40000), 1_499_999_999, 1_000_000, false),
-        (Some(1500), Some(40000), 1_500_000_000, 1_000_000, true),
-        (None, None, u128::MAX, 1_000_000, true),
-        (Some(1000), Some(1000), 999_999_999, 1_000_000, false),
-        (Some(1000), Some(1000), 1_000_000_000, 1_000_000, true),
-        (Some(1000), Some(1000), 1_000_000_001, 1_000_000, false),
-        (Some(1000), Some(1000), 0, 0, true),
-        (Some(1000), Some(1000), 1, 0, false),
-        (Some(u32::MAX), None, GREATEST_LIMIT - 1, u64::MAX, false),
-        (
-            Some(u32::MAX),
-            Some(u32::MAX),
-            GREATEST_LIMIT,
-            u64::MAX,
-            true,
-        ),
-        (None, Some(u32::MAX), GREATEST_LIMIT + 1, u64::MAX, false),
-    ];
-    assert_eq!(rt; first_wrong_bounds(&cases)?, None);
-    Ok(())
+fn a_row_covers_from_its_floor_to_its_cap() -> Result<(), Fail> {
+    expect_eq(&first_wrong_bounds(&BOUNDS)?, &None)
 }
 
 /// Whether the row covers two milligrams in a gram of what the rule restricts, with this claim or with none.
@@ -432,19 +432,19 @@ fn first_wrong_claim(row: &Terms, cases: &[Claimed]) -> Result<Option<usize>, Fa
     Ok(None)
 }
 
+const CLAIMED: [Claimed; 6] = [
+    (None, Rule::Lead, false),
+    (Some((Rule::Lead, "6(a)")), Rule::Lead, false),
+    (Some((Rule::Cadmium, "6(c)")), Rule::Lead, false),
+    (Some((Rule::Cadmium, "6(c)")), Rule::Cadmium, false),
+    (Some((Rule::Lead, "6(c)")), Rule::Cadmium, false),
+    (Some((Rule::Lead, "6(c)")), Rule::Lead, true),
+];
+
 #[test]
-fn a_row_covers_only_what_is_claimed_by_its_rule_and_number(rt: HostRuntime) -> Result<(), Fail> {
+fn a_row_covers_only_what_is_claimed_by_its_rule_and_number() -> Result<(), Fail> {
     let row = copper_alloys(b"R6C", None, None)?;
-    let cases = [
-        (None, Rule::Lead, false),
-        (Some((Rule::Lead, "6(a)")), Rule::Lead, false),
-        (Some((Rule::Cadmium, "6(c)")), Rule::Lead, false),
-        (Some((Rule::Cadmium, "6(c)")), Rule::Cadmium, false),
-        (Some((Rule::Lead, "6(c)")), Rule::Cadmium, false),
-        (Some((Rule::Lead, "6(c)")), Rule::Lead, true),
-    ];
-    assert_eq!(rt; first_wrong_claim(&row, &cases)?, None);
-    Ok(())
+    expect_eq(&first_wrong_claim(&row, &CLAIMED)?, &None)
 }
 
 /// A rule, a kind, a day, a share and a mass, and the verdict on them.
@@ -477,6 +477,12 @@ fn first_wrong_verdict(
     Ok(None)
 }
 
+/// Fails unless these are the verdicts under one row, or under none, and says which is not.
+fn are_verdicts(row: Option<Terms>, claims: &[Claim], cases: &[Judged]) -> Result<(), Fail> {
+    let wrong = first_wrong_verdict(row, claims, cases)?;
+    expect_eq(&wrong, &None)
+}
+
 const EXEMPT: Verdict = Verdict::Exempt { place: 0 };
 
 #[rattlefmt::skip]
@@ -494,9 +500,7 @@ const FIRST_THAT_APPLIES: [Judged; 7] = [
 fn the_verdict_is_the_first_that_applies(rt: HostRuntime) -> Result<(), Fail> {
     let row = copper_alloys(b"R6C", None, Some(40000))?;
     let claims = [claim(b"6(c)")?];
-    let wrong = first_wrong_verdict(Some(row), &claims, &FIRST_THAT_APPLIES)?;
-    assert_eq!(rt; wrong, None);
-    Ok(())
+    are_verdicts(Some(row), &claims, &FIRST_THAT_APPLIES)
 }
 
 #[rattlefmt::skip]
@@ -509,8 +513,7 @@ const PHTHALATES: [Judged; 4] = [
 
 #[test]
 fn a_phthalate_is_a_breach_from_its_first_day_on(rt: HostRuntime) -> Result<(), Fail> {
-    assert_eq!(rt; first_wrong_verdict(None, &[], &PHTHALATES)?, None);
-    Ok(())
+    are_verdicts(None, &[], &PHTHALATES)
 }
 
 /// The place of the first case in which a restriction of this limit, in force from this day on, gives another verdict on a day.
@@ -530,7 +533,7 @@ fn first_wrong_restriction(cases: &[(u32, Option<Day>, Day, Verdict)]) -> Option
 }
 
 #[test]
-fn a_restriction_of_any_limit_and_first_day_is_judged_by_them(rt: HostRuntime) {
+fn a_restriction_of_any_limit_and_first_day_is_judged_by_them() -> Result<(), Fail> {
     let before = Day::new(2024, 12, 31);
     let first = Day::new(2025, 1, 1);
     let cases = [
@@ -539,7 +542,7 @@ fn a_restriction_of_any_limit_and_first_day_is_judged_by_them(rt: HostRuntime) {
         (500, None, first, Verdict::NotInForce),
         (501, Some(first), first, Verdict::Within),
     ];
-    assert_eq!(rt; first_wrong_restriction(&cases), None);
+    expect_eq(&first_wrong_restriction(&cases), &None)
 }
 
 const IN_FORCE: [Judged; 2] = [
@@ -566,8 +569,7 @@ fn a_rule_that_is_not_in_force_needs_no_exemption(rt: HostRuntime) -> Result<(),
     let mut row = copper_alloys(b"R6C", None, None)?;
     row.kinds.insert(Kind::Other);
     let claims = [claim(b"6(c)")?];
-    assert_eq!(rt; first_wrong_verdict(Some(row), &claims, &IN_FORCE)?, None);
-    Ok(())
+    are_verdicts(Some(row), &claims, &IN_FORCE)
 }
 
 /// Two rows in order of code.
@@ -592,17 +594,21 @@ fn verdict_of_two(
     Ok(judge(share, 1_000_000, &claims, Rule::Lead, it, day, &rows))
 }
 
+/// Fails unless a wide row is named above the cap of the narrow one, and of two of one code the first.
+fn names_the_least(rt: &impl Abort, narrow: Terms, wide: Terms) -> Result<(), Fail> {
+    let verdicts = [
+        verdict_of_two(rt, narrow, wide, 2_000_000_000)?,
+        verdict_of_two(rt, narrow, wide, 2_000_000_001)?,
+        verdict_of_two(rt, wide, wide, 2_000_000_001)?,
+    ];
+    expect_eq(&verdicts, &[EXEMPT, Verdict::Exempt { place: 1 }, EXEMPT])
+}
+
 #[test]
 fn of_the_rows_that_cover_the_least_code_is_named(rt: HostRuntime) -> Result<(), Fail> {
     let narrow = copper_alloys(b"R6C-1", None, Some(2000))?;
     let wide = copper_alloys(b"R6C-2", None, Some(40000))?;
-    let verdicts = [
-        verdict_of_two(&rt, narrow, wide, 2_000_000_000)?,
-        verdict_of_two(&rt, narrow, wide, 2_000_000_001)?,
-        verdict_of_two(&rt, wide, wide, 2_000_000_001)?,
-    ];
-    assert_eq!(rt; verdicts, [EXEMPT, Verdict::Exempt { place: 1 }, EXEMPT]);
-    Ok(())
+    names_the_least(&rt, narrow, wide)
 }
 
 #[rattlefmt::skip]
@@ -616,6 +622,5 @@ const ENDS: [Judged; 5] = [
 
 #[test]
 fn a_verdict_at_the_ends_of_share_and_mass(rt: HostRuntime) -> Result<(), Fail> {
-    assert_eq!(rt; first_wrong_verdict(None, &[], &ENDS)?, None);
-    Ok(())
+    are_verdicts(None, &[], &ENDS)
 }

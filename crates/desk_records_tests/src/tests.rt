@@ -2,8 +2,10 @@ ghost use Rattle.desk_history.specs.Sound.{Sound};
 
 use desk_edge::{Change, Record};
 use desk_fields::read_edit_text;
+use desk_model::{Edit, Row};
 use desk_records::{RecordFault, changes, read_record, records_of, write_record};
 use desk_tables::Tables;
+use desk_testing::expect_eq;
 use desk_text::{Bytes, OutOfMemory};
 use std::alloc::Global;
 use std::test::Fail;
@@ -47,39 +49,56 @@ const OTHERS: [Told; 10] = [
     (10, "E:t1", "1|01|line|RADIO|FRAME|4"),
 ];
 
-fn bytes(alloc: Global, text: &str) -> Result<Bytes, OutOfMemory> {
+/// The bytes of the text with a TAB in the place of each `|`.
+fn tabbed(alloc: Global, fields: &str) -> Result<Bytes, OutOfMemory> {
     let mut bytes = Bytes::start(alloc);
-    for &byte in text.as_bytes() {
+    for &byte in fields.as_bytes() {
         let own = if byte == b'|' { b'\t' } else { byte };
         bytes.push_all(&[own])?;
     }
     Ok(bytes)
 }
 
-fn record(alloc: Global, told: Told) -> Result<Record, OutOfMemory> {
-    let (kind, code, body) = told;
-    Ok(Record {
-        kind,
-        code: bytes(alloc, code)?,
-        body: bytes(alloc, body)?,
-    })
+/// The record of a kind, a code and a body.
+fn record(alloc: Global, told: &Told) -> Result<Record, OutOfMemory> {
+    let (kind, code, body) = *told;
+    let code = tabbed(alloc, code)?;
+    let body = tabbed(alloc, body)?;
+    Ok(Record { kind, code, body })
+}
+
+/// Fails, and says of which record, unless it holds.
+fn check_record(holds: bool, told: &Told) -> Result<(), Fail> {
+    if holds {
+        return Ok(());
+    }
+    let (kind, code, body) = *told;
+    Err(Fail::new(format_args!("of {kind} {code} {body}")))
+}
+
+/// Whether the row is written as this record.
+fn is_written(alloc: Global, row: &Row, wanted: &Record) -> Result<bool, Fail> {
+    let written = write_record(alloc, row)?;
+    Ok(written == *wanted)
 }
 
 /// Whether the row that has the record has it again when it is written.
 fn is_kept(alloc: Global, kept: &Record) -> Result<bool, Fail> {
     let row = read_record(alloc, kept)?;
-    let again = write_record(alloc, &row)?;
-    drop(row);
-    Ok(again == *kept)
+    is_written(alloc, &row, kept)
 }
 
-/// A failure unless the row of each record has it again.
+/// Fails unless the row of the record has it again.
+fn is_record_kept(alloc: Global, told: &Told) -> Result<(), Fail> {
+    let kept = record(alloc, told)?;
+    let is_kept = is_kept(alloc, &kept)?;
+    check_record(is_kept, told)
+}
+
+/// Fails unless the row of each record has it again.
 fn are_kept(alloc: Global, rows: &[Told]) -> Result<(), Fail> {
     for told in rows {
-        let kept = record(alloc, *told)?;
-        if !is_kept(alloc, &kept)? {
-            return Err(Fail::new(format_args!("of {} {}", told.1, told.2)));
-        }
+        is_record_kept(alloc, told)?;
     }
     Ok(())
 }
@@ -89,21 +108,25 @@ fn a_row_of_each_table_is_read_and_written(rt: HostRuntime) -> Result<(), Fail> 
     are_kept(rt.alloc(), &ROWS)
 }
 
-/// A failure unless the record is refused by this fault.
-fn is_refused(alloc: Global, told: Told, wanted: RecordFault) -> Result<(), Fail> {
+/// The fault of the record, if no row has it.
+fn fault_of(alloc: Global, told: &Told) -> Result<Option<RecordFault>, OutOfMemory> {
     let kept = record(alloc, told)?;
-    let fault = read_record(alloc, &kept).err();
+    Ok(read_record(alloc, &kept).err())
+}
+
+/// Fails, and says which fault it has, unless the record is refused by this fault.
+fn is_refused(alloc: Global, told: &Told, wanted: RecordFault) -> Result<(), Fail> {
+    let fault = fault_of(alloc, told)?;
     if fault == Some(wanted) {
         return Ok(());
     }
-    let (kind, code, body) = told;
-    Err(Fail::new(format_args!("{fault:?} of {kind} {code} {body}")))
+    Err(Fail::new(format_args!("{fault:?} of {told:?}")))
 }
 
-/// A failure unless no row has these records.
+/// Fails unless no row has these records.
 fn are_refused(alloc: Global, rows: &[Told]) -> Result<(), Fail> {
     for told in rows {
-        is_refused(alloc, *told, RecordFault::Shape)?;
+        is_refused(alloc, told, RecordFault::Shape)?;
     }
     Ok(())
 }
@@ -113,11 +136,11 @@ fn a_record_of_no_row_is_refused(rt: HostRuntime) -> Result<(), Fail> {
     are_refused(rt.alloc(), &OTHERS)
 }
 
-/// A failure unless these bodies are of another version in records of these kinds.
+/// Fails unless these bodies are of another version in records of these kinds.
 fn are_other_versions(alloc: Global, bodies: &[&'static str], kinds: &[u8]) -> Result<(), Fail> {
     for body in bodies {
         for kind in kinds {
-            is_refused(alloc, (*kind, "lead", *body), RecordFault::Version)?;
+            is_refused(alloc, &(*kind, "lead", *body), RecordFault::Version)?;
         }
     }
     Ok(())
@@ -132,23 +155,44 @@ fn another_version_is_told_before_a_wrong_shape(rt: HostRuntime) -> Result<(), F
     )
 }
 
+/// Appends the head, the code and the end of a line.
+fn push_line(out: &mut Bytes, head: &str, code: &Bytes) -> Result<(), OutOfMemory> {
+    out.push_all(head.as_bytes())?;
+    out.push_all(code.as_slice())?;
+    out.push_all(b"\n")
+}
+
+/// Appends a line of the kind and the code of a record.
+fn push_key(alloc: Global, out: &mut Bytes, kept: &Record) -> Result<(), OutOfMemory> {
+    let kind = format!(in alloc; "{} ", kept.kind)?;
+    push_line(out, kind.as_str(), &kept.code)
+}
+
 /// The kind and the code of each record, each on a line.
 fn keys(alloc: Global, records: &[Record]) -> Result<Bytes, OutOfMemory> {
     let mut keys = Bytes::start(alloc);
     for kept in records {
-        let kind = format!(in alloc; "{} ", kept.kind)?;
-        keys.push_all(kind.as_bytes())?;
-        keys.push_all(kept.code.as_slice())?;
-        keys.push_all(b"\n")?;
+        push_key(alloc, &mut keys, kept)?;
     }
     Ok(keys)
+}
+
+/// The kinds and the codes of the records of the tables.
+fn keys_of(alloc: Global, tables: &Tables) -> Result<Bytes, OutOfMemory> {
+    let records = records_of(alloc, tables)?;
+    keys(alloc, records.as_slice())
 }
 
 /// The kinds and the codes of the records of the start tables.
 fn keys_at_start(alloc: Global) -> Result<Bytes, OutOfMemory> {
     let tables = Tables::start(alloc)?;
-    let records = records_of(alloc, &tables)?;
-    keys(alloc, records.as_slice())
+    keys_of(alloc, &tables)
+}
+
+/// Fails, and says what is told, unless it is this.
+fn is_told(alloc: Global, told: &[u8], wanted: &str) -> Result<(), Fail> {
+    let found = String::from_utf8_lossy(alloc, told)?;
+    expect_eq(&found.as_str(), &wanted)
 }
 
 #[test]
@@ -158,37 +202,50 @@ fn the_start_tables_have_a_record_for_each_row(rt: HostRuntime) -> Result<(), Fa
         1 dibp\n1 lead\n1 mercury\n1 pbb\n1 pbde\n2 bbp/bbp\n2 cadmium/cadmium\n\
         2 chromium-vi/chromium-vi\n2 dbp/dbp\n2 dehp/dehp\n2 dibp/dibp\n2 lead/lead\n\
         2 mercury/mercury\n2 pbb/pbb\n2 pbde/pbde\n";
-    assert!(rt; told.as_slice() == expected.as_bytes());
-    Ok(())
+    is_told(rt.alloc(), told.as_slice(), expected)
+}
+
+/// Appends a line of a change: `+` or `-`, its kind and its code.
+fn push_change(alloc: Global, out: &mut Bytes, change: &Change) -> Result<(), OutOfMemory> {
+    let (sign, kind, code) = match change {
+        Change::Put(kept) => ("+", kept.kind, &kept.code),
+        Change::Drop(key) => ("-", key.kind, &key.code),
+    };
+    let head = format!(in alloc; "{sign}{kind} ")?;
+    push_line(out, head.as_str(), code)
 }
 
 /// What the changes are: `+` or `-`, the kind and the code of each on a line.
 fn told(alloc: Global, changes: &[Change]) -> Result<Bytes, OutOfMemory> {
     let mut told = Bytes::start(alloc);
     for change in changes {
-        let (sign, kind, code) = match change {
-            Change::Put(kept) => ("+", kept.kind, &kept.code),
-            Change::Drop(key) => ("-", key.kind, &key.code),
-        };
-        let head = format!(in alloc; "{sign}{kind} ")?;
-        told.push_all(head.as_bytes())?;
-        told.push_all(code.as_slice())?;
-        told.push_all(b"\n")?;
+        push_change(alloc, &mut told, change)?;
     }
     Ok(told)
 }
 
-/// What the edit of this ticket's code and text, with its fields set apart by `|`, changes.
-fn changed_by(alloc: Global, tables: &Tables, code: &str, text: &str) -> Result<Bytes, Fail>
+/// The edit of this ticket's code and text, with its fields set apart by `|`.
+fn edit_of(alloc: Global, code: &str, fields: &str) -> Result<Edit, Fail> {
+    let text = tabbed(alloc, fields)?;
+    Ok(read_edit_text(alloc, code.as_bytes(), text.as_slice())?)
+}
+
+/// What the edit changes.
+fn changed(alloc: Global, tables: &Tables, edit: &Edit) -> Result<Bytes, Fail>
     requires { Sound tables.now.lists }
 {
-    let text = bytes(alloc, text)?;
-    let edit = read_edit_text(alloc, code.as_bytes(), text.as_slice())?;
-    let plan = tables.prepare(alloc, &edit)?;
-    drop(edit);
+    let plan = tables.prepare(alloc, edit)?;
     let changes = changes(alloc, &plan)?;
     drop(plan);
     Ok(told(alloc, changes.as_slice())?)
+}
+
+/// What the edit of this ticket's code and text changes.
+fn changed_by(alloc: Global, tables: &Tables, code: &str, text: &str) -> Result<Bytes, Fail>
+    requires { Sound tables.now.lists }
+{
+    let edit = edit_of(alloc, code, text)?;
+    changed(alloc, tables, &edit)
 }
 
 /// What the edit changes at the start tables.
@@ -197,55 +254,70 @@ fn changed_at_start(alloc: Global, code: &str, text: &str) -> Result<Bytes, Fail
     changed_by(alloc, &tables, code, text)
 }
 
+/// Fails, and says what it changes, unless the edit changes this at the start tables.
+fn is_changed(alloc: Global, code: &str, text: &str, wanted: &str) -> Result<(), Fail> {
+    let told = changed_at_start(alloc, code, text)?;
+    is_told(alloc, told.as_slice(), wanted)
+}
+
 #[test]
 fn a_row_that_goes_in_is_put_with_its_ticket(rt: HostRuntime) -> Result<(), Fail> {
-    let told = changed_at_start(rt.alloc(), "E:t1", "substance|lead-oxide|Lead oxide|")?;
-    assert!(rt; told.as_slice() == b"+1 lead-oxide\n+10 E:t1\n".as_slice());
-    Ok(())
+    let text = "substance|lead-oxide|Lead oxide|";
+    is_changed(rt.alloc(), "E:t1", text, "+1 lead-oxide\n+10 E:t1\n")
 }
 
 #[test]
 fn a_row_that_is_taken_out_is_dropped_by_its_key(rt: HostRuntime) -> Result<(), Fail> {
-    let told = changed_at_start(rt.alloc(), "E:t1", "member|lead|lead|0")?;
-    assert!(rt; told.as_slice() == b"-2 lead/lead\n+10 E:t1\n".as_slice());
-    Ok(())
+    let text = "member|lead|lead|0";
+    is_changed(rt.alloc(), "E:t1", text, "-2 lead/lead\n+10 E:t1\n")
 }
 
 #[test]
 fn each_material_of_a_declaration_is_put(rt: HostRuntime) -> Result<(), Fail> {
     let text = "declare|ACME|7|2024-01-23|2|PASTE|Paste|9|0|0|SOLDER|Solder|9|1|lead|5|0";
-    let told = changed_at_start(rt.alloc(), "D:ACME:7", text)?;
-    assert!(rt; told.as_slice() == b"+3 PASTE\n+3 SOLDER\n+10 D:ACME:7\n".as_slice());
+    let wanted = "+3 PASTE\n+3 SOLDER\n+10 D:ACME:7\n";
+    is_changed(rt.alloc(), "D:ACME:7", text, wanted)
+}
+
+/// Makes the edit, which has to be accepted.
+fn enter(alloc: Global, tables: &mut Tables, code: &str, text: &str) -> Result<(), Fail>
+    requires { Sound tables.old.lists }
+    ensures { Sound tables.new.lists }
+{
+    let edit = edit_of(alloc, code, text)?;
+    tables.accept(alloc, edit)?;
     Ok(())
+}
+
+/// What the edit changes once more where it is entered first.
+fn changed_twice(alloc: Global, tables: &mut Tables, code: &str, text: &str) -> Result<Bytes, Fail>
+    requires { Sound tables.old.lists }
+{
+    enter(alloc, tables, code, text)?;
+    changed_by(alloc, tables, code, text)
 }
 
 /// What the edit changes once more where it is kept.
 fn changed_again(alloc: Global, code: &str, text: &str) -> Result<Bytes, Fail> {
     let mut tables = Tables::start(alloc)?;
-    let fields = bytes(alloc, text)?;
-    let edit = read_edit_text(alloc, code.as_bytes(), fields.as_slice())?;
-    tables.accept(alloc, edit)?;
-    changed_by(alloc, &tables, code, text)
+    changed_twice(alloc, &mut tables, code, text)
 }
 
 #[test]
 fn an_edit_that_is_kept_changes_nothing(rt: HostRuntime) -> Result<(), Fail> {
     let told = changed_again(rt.alloc(), "E:t1", "member|lead|lead|0")?;
-    assert!(rt; told.as_slice().is_empty());
-    Ok(())
+    is_told(rt.alloc(), told.as_slice(), "")
+}
+
+/// Fails, and says how it is told, unless the fault is told in these words.
+fn is_in_words(alloc: Global, fault: RecordFault, words: &str) -> Result<(), Fail> {
+    let told = format!(in alloc; "{fault}")?;
+    expect_eq(&told.as_str(), &words)
 }
 
 #[test]
 fn faults_of_records_are_told(rt: HostRuntime) -> Result<(), Fail> {
-    let told = format!(in rt.alloc();
-        "{}, {}, {}",
-        RecordFault::Version,
-        RecordFault::Shape,
-        RecordFault::OutOfMemory
-    )?;
-    assert_eq!(rt;
-        told.as_str(),
-        "another version, not the text of a row, out of memory"
-    );
-    Ok(())
+    is_in_words(rt.alloc(), RecordFault::Version, "another version")?;
+    is_in_words(rt.alloc(), RecordFault::Shape, "not the text of a row")?;
+    is_in_words(rt.alloc(), RecordFault::OutOfMemory, "out of memory")
 }

@@ -1,7 +1,6 @@
 -- A bad line stays the first bad one, whatever comes behind it; and what follows good lines is one more, or the first bad one.
-use Rattle.std.proofs.Common.{◌≡◌, ℕ, ◌+◌, false, List, [], ◌∷◌, ◌++◌, length, map, refl, sym, ap, ◌∙◌, subst, append_assoc, append-nil}
-use Rattle.std.specs.Prelude.{◌==◌}
-use Rattle.std.specs.List.{All, AllByRecursion}
+use Rattle.std.proofs.Common.{◌≡◌, ℕ, ◌+◌, List, [], ◌∷◌, ◌++◌, length, map, refl, sym, ap, ◌∙◌, subst, append_assoc, append-nil}
+use Rattle.std.specs.List.{AllByRecursion}
 use Rattle.std.proofs.lemmas.List.Concat.{flat_map-append}
 use Rattle.desk_edge.specs.Content.{key_cmp, key_of}
 use Rattle.desk_edge.specs.declared.record.Record.{Record}
@@ -10,7 +9,7 @@ use Rattle.desk_model.specs.declared.row.Row.{Row}
 use Rattle.desk_records.specs.Records.{IsRecordOf, record_of}
 use Rattle.desk_rows.specs.Rows.{IsByKey}
 use Rattle.desk_report.specs.Lines.{line_of, record_lines}
-use Rattle.desk_report.specs.Reading.{AreInOrder, HasBadLine}
+use Rattle.desk_report.specs.Reading.{AreInOrder, HasBadLine, HasNoLineEnd}
 
 -- what is known of a bad line is known with more behind
 pub bad_later : (bytes more : List ℕ) (line : ℕ) → HasBadLine bytes line → HasBadLine (bytes ++ more) line
@@ -40,7 +39,7 @@ last_row (first ∷ records) kept all = last_row records kept all.1
 
 -- the line that is whole now is the first bad one
 pub bad_now : (read held : List ℕ) (records : List Record) (rows : List Row) (line : ℕ) → IsByKey key_of key_cmp records → records ≡ map record_of rows → AllByRecursion IsRowInForm rows
-    → All (λ b. (b == 10) ≡ false) held → read ≡ record_lines records ++ held → line ≡ length records + 1
+    → HasNoLineEnd held → read ≡ record_lines records ++ held → line ≡ length records + 1
     → ((kept : Record) (row : Row) → IsRecordOf row kept → line_of kept ≡ held ++ 10 ∷ [] → IsByKey key_of key_cmp (records ++ kept ∷ []) → ⊥)
     → HasBadLine (read ++ 10 ∷ []) line
 bad_now read held records rows line by_key is forms one_line e number none = record {

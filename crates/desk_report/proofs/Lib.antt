@@ -1,6 +1,7 @@
 pub mod BadLines
 pub mod CodesLack
 pub mod Following
+pub mod LineEnds
 pub mod LineRead
 pub mod Parts
 pub mod Readings

@@ -30,6 +30,10 @@ pub read_bad : (bytes : List ℕ) (lines : Lines) (line : ℕ) → lines ≡ Bad
 unfolding AreLinesOf
 read_bad bytes lines line e are = subst (AreLinesOf bytes) e are
 
+pub are_bad : (bytes : List ℕ) (line : ℕ) → HasBadLine bytes line → AreLinesOf bytes (Bad line)
+unfolding AreLinesOf
+are_bad bytes line bad = bad
+
 -- good lines with nothing behind are the lines of their records
 pub all_read : {V E : Type 0} (items : V → List Record) (r : Result V E) (old new : Option (List ℕ)) (bytes : List ℕ) (good : GoodRead)
     → Consumes old new bytes → IsAtEnd new → length bytes ≤ import_limit → IsReadTo bytes good

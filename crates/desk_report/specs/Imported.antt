@@ -1,7 +1,6 @@
 -- What an import reads, and what it leaves.
-use Rattle.std.specs.Prelude.{◌≡◌, ◌≢◌, ◌⊎◌, ◌==◌, ℕ, ◌+◌, ◌≤◌, false, List, [], ◌++◌, Option, length}
+use Rattle.std.specs.Prelude.{◌≡◌, ◌≢◌, ◌⊎◌, ℕ, ◌+◌, ◌≤◌, List, [], ◌++◌, Option, length}
 use Rattle.std.specs.Io.KnownBytes.{Consumes, IsAtEnd}
-use Rattle.std.specs.List.{All}
 use Rattle.desk_clerk.specs.Opening.{content_in}
 use Rattle.desk_edge.specs.Content.{IsSame, key_cmp, key_of}
 use Rattle.desk_edge.specs.declared.record.Record.{Record}
@@ -10,7 +9,7 @@ use Rattle.desk_model.specs.Lists.{Lists}
 use Rattle.desk_records.specs.Records.{tables_content}
 use Rattle.desk_rows.specs.Rows.{IsByKey}
 use Rattle.desk_report.specs.Lines.{record_lines}
-use Rattle.desk_report.specs.Reading.{AreInOrder, HasBadLine}
+use Rattle.desk_report.specs.Reading.{AreInOrder, HasBadLine, HasNoLineEnd}
 
 -- the most bytes of an export file that is read
 abbrev pub import_limit : ℕ
@@ -32,7 +31,7 @@ pub record EndsInside (bytes : List ℕ) (line : ℕ) : Type 0 where
   pub held : List ℕ
   pub parts : bytes ≡ record_lines records ++ held
   pub some : held ≢ []
-  pub one_line : All (λ b. (b == 10) ≡ false) held
+  pub one_line : HasNoLineEnd held
   pub number : line ≡ length records + 1
 
 -- all lines are good, but no sound tables have their records

@@ -10,6 +10,10 @@ use Rattle.desk_rows.specs.Rows.{IsByKey}
 use Rattle.desk_text.specs.Number.{number_below}
 use Rattle.desk_report.specs.Lines.{line_of, record_lines}
 
+-- no byte is LF, with which a line ends
+abbrev pub HasNoLineEnd : List ℕ → Type 0
+HasNoLineEnd bytes = All (λ b. (b == 10) ≡ false) bytes
+
 -- the kind that the digits write: a number below 256
 abbrev pub kind_in : List ℕ → Option ℕ
 kind_in digits = result_ok (number_below 256 digits)
@@ -36,7 +40,7 @@ pub record HasBadLine (bytes : List ℕ) (line : ℕ) : Type 0 where
   pub bad : List ℕ
   pub rest : List ℕ
   pub parts : bytes ≡ record_lines records ++ bad ++ 10 ∷ rest
-  pub one_line : All (λ b. (b == 10) ≡ false) bad
+  pub one_line : HasNoLineEnd bad
   pub number : line ≡ length records + 1
   pub is_bad : (kept : Record) → line_of kept ≡ bad ++ 10 ∷ [] → AreInOrder (records ++ kept ∷ []) → ⊥
 

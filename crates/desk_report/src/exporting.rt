@@ -5,9 +5,9 @@ ghost use Rattle.desk_edge.specs.Faults.{Rose};
 ghost use Rattle.desk_edge.specs.Transfer.{AppendsBeginning};
 ghost use Rattle.desk_history.specs.Sound.{Sound};
 ghost use Rattle.desk_report.specs.File.{IsFileOf, table_at};
-ghost use Rattle.desk_report.specs.Lines.{line_of, record_lines, sorted};
+ghost use Rattle.desk_report.specs.Lines.{record_lines, sorted};
 
-use crate::line::line;
+use crate::line::lines_of;
 use crate::report_fault::ReportFault;
 use crate::table_records::table_records;
 use desk_edge::{Link, Record, write_all};
@@ -18,8 +18,11 @@ use std::alloc::Global;
 /// How many tables a desk has.
 const TABLES: usize = 10;
 
+/// How many lines are written at once, at most.
+const LINES: usize = 64;
+
 /// Writes the export file of the tables: a line for each record, in the order of kind and code bytes, and answers how many there are.
-/// The records of one table at a time are held, and one line.
+/// The records of one table at a time are held, and the lines of 64 of them, which are written at once.
 ///
 /// `LinkFault`: the link refused a call. `OutOfMemory`: none was left for the records of a table or for a line. After a fault a
 /// beginning of the file is written.
@@ -88,16 +91,16 @@ fn write_lines<L: Link>(alloc: Global, records: &[Record], link: &mut L) -> Resu
     ensures steady { result ≢ Err ReportFault.LinkFault → L.faults link.new ≡ L.faults link.old }
     ensures failed { IsErrOf result ReportFault.LinkFault → Rose (L.faults link.old) (L.faults link.new) }
 {
-    for kept in records {
-        write_line(alloc, kept, link)?;
+    for few in records.chunks(LINES) {
+        write_few(alloc, few, link)?;
     }
     Ok(())
 }
 
-/// Writes the line of the record. After a fault a beginning of it is written.
-fn write_line<L: Link>(alloc: Global, kept: &Record, link: &mut L) -> Result<(), ReportFault>
-    ensures ok { OnOk result (Appends (L.written link.old) (L.written link.new) (line_of kept.now)) }
-    ensures beginning { AppendsBeginning (L.written link.old) (L.written link.new) (line_of kept.now) }
+/// Writes the lines of a few records at once. After a fault a beginning of them is written.
+fn write_few<L: Link>(alloc: Global, records: &[Record], link: &mut L) -> Result<(), ReportFault>
+    ensures ok { OnOk result (Appends (L.written link.old) (L.written link.new) (record_lines records.now)) }
+    ensures beginning { AppendsBeginning (L.written link.old) (L.written link.new) (record_lines records.now) }
     ensures causes { (result ≢ Err ReportFault.KeeperFault) × (result ≢ Err ReportFault.NotEmpty) × (result ≢ Err ReportFault.TooLong) }
     ensures undamaged { (n : ℕ) → result ≢ Err (ReportFault.Damaged n) }
     ensures input_stays { L.unread link.new ≡ L.unread link.old }
@@ -105,7 +108,7 @@ fn write_line<L: Link>(alloc: Global, kept: &Record, link: &mut L) -> Result<(),
     ensures steady { result ≢ Err ReportFault.LinkFault → L.faults link.new ≡ L.faults link.old }
     ensures failed { IsErrOf result ReportFault.LinkFault → Rose (L.faults link.old) (L.faults link.new) }
 {
-    let line = line(alloc, kept)?;
-    write_all(link, line.as_slice())?;
+    let lines = lines_of(alloc, records)?;
+    write_all(link, lines.as_slice())?;
     Ok(())
 }

@@ -5,7 +5,7 @@ ghost use Rattle.desk_history.specs.Sound.{Sound};
 ghost use Rattle.desk_model.specs.Lists.{Lists};
 ghost use Rattle.desk_records.specs.Records.{tables_content};
 ghost use Rattle.desk_report.specs.Imported.{IsDamagedLine};
-ghost use Rattle.desk_report.specs.Reading.{HasBadLine, IsReadTo};
+ghost use Rattle.desk_report.specs.Reading.{HasBadLine, HasNoLineEnd, IsReadTo};
 ghost use Rattle.desk_rows.specs.Rows.{IsByKey};
 
 use crate::next_row::next_row;
@@ -17,20 +17,30 @@ use std::alloc::Global;
 use std::marker::Model;
 
 /// Lines of rows' records, whose keys rise, and the beginning of one more.
-#[derive(Drop)]
 pub(crate) struct GoodLines {
     records: Vec<Record>,
     rows: Vec<Row>,
     held: Bytes,
 }
 
+// Written out, so that a function that owns one does not prove anew how each part is dropped.
+impl Drop for GoodLines {
+    fn drop(self) {
+        let GoodLines {
+            records: _,
+            rows: _,
+            held: _,
+        } = self;
+    }
+}
+
 impl Model for GoodLines {
-    ghost use Rattle.std.specs.Prelude.{◌≡◌, ◌==◌, false, map};
-    ghost use Rattle.std.specs.List.{All, AllByRecursion};
+    ghost use Rattle.std.specs.Prelude.{◌≡◌, map};
+    ghost use Rattle.std.specs.List.{AllByRecursion};
     ghost use Rattle.desk_edge.specs.Content.{key_cmp, key_of};
     ghost use Rattle.desk_fields.specs.RowTexts.{IsRowInForm};
     ghost use Rattle.desk_records.specs.Records.{record_of};
-    ghost use Rattle.desk_report.specs.Reading.{GoodRead};
+    ghost use Rattle.desk_report.specs.Reading.{GoodRead, HasNoLineEnd};
     ghost use Rattle.desk_rows.specs.Rows.{IsByKey};
 
     ghost Value = { GoodRead };
@@ -40,7 +50,7 @@ impl Model for GoodLines {
     ghost invariant = { λ good. IsByKey key_of key_cmp good.records.items
         × (good.records.items ≡ map record_of good.rows.items)
         × AllByRecursion IsRowInForm good.rows.items
-        × All (λ b. (b == 10) ≡ false) good.held };
+        × HasNoLineEnd good.held };
 }
 
 impl GoodLines {
@@ -55,14 +65,14 @@ impl GoodLines {
         }
     }
 
-    /// With one more byte of the line that isn't whole.
-    pub(crate) fn with_held(self, byte: u8) -> Result<GoodLines, OutOfMemory>
-        requires { byte ≢ 10 }
-        ensures { IfOk result (λ good. (read : List ℕ) → IsReadTo read self → IsReadTo (read ++ byte ∷ []) good) }
+    /// With more bytes of the line that isn't whole.
+    pub(crate) fn with_held(self, bytes: &[u8]) -> Result<GoodLines, OutOfMemory>
+        requires { HasNoLineEnd bytes.now }
+        ensures { IfOk result (λ good. (read : List ℕ) → IsReadTo read self → IsReadTo (read ++ bytes.now) good) }
     {
-        let mut held = self.held;
-        held.push_all(&[byte])?;
-        Ok(GoodLines { held, ..self })
+        let mut good = self;
+        good.held.push_all(bytes)?;
+        Ok(good)
     }
 
     /// The number of the line that isn't whole, counted from 1.

@@ -1,8 +1,9 @@
 ghost use Rattle.std.specs.Prelude.{None, Option};
 
-use crate::outside::{DESK, Told, answer_to_import, check, link, store};
-use desk_edge::{Failed, Link, MapKeeper};
+use crate::outside::{DESK, answer_to_import, bytes, imports, store};
+use desk_edge::{Change, Failed, Keeper, Link, Record};
 use desk_report::ReportFault;
+use desk_testing::expect_eq;
 use std::alloc::Global;
 use std::test::Fail;
 
@@ -49,34 +50,23 @@ const DAMAGED: &[(&str, u64)] = &[
     ("10|D:ACME:7|1|1|line|A|B|1\n", 0),
 ];
 
-/// What an import of this input into an empty store answers, and the records that the store has then.
-fn imported(
+/// Fails unless an import of this input, with failing calls of the store and of the link, has this fault and leaves the store empty.
+fn is_refused(
     alloc: Global,
     input: &str,
-    failing: (&[u64], &[u64]),
-) -> Result<(Result<u64, ReportFault>, MapKeeper), Fail> {
-    let mut keeper = store(alloc, &[], failing.0)?;
-    let mut link = link(alloc, input, 0, failing.1)?;
-    let answer = answer_to_import(alloc, &mut keeper, &mut link);
-    Ok((answer, keeper))
+    of_store: &[u64],
+    of_link: &[u64],
+    fault: ReportFault,
+) -> Result<(), Fail> {
+    let mut keeper = store(alloc, of_store)?;
+    imports(&mut keeper, alloc, input, of_link, Err(fault))?;
+    expect_eq(&(input, keeper.records().len()), &(input, 0))
 }
 
-/// The line that is told of this input, where it is damaged and the store stays empty.
-fn damaged_line(alloc: Global, input: &str) -> Result<Option<u64>, Fail> {
-    let (answer, keeper) = imported(alloc, input, (&[], &[]))?;
-    match answer {
-        Err(ReportFault::Damaged { line }) if keeper.records().is_empty() => Ok(Some(line)),
-        _ => Ok(None),
-    }
-}
-
-/// Fails at the first input of which another line is told.
+/// Fails at the first input of which another line is told, or that leaves records in the store.
 fn are_damaged(alloc: Global, rows: &[(&str, u64)]) -> Result<(), Fail> {
     for &(input, line) in rows {
-        let told = damaged_line(alloc, input)?;
-        if told != Some(line) {
-            return Err(Fail::new(format_args!("{told:?} of {input}")));
-        }
+        is_refused(alloc, input, &[], &[], ReportFault::Damaged { line })?;
     }
     Ok(())
 }
@@ -86,40 +76,42 @@ fn the_first_damaged_line_is_told(rt: HostRuntime) -> Result<(), Fail> {
     are_damaged(rt.alloc(), DAMAGED)
 }
 
-/// What an import answers over a link that fails at its first call, into a store of one record, and how many records that has then.
-fn imported_into_some(alloc: Global) -> Result<(Result<u64, ReportFault>, usize), Fail> {
-    let some: [Told; 1] = [(1, "lead", "1|Lead|7439-92-1")];
-    let mut keeper = store(alloc, &some, &[])?;
-    let mut link = link(alloc, "x", 0, &[1])?;
-    let answer = answer_to_import(alloc, &mut keeper, &mut link);
-    Ok((answer, keeper.records().len()))
+/// Puts one record into the keeper.
+fn put_one<K: Keeper>(keeper: &mut K, alloc: Global) -> Result<(), Fail> {
+    let code = bytes(alloc, "lead")?;
+    let body = bytes(alloc, "1|Lead|7439-92-1")?;
+    let change = Change::Put(Record {
+        kind: 1,
+        code,
+        body,
+    });
+    keeper.commit(alloc, &[change])?;
+    Ok(())
+}
+
+/// Fails unless a store of one record takes no others, though the link fails at its first call too.
+fn takes_no_others(alloc: Global) -> Result<(), Fail> {
+    let mut keeper = store(alloc, &[])?;
+    put_one(&mut keeper, alloc)?;
+    imports(&mut keeper, alloc, "x", &[1], Err(ReportFault::NotEmpty))?;
+    expect_eq(&keeper.records().len(), &1)
 }
 
 #[test]
 fn a_store_that_has_a_record_takes_no_others(rt: HostRuntime) -> Result<(), Fail> {
-    let (answer, left) = imported_into_some(rt.alloc())?;
-    check(answer == Err(ReportFault::NotEmpty), "another answer")?;
-    check(left == 1, "not the one record")
+    takes_no_others(rt.alloc())
 }
 
-/// Fails unless the import of the small desk, with failing calls of the store and of the link, answers so and leaves the store empty.
-fn is_refused(
-    alloc: Global,
-    of_store: &[u64],
-    of_link: &[u64],
-    fault: ReportFault,
-) -> Result<(), Fail> {
-    let (answer, keeper) = imported(alloc, DESK, (of_store, of_link))?;
-    check(answer == Err(fault), "another answer")?;
-    check(keeper.records().is_empty(), "the store has records")
+/// Fails unless an import of the small desk is refused where a call of the store or of the link fails.
+fn refuses_at_calls(alloc: Global) -> Result<(), Fail> {
+    is_refused(alloc, DESK, &[2], &[], ReportFault::KeeperFault)?;
+    is_refused(alloc, DESK, &[3], &[], ReportFault::KeeperFault)?;
+    is_refused(alloc, DESK, &[], &[3], ReportFault::LinkFault)
 }
 
 #[test]
 fn a_refused_call_leaves_the_store_empty(rt: HostRuntime) -> Result<(), Fail> {
-    let alloc = rt.alloc();
-    is_refused(alloc, &[2], &[], ReportFault::KeeperFault)?;
-    is_refused(alloc, &[3], &[], ReportFault::KeeperFault)?;
-    is_refused(alloc, &[], &[3], ReportFault::LinkFault)
+    refuses_at_calls(rt.alloc())
 }
 
 /// Makes so many bytes as it is read: LF at the front of each piece.
@@ -149,29 +141,38 @@ impl Link for Maker {
     }
 }
 
-/// What an import of so many bytes answers, and how many of the bytes are left.
-fn import_made(alloc: Global, len: usize) -> Result<(Result<u64, ReportFault>, usize), Fail> {
-    let mut keeper = store(alloc, &[], &[])?;
+/// Fails unless an import of so many bytes into the keeper has this fault and leaves so many of them.
+fn leaves_unread<K: Keeper>(
+    keeper: &mut K,
+    alloc: Global,
+    len: usize,
+    fault: ReportFault,
+    unread: usize,
+) -> Result<(), Fail> {
     let mut maker = Maker { left: len };
-    let answer = answer_to_import(alloc, &mut keeper, &mut maker);
-    Ok((answer, maker.left))
+    let answer = answer_to_import(alloc, keeper, &mut maker);
+    expect_eq(&(answer, maker.left), &(Err(fault), unread))
 }
 
-/// Fails unless an import of so many bytes has this fault and leaves so many of them.
+/// Fails unless an import of so many bytes into an empty store has this fault and leaves so many of them.
 fn is_refused_made(
     alloc: Global,
     len: usize,
     fault: ReportFault,
     unread: usize,
 ) -> Result<(), Fail> {
-    let (answer, left) = import_made(alloc, len)?;
-    check(answer == Err(fault), "another answer")?;
-    check(left == unread, "another count of bytes is left")
+    let mut keeper = store(alloc, &[])?;
+    leaves_unread(&mut keeper, alloc, len, fault, unread)
+}
+
+/// Fails unless too long an input is refused before all of it is read, and the longest one at its first line.
+fn refuses_too_long(alloc: Global) -> Result<(), Fail> {
+    is_refused_made(alloc, 268_435_460, ReportFault::TooLong, 3)?;
+    let first = ReportFault::Damaged { line: 1 };
+    is_refused_made(alloc, 268_435_456, first, 0)
 }
 
 #[test]
 fn too_long_an_input_is_told_before_its_first_line(rt: HostRuntime) -> Result<(), Fail> {
-    is_refused_made(rt.alloc(), 268_435_460, ReportFault::TooLong, 3)?;
-    let first = ReportFault::Damaged { line: 1 };
-    is_refused_made(rt.alloc(), 268_435_456, first, 0)
+    refuses_too_long(rt.alloc())
 }

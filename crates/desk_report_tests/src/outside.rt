@@ -1,14 +1,12 @@
 ghost use Rattle.desk_history.specs.Sound.{Sound};
 
-use desk_edge::{Change, Keeper, Link, MapKeeper, MemoryLink, Record};
+use desk_edge::{Keeper, Link, MapKeeper, MemoryLink};
 use desk_report::{ReportFault, export, import};
 use desk_tables::Tables;
+use desk_testing::expect_eq;
 use desk_text::{Bytes, OutOfMemory};
 use std::alloc::Global;
 use std::test::Fail;
-
-/// A kind, a code, and a body with its fields set apart by `|` here.
-pub(crate) type Told = (u8, &'static str, &'static str);
 
 /// Lines of a small desk, in the order of their keys, with `|` for TAB. In its tables the members stand in the order of rules and
 /// the lines of `A` before those of `A.1`.
@@ -18,11 +16,6 @@ pub(crate) const DESK: &str =
     4|B|1|article|Pin\n5|A.1/B|1|2\n5|A/B|1|1\n5|B/SOLDER|1|4\n6|A|1|3\n8|lead|1|2018-06-27\n9|2024/A|1|5\n\
     10|D:ACME:7|1|2|declare|ACME|7|2024-01-23|1|SOLDER|Solder|1000000|1|lead|1000|0\n\
     10|E:t1|1|1|line|A|B|1\n";
-
-/// A failure that says what is wrong, unless it holds.
-pub(crate) fn check(holds: bool, what: &'static str) -> Result<(), Fail> {
-    if holds { Ok(()) } else { Err(Fail::new(what)) }
-}
 
 /// The text with TAB for each `|`.
 pub(crate) fn bytes(alloc: Global, text: &str) -> Result<Bytes, OutOfMemory> {
@@ -34,16 +27,11 @@ pub(crate) fn bytes(alloc: Global, text: &str) -> Result<Bytes, OutOfMemory> {
     Ok(bytes)
 }
 
-/// A store of these records, which were put in by its first call.
-pub(crate) fn store(alloc: Global, records: &[Told], failing: &[u64]) -> Result<MapKeeper, Fail> {
-    let mut keeper = MapKeeper::new(Vec::new(alloc), failing.to_vec(alloc)?);
-    let mut batch = Vec::new(alloc);
-    for &(kind, code, body) in records {
-        let code = bytes(alloc, code)?;
-        let body = bytes(alloc, body)?;
-        batch.push(Change::Put(Record { kind, code, body }))?;
-    }
-    keeper.commit(alloc, batch.as_slice())?;
+/// A store whose calls of these numbers fail. Its first call put nothing in.
+pub(crate) fn store(alloc: Global, failing: &[u64]) -> Result<MapKeeper, Fail> {
+    let failing = failing.to_vec(alloc)?;
+    let mut keeper = MapKeeper::new(Vec::new(alloc), failing);
+    keeper.commit(alloc, &[])?;
     Ok(keeper)
 }
 
@@ -65,6 +53,19 @@ pub(crate) fn answer_to_import<K: Keeper, L: Link>(
     link: &mut L,
 ) -> Result<u64, ReportFault> {
     import(alloc, keeper, link)
+}
+
+/// Fails unless an import of this input into the keeper, over a link that fails on these calls, answers so, and says of which input.
+pub(crate) fn imports<K: Keeper>(
+    keeper: &mut K,
+    alloc: Global,
+    input: &str,
+    failing: &[u64],
+    answer: Result<u64, ReportFault>,
+) -> Result<(), Fail> {
+    let mut link = link(alloc, input, 0, failing)?;
+    let found = answer_to_import(alloc, keeper, &mut link);
+    expect_eq(&(input, found), &(input, answer))
 }
 
 /// What an export of sound tables to the link answers.

@@ -1,7 +1,7 @@
 -- What each step of merging two lists does.
-use Rattle.std.proofs.Common.{◌≡◌, ℕ, ◌+◌, ◌<◌, true, false, ◌==◌, List, [], ◌∷◌, ◌++◌, drop, length, get_or, nat_lt, refl, sym, ap, ◌∙◌}
+use Rattle.std.proofs.Common.{◌≡◌, ℕ, ◌+◌, ◌<◌, true, false, ◌==◌, List, [], ◌∷◌, ◌++◌, arith, drop, length, get_or, nat_lt, refl, sym, ap, ◌∙◌}
 use Rattle.std.proofs.lemmas.List.{append_assoc, drop_more}
-use Rattle.desk_rollup.specs.Merge.{entered}
+use Rattle.desk_rollup.specs.Merge.{entered, merged}
 
 module _ {X : Type 0} (number : X → ℕ) (join : X → X → X) (go : List X → List X) (entry : X) where
   abbrev here : List X → List X
@@ -34,3 +34,9 @@ module _ {X : Type 0} (number : X → ℕ) (join : X → X → X) (go : List X �
         ap (λ l. into ++ here l) (drop_more held i d low) ∙ ap (λ l. into ++ l) (entered_more (get_or held i d) (drop (i + 1) held) e s)
         ∙ ap (λ l. into ++ entry ∷ go l) (sym (drop_more held i d low))
         ∙ sym (append_assoc into (entry ∷ []) (go (drop i held)))
+
+pub merged_into_none : {X : Type 0} (number : X → ℕ) (join : X → X → X) (held entries : List X) → length held ≡ 0 →
+    merged number join entries held ≡ held ++ entries
+merged_into_none number join [] [] none = refl
+merged_into_none number join [] (entry ∷ entries) none = ap (λ rest. entry ∷ rest) (merged_into_none number join [] entries none)
+merged_into_none number join (first ∷ held) entries none = absurd (omega (arith, none))

@@ -2,7 +2,7 @@ ghost use Rattle.std.specs.Prelude.{◌≡◌, [], ◌∷◌, map, OnOk, IfOk};
 ghost use Rattle.desk_rollup.specs.Merge.{merged};
 
 use crate::entry::Entry;
-use crate::merge::{join_held, merge_lifted, push_entry};
+use crate::merge::{join_held, merge_lifted, push_entry, push_lifted};
 use desk_graph::{BillLine, OutOfMemory};
 use std::alloc::Global;
 use std::marker::Model;
@@ -52,10 +52,14 @@ impl<E: Entry> Gathering<E> {
         Ok(())
     }
 
-    /// Adds what the entries of a child are at the parent of the line.
+    /// Adds what the entries of a child are at the parent of the line. To no entries they are appended as they come.
+    #[tactic(auto, using(crate::proofs::MergeSteps::merged_into_none))]
     pub fn add_lifted(&mut self, line: BillLine, entries: &[E]) -> Result<(), OutOfMemory>
         ensures { OnOk result (self.new ≡ merged E.number E.joined (map (E.lifted line) entries.now) self.old) }
     {
+        if self.held.is_empty() {
+            return push_lifted(line, entries, &mut self.held);
+        }
         let (at, joined) = join_held(self.held.as_mut_slice(), line, entries);
         if joined == entries.len() {
             return Ok(());

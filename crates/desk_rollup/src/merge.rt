@@ -72,6 +72,20 @@ fn past_below<E: Entry>(held: &[E], from: usize, entry: E) -> usize
     held.len()
 }
 
+/// Appends what the entries of a child are at the parent of the line.
+pub fn push_lifted<E: Entry>(
+    line: BillLine,
+    entries: &[E],
+    into: &mut Vec<E>,
+) -> Result<(), OutOfMemory>
+    ensures { OnOk result (into.new.items ≡ into.old.items ++ map (E.lifted line) entries.now) }
+{
+    for entry in entries {
+        into.push(entry.lifted(line))?;
+    }
+    Ok(())
+}
+
 /// Appends the entries that are held, and those of a child as they are at the parent of the line. Both stand in the order of their
 /// numbers; two of the same number are joined.
 pub fn merge_lifted<E: Entry>(

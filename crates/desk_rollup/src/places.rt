@@ -7,10 +7,12 @@ use std::alloc::Global;
 use std::marker::Model;
 
 /// Nodes in an order, with the place of each at hand. Contracts see the nodes, and a number that tells the place of each node.
+///
+/// A bill has at most 24,576 nodes, so a place takes two bytes. These are written anew for each edit, however small it is.
 #[derive(Drop)]
 pub struct Places {
     nodes: Vec<NodeId>,
-    slots: Vec<u32>,
+    slots: Vec<u16>,
 }
 
 impl Model for Places {
@@ -61,13 +63,13 @@ impl Places {
 }
 
 /// Writes down one more than the place of each node.
-fn set_slots(nodes: &[NodeId], slots: &mut [u32])
+fn set_slots(nodes: &[NodeId], slots: &mut [u16])
     requires nodes { (node : ℕ) → has_node nodes.now node ≡ true → node < length slots.old }
     requires few { length nodes.now ≤ 24576 }
     requires none { (node : ℕ) → place_in slots.old node ≡ None }
     ensures { (node : ℕ) → IsTold nodes.now node (place_in slots.new node) }
 {
     for (place, node) in nodes.iter().enumerate() {
-        slots[*node as usize] = place as u32 + 1;
+        slots[*node as usize] = place as u16 + 1;
     }
 }

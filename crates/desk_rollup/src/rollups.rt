@@ -23,12 +23,22 @@ use std::sync::ledger::Ledger;
 const NODE_LIMIT: usize = 24_576;
 
 /// What is kept of the nodes of a bill: their own values, and what these come to along the lines. Contracts see both by number.
-#[derive(Drop)]
 pub struct Rollups {
     pub(crate) owns: Vec<Own>,
     pub(crate) rolled: Vec<Rolled>,
     /// How many hops all nodes have together, or none once there were too many to count.
     pub(crate) hops: Option<usize>,
+}
+
+// Written out, so that a function that owns one does not prove anew how each part is dropped.
+impl Drop for Rollups {
+    fn drop(self) {
+        let Rollups {
+            owns: _,
+            rolled: _,
+            hops: _,
+        } = self;
+    }
 }
 
 impl Model for Rollups {

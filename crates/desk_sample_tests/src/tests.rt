@@ -3,6 +3,7 @@ ghost use Rattle.std.specs.Prelude.{◌≤◌};
 use desk_model::Edit;
 use desk_sample::sample;
 use desk_tables::Tables;
+use desk_testing::{check, expect_eq};
 use desk_text::{Bytes, OutOfMemory};
 use std::alloc::Global;
 use std::test::Fail;
@@ -48,20 +49,19 @@ const OF_ONE: &str =
 #[test]
 fn the_sample_of_one_is_nine_edits(rt: HostRuntime) -> Result<(), Fail> {
     let told = told_sample(rt.alloc(), 1)?;
-    assert_eq!(rt; told, bytes(rt.alloc(), OF_ONE)?);
-    Ok(())
+    let wanted = bytes(rt.alloc(), OF_ONE)?;
+    expect_eq(&told, &wanted)
 }
 
 #[test]
 fn two_samples_of_one_number_are_equal(rt: HostRuntime) -> Result<(), Fail> {
     let first = told_sample(rt.alloc(), 200)?;
     let second = told_sample(rt.alloc(), 200)?;
-    assert!(rt; first == second);
-    Ok(())
+    check(first == second, "two samples of one number differ")
 }
 
-/// How many edits the tables keep that took the sample, each edit in turn, and how many it has.
-fn accepted(alloc: Global, n: u64) -> Result<(u64, u64), Fail>
+/// Fails unless each edit of the sample of this number is accepted in turn, and the tables keep them all.
+fn is_accepted(alloc: Global, n: u64) -> Result<(), Fail>
     requires least { 1 ≤ n }
     requires greatest { n ≤ 2000 }
 {
@@ -71,19 +71,16 @@ fn accepted(alloc: Global, n: u64) -> Result<(u64, u64), Fail>
     for edit in edits {
         tables.accept(alloc, edit)?;
     }
-    Ok((tables.number(), all))
+    expect_eq(&(n, tables.number()), &(n, all))
 }
 
-/// A failure unless each edit of the samples of these numbers is accepted in turn.
+/// Fails at the first sample of these numbers of which an edit isn't accepted in turn.
 fn are_accepted(alloc: Global, numbers: &[u64]) -> Result<(), Fail> {
     for &n in numbers {
         if n < 1 || n > 2000 {
             return Err(Fail::new("no sample"));
         }
-        let (accepted, all) = accepted(alloc, n)?;
-        if accepted != all {
-            return Err(Fail::new(format_args!("{accepted} of {all} edits, of {n}")));
-        }
+        is_accepted(alloc, n)?;
     }
     Ok(())
 }

@@ -19,13 +19,25 @@ use std::marker::Model;
 ///
 /// It tells what it keeps once it is ready, where the database is that one table in the form of [`SqlKeeper::ready`], the disk has
 /// returned what was written and no failure has shut the connection. It keeps then, under each kind and code, the body in their row.
-#[derive(Drop)]
 pub struct SqlKeeper<S: Alter> {
     connection: Connection<S>,
     is_ready: bool,
     is_ours: bool,
     faults: u64,
     ahead: Option<Ahead>,
+}
+
+// Written out, so that a function that owns one does not prove anew how each part is dropped.
+impl<S: Alter + Drop> Drop for SqlKeeper<S> {
+    fn drop(self) {
+        let SqlKeeper {
+            connection: _,
+            is_ready: _,
+            is_ours: _,
+            faults: _,
+            ahead: _,
+        } = self;
+    }
 }
 
 impl<S: Alter> Model for SqlKeeper<S> {

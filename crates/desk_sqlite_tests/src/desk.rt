@@ -1,6 +1,4 @@
-use crate::stores::{
-    Disks, Reopen, Store, disks_of, new_store, ready, stopping_store, store_of, stored,
-};
+use crate::stores::{Disks, Reopen, Store, disks_of, ready, stopping_store, store_of, stored};
 use desk_clerk::{Clerk, SubmitFault};
 use desk_edge::{Keeper, Link, MemoryLink};
 use desk_fields::read_edit_text;
@@ -194,7 +192,7 @@ fn is_known_again<R: Wait + Sync, K: Reopen>(rt: &R, alloc: Global, keeper: K) -
 fn an_edit_that_is_sent_to_the_opened_disks_again_has_its_number(
     rt: HostRuntime,
 ) -> Result<(), Fail> {
-    is_known_again(&rt, rt.alloc(), new_store(rt.alloc())?)
+    goes_over_disks(&rt, rt.alloc(), Trial::Again)
 }
 
 /// Writes the export of the keeper's desk to the link, and gives the keeper.
@@ -281,15 +279,29 @@ fn goes_by_export<R: Wait + Sync, K: Reopen>(
     is_exported_so(rt, alloc, again, &file)
 }
 
-/// Two new stores.
-fn two_stores(alloc: Global) -> Result<(SqlKeeper<Store>, SqlKeeper<Store>), Fail> {
-    Ok((new_store(alloc)?, new_store(alloc)?))
-}
-
 #[test]
 fn a_desk_goes_from_disks_to_disks_by_its_export(rt: HostRuntime) -> Result<(), Fail> {
-    let (first, second) = two_stores(rt.alloc())?;
-    goes_by_export(&rt, rt.alloc(), first, second)
+    goes_over_disks(&rt, rt.alloc(), Trial::Export)
+}
+
+/// What is tried of desks over new stores.
+#[derive(Clone, Copy)]
+enum Trial {
+    Again,
+    Export,
+}
+
+/// Fails unless the trial goes as it should.
+fn goes<R: Wait + Sync, K: Reopen>(rt: &R, alloc: Global, trial: Trial) -> Result<(), Fail> {
+    match trial {
+        Trial::Again => is_known_again(rt, alloc, K::made(alloc)?),
+        Trial::Export => goes_by_export(rt, alloc, K::made(alloc)?, K::made(alloc)?),
+    }
+}
+
+/// The same over stores on disks.
+fn goes_over_disks<R: Wait + Sync>(rt: &R, alloc: Global, trial: Trial) -> Result<(), Fail> {
+    goes::<R, SqlKeeper<Store>>(rt, alloc, trial)
 }
 
 /// Enters the edits up to the first that isn't acknowledged. It gives how many were.

@@ -18,7 +18,7 @@ pub(crate) type Disks = Files<Fuse<Memory>>;
 pub(crate) type Store = FileStore<Fuse<Memory>>;
 
 /// More calls than a test makes.
-const NO_STOP: u64 = u64::MAX;
+pub(crate) const NO_STOP: u64 = u64::MAX;
 
 /// A keeper over the database of the connection.
 pub(crate) fn adopted<S: Alter>(conn: Connection<S>) -> SqlKeeper<S> {
@@ -107,13 +107,19 @@ pub(crate) fn disks_of<D: Disk>(store: FileStore<D>) -> Files<D> {
     store.close()
 }
 
-/// A keeper whose store can be closed, and opened again on copies of its disks. A step that is written for any such keeper is cheaper
-/// to prove than one over disks.
+/// A keeper over a new store, which can be closed, and opened again on copies of its disks. A step that is written for any such keeper
+/// is cheaper to prove than one over disks.
 pub(crate) trait Reopen: Keeper + Drop {
+    fn made(alloc: Global) -> Result<Self, Fail>;
+
     fn reopened(self, alloc: Global) -> Result<Self, Fail>;
 }
 
 impl Reopen for SqlKeeper<Store> {
+    fn made(alloc: Global) -> Result<SqlKeeper<Store>, Fail> {
+        made_ready(new_database(alloc)?)
+    }
+
     fn reopened(self, alloc: Global) -> Result<SqlKeeper<Store>, Fail> {
         let disks = disks_of(stored(self));
         store_of(alloc, &disks)
@@ -128,11 +134,6 @@ pub(crate) fn new_database(alloc: Global) -> Result<Connection<Store>, Fail> {
         Ok(conn) => Ok(conn),
         Err((error, _)) => Err(Fail::from(error)),
     }
-}
-
-/// A store on two new disks that is ready.
-pub(crate) fn new_store(alloc: Global) -> Result<SqlKeeper<Store>, Fail> {
-    made_ready(new_database(alloc)?)
 }
 
 /// A disk with these bytes.

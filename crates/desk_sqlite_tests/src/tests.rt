@@ -1,29 +1,20 @@
 use crate::stores::{
-    Disks, adopted, commit, disks_of, faults, is_ours, new_database, new_store, next, ready,
+    Disks, NO_STOP, adopted, commit, disks_of, faults, is_ours, new_database, next, ready,
     released, run, stopping_store, store_of, stored,
 };
 use desk_edge::{Change, KeepFault, Key, Record};
 use desk_sqlite::SqlKeeper;
-use desk_text::{Bytes, OutOfMemory};
+use desk_testing::{bytes, check};
+use desk_text::OutOfMemory;
 use sqlite::{Alter, Connection};
 use std::alloc::Global;
 use std::test::Fail;
 
-// The steps are written for any store, and take it, so that the proof of a test does not carry what a store is made of.
+// The steps are written for any store, and take it, so that the proof of a test does not carry what a store is made of. Three functions
+// alone name the store of the tests: that it is a store is proved anew in each that does.
 
 /// A kind, a code, and the body that is put, or none where the record is dropped.
 type Told = (u8, &'static str, Option<&'static str>);
-
-/// A failure that says what is wrong, unless it holds.
-fn check(holds: bool, what: &'static str) -> Result<(), Fail> {
-    if holds { Ok(()) } else { Err(Fail::new(what)) }
-}
-
-fn bytes(alloc: Global, text: &str) -> Result<Bytes, OutOfMemory> {
-    let mut bytes = Bytes::start(alloc);
-    bytes.push_all(text.as_bytes())?;
-    Ok(bytes)
-}
 
 fn key(alloc: Global, kind: u8, code: &str) -> Result<Key, OutOfMemory> {
     let code = bytes(alloc, code)?;
@@ -117,39 +108,75 @@ fn keeps_order<S: Alter>(keeper: &mut SqlKeeper<S>, alloc: Global) -> Result<(),
 
 #[test]
 fn records_come_by_kind_and_then_by_the_bytes_of_the_code(rt: HostRuntime) -> Result<(), Fail> {
-    let mut keeper = adopted(new_database(rt.alloc())?);
-    keeps_order(&mut keeper, rt.alloc())
+    goes_over_disks(Trial::Order, rt.alloc())
 }
 
-/// The store of a keeper that took one batch.
-fn store_with_two_records<S: Alter + Drop>(
+/// The record of this number, which has three digits.
+fn numbered(alloc: Global, number: u8) -> Result<Record, Fail> {
+    let code = format!(in alloc; "{number}")?;
+    Ok(record(alloc, 1, code.as_str(), "x")?)
+}
+
+/// The key of the record of this number.
+fn key_of(alloc: Global, number: u8) -> Result<Key, Fail> {
+    let code = format!(in alloc; "{number}")?;
+    Ok(key(alloc, 1, code.as_str())?)
+}
+
+/// Keeps the records of the numbers from 100 to 199 as one batch.
+fn keep_hundred<S: Alter>(keeper: &mut SqlKeeper<S>, alloc: Global) -> Result<(), Fail> {
+    let mut batch = Vec::new(alloc);
+    for number in 100..200u8 {
+        batch.push(Change::Put(numbered(alloc, number)?))?;
+    }
+    commit(keeper, alloc, batch.as_slice())?;
+    Ok(())
+}
+
+/// Fails unless the keeper gives this record behind that of the number.
+fn gives_behind<S: Alter>(
+    keeper: &mut SqlKeeper<S>,
     alloc: Global,
-    mut keeper: SqlKeeper<S>,
-) -> Result<S, Fail> {
-    keep(
-        &mut keeper,
-        alloc,
-        &[(1, "a", Some("one")), (3, "b", Some("two"))],
-    )?;
-    Ok(stored(keeper))
+    number: u8,
+    wanted: Option<Record>,
+) -> Result<(), Fail> {
+    let after = key_of(alloc, number)?;
+    let found = next(keeper, alloc, Some(&after))?;
+    check(found == wanted, "another record")
 }
 
-/// The log and the database of a store that took one batch.
-fn files_with_two_records(alloc: Global) -> Result<Disks, Fail> {
-    let store = store_with_two_records(alloc, new_store(alloc)?)?;
-    Ok(disks_of(store))
+/// Fails unless the keeper gives, behind each record of these numbers, the one of the next number.
+fn gives_in_turn<S: Alter>(
+    keeper: &mut SqlKeeper<S>,
+    alloc: Global,
+    first: u8,
+    last: u8,
+) -> Result<(), Fail> {
+    for number in first..last {
+        let wanted = numbered(alloc, number.saturating_add(1))?;
+        gives_behind(keeper, alloc, number, Some(wanted))?;
+    }
+    Ok(())
 }
 
-fn has_two_records<S: Alter>(keeper: &mut SqlKeeper<S>, alloc: Global) -> Result<(), Fail> {
-    check(is_ours(keeper), "the files are no store of ours")?;
-    has(keeper, alloc, "1 a one\n3 b two\n")
+/// Fails unless a hundred records come in turn, and those behind a commit as it left them.
+fn goes_on_behind_a_commit<S: Alter>(keeper: &mut SqlKeeper<S>, alloc: Global) -> Result<(), Fail> {
+    ready(keeper)?;
+    keep_hundred(keeper, alloc)?;
+    gives_in_turn(keeper, alloc, 100, 165)?;
+    keep(keeper, alloc, &[(1, "166", Some("new")), (1, "170", None)])?;
+    gives_behind(keeper, alloc, 165, Some(record(alloc, 1, "166", "new")?))?;
+    gives_in_turn(keeper, alloc, 166, 169)?;
+    gives_behind(keeper, alloc, 169, Some(numbered(alloc, 171)?))?;
+    gives_in_turn(keeper, alloc, 171, 199)?;
+    gives_behind(keeper, alloc, 199, None)
 }
 
 #[test]
-fn what_was_kept_is_there_when_the_files_are_opened_again(rt: HostRuntime) -> Result<(), Fail> {
-    let files = files_with_two_records(rt.alloc())?;
-    let mut keeper = store_of(rt.alloc(), &files)?;
-    has_two_records(&mut keeper, rt.alloc())
+fn more_records_than_are_read_at_once_come_in_turn_and_those_behind_a_commit_as_it_left_them(
+    rt: HostRuntime,
+) -> Result<(), Fail> {
+    goes_over_disks(Trial::Commit, rt.alloc())
 }
 
 /// Keeps one batch after the other, up to the first that is refused. It gives how many were acknowledged.
@@ -187,10 +214,15 @@ fn filled_until_a_stop(alloc: Global, log_calls: u64, db_calls: u64) -> Result<(
     }
 }
 
-/// The records of the two files as they stand after a stop.
-fn listed_after(alloc: Global, disks: &Disks) -> Result<String, Fail> {
-    let mut keeper = store_of(alloc, disks)?;
-    listed(&mut keeper, alloc)
+/// Whether the keeper's store is one of ours, and what it has, a line a record.
+fn told<S: Alter + Drop>(alloc: Global, mut keeper: SqlKeeper<S>) -> Result<(bool, String), Fail> {
+    let is_one = is_ours(&keeper);
+    Ok((is_one, listed(&mut keeper, alloc)?))
+}
+
+/// The same of the store on copies of these disks.
+fn told_of(alloc: Global, disks: &Disks) -> Result<(bool, String), Fail> {
+    told(alloc, store_of(alloc, disks)?)
 }
 
 /// The lines of no batch, of the first one, of the first two and so on.
@@ -213,8 +245,22 @@ fn are_first_batches(lines: &str, acknowledged: u8) -> bool {
 /// Whether a stop after so many calls leaves whole batches, and all that were acknowledged.
 fn is_whole_after(alloc: Global, log_calls: u64, db_calls: u64) -> Result<bool, Fail> {
     let (acknowledged, left) = filled_until_a_stop(alloc, log_calls, db_calls)?;
-    let lines = listed_after(alloc, &left)?;
+    let (_, lines) = told_of(alloc, &left)?;
     Ok(are_first_batches(lines.as_str(), acknowledged))
+}
+
+/// Fails unless a store that took all batches is one of ours when its files are opened again, and has them.
+fn is_there_again(alloc: Global) -> Result<(), Fail> {
+    let (acknowledged, files) = filled_until_a_stop(alloc, NO_STOP, NO_STOP)?;
+    check(acknowledged == 4, "a batch isn't kept")?;
+    let (is_one, lines) = told_of(alloc, &files)?;
+    check(is_one, "the files are no store of ours")?;
+    check(lines.as_str() == WHOLE[4], "other records")
+}
+
+#[test]
+fn what_was_kept_is_there_when_the_files_are_opened_again(rt: HostRuntime) -> Result<(), Fail> {
+    is_there_again(rt.alloc())
 }
 
 /// The first count of calls after which a stop of the log, or of the database, leaves something else.
@@ -254,8 +300,7 @@ fn fails_until_ready<S: Alter>(keeper: &mut SqlKeeper<S>, alloc: Global) -> Resu
 
 #[test]
 fn before_it_is_ready_each_call_is_a_counted_fault(rt: HostRuntime) -> Result<(), Fail> {
-    let mut keeper = adopted(new_database(rt.alloc())?);
-    fails_until_ready(&mut keeper, rt.alloc())
+    goes_over_disks(Trial::NotReady, rt.alloc())
 }
 
 /// Makes the table of a store with two rows, of which the second is no record.
@@ -285,12 +330,17 @@ fn gives_the_first_record_alone<S: Alter>(
     counted(keeper, 1)
 }
 
+fn stops_at_a_wrong_row<S: Alter + Drop>(
+    mut conn: Connection<S>,
+    alloc: Global,
+) -> Result<(), Fail> {
+    fill_with_a_wrong_row(&mut conn)?;
+    gives_the_first_record_alone(&mut adopted(conn), alloc)
+}
+
 #[test]
 fn a_row_that_is_no_record_is_a_counted_fault(rt: HostRuntime) -> Result<(), Fail> {
-    let mut conn = new_database(rt.alloc())?;
-    fill_with_a_wrong_row(&mut conn)?;
-    let mut keeper = adopted(conn);
-    gives_the_first_record_alone(&mut keeper, rt.alloc())
+    goes_over_disks(Trial::WrongRow, rt.alloc())
 }
 
 /// The connection of a keeper that is not made ready.
@@ -312,7 +362,7 @@ fn is_ready_behind_a_transaction<S: Alter + Drop>(mut conn: Connection<S>) -> Re
 
 #[test]
 fn a_connection_inside_a_transaction_is_not_made_ready(rt: HostRuntime) -> Result<(), Fail> {
-    is_ready_behind_a_transaction(new_database(rt.alloc())?)
+    goes_over_disks(Trial::Transaction, rt.alloc())
 }
 
 fn becomes_ours<S: Alter>(keeper: &mut SqlKeeper<S>, alloc: Global) -> Result<(), Fail> {
@@ -336,11 +386,43 @@ fn is_not_ours_with_a_second_table<S: Alter + Drop>(
     has(&mut keeper, alloc, "7 a one\n")
 }
 
+fn is_ours_alone<S: Alter + Drop>(conn: Connection<S>, alloc: Global) -> Result<(), Fail> {
+    let mut keeper = adopted(conn);
+    becomes_ours(&mut keeper, alloc)?;
+    is_not_ours_with_a_second_table(released(keeper), alloc)
+}
+
 #[test]
 fn a_new_database_is_found_to_be_a_store_and_one_with_a_second_table_is_not(
     rt: HostRuntime,
 ) -> Result<(), Fail> {
-    let mut keeper = adopted(new_database(rt.alloc())?);
-    becomes_ours(&mut keeper, rt.alloc())?;
-    is_not_ours_with_a_second_table(released(keeper), rt.alloc())
+    goes_over_disks(Trial::SecondTable, rt.alloc())
+}
+
+/// What is tried of a keeper over a new database.
+#[derive(Clone, Copy)]
+enum Trial {
+    Order,
+    Commit,
+    NotReady,
+    WrongRow,
+    Transaction,
+    SecondTable,
+}
+
+/// Fails unless the trial goes as it should.
+fn goes<S: Alter + Drop>(trial: Trial, conn: Connection<S>, alloc: Global) -> Result<(), Fail> {
+    match trial {
+        Trial::Order => keeps_order(&mut adopted(conn), alloc),
+        Trial::Commit => goes_on_behind_a_commit(&mut adopted(conn), alloc),
+        Trial::NotReady => fails_until_ready(&mut adopted(conn), alloc),
+        Trial::WrongRow => stops_at_a_wrong_row(conn, alloc),
+        Trial::Transaction => is_ready_behind_a_transaction(conn),
+        Trial::SecondTable => is_ours_alone(conn, alloc),
+    }
+}
+
+/// The same over a database on two new disks.
+fn goes_over_disks(trial: Trial, alloc: Global) -> Result<(), Fail> {
+    goes(trial, new_database(alloc)?, alloc)
 }

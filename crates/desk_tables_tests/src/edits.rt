@@ -1,8 +1,10 @@
 ghost use Rattle.desk_history.specs.Sound.{Sound};
 
 use desk_fields::read_edit_text;
+use desk_model::Edit;
 use desk_tables::{EditFault, Tables};
-use std::alloc::Global;
+use desk_testing::expect_eq;
+use std::alloc::{AllocError, Global};
 use std::test::Fail;
 
 /// The code of an edit's ticket, its text with `|` between its fields, and what is told of it.
@@ -61,30 +63,56 @@ const DECLARED: &str = "declare|ACME|7|2024-01-23|1|SOLDER|Paste|1000|1|lead|10|
 /// Another declaration under the same ticket.
 const OTHER: &str = "declare|ACME|7|2024-01-23|1|SOLDER|Paste|1000|1|lead|9|0";
 
-/// What is told of an edit: `accepted` with its number, or the words of the refusal.
-fn told(alloc: Global, tables: &mut Tables, code: &str, text: &str) -> Result<String, Fail>
-    requires { Sound tables.old.lists }
-    ensures { Sound tables.new.lists }
-{
-    let mut fields = Vec::new(alloc);
-    for &byte in text.as_bytes() {
-        fields.push(if byte == b'|' { b'\t' } else { byte })?;
+/// The text with a TAB in the place of each `|`.
+fn tabbed(alloc: Global, fields: &str) -> Result<Vec<u8>, AllocError> {
+    let mut text = Vec::new(alloc);
+    for &byte in fields.as_bytes() {
+        text.push(if byte == b'|' { b'\t' } else { byte })?;
     }
-    let edit = read_edit_text(alloc, code.as_bytes(), fields.as_slice())?;
-    match tables.accept(alloc, edit) {
+    Ok(text)
+}
+
+/// The edit of this code of a ticket and this text.
+fn edit_of(alloc: Global, code: &str, fields: &str) -> Result<Edit, Fail> {
+    let text = tabbed(alloc, fields)?;
+    Ok(read_edit_text(alloc, code.as_bytes(), &text)?)
+}
+
+/// The words of an edit's number or of its refusal.
+fn words_of(alloc: Global, accepted: Result<u64, EditFault>) -> Result<String, Fail> {
+    match accepted {
         Ok(number) => Ok(format!(in alloc; "accepted {number}")?),
         Err(EditFault::OutOfMemory) => Err(Fail::new("no memory")),
         Err(fault) => Ok(format!(in alloc; "{fault}")?),
     }
 }
 
-/// The same, of an edit of a desk as it starts.
-fn told_at_start(alloc: Global, code: &str, text: &str) -> Result<String, Fail> {
-    let mut tables = Tables::start(alloc)?;
-    told(alloc, &mut tables, code, text)
+/// What is told of an edit: `accepted` with its number, or the words of the refusal.
+fn told(alloc: Global, tables: &mut Tables, code: &str, text: &str) -> Result<String, Fail>
+    requires { Sound tables.old.lists }
+    ensures { Sound tables.new.lists }
+{
+    let edit = edit_of(alloc, code, text)?;
+    words_of(alloc, tables.accept(alloc, edit))
 }
 
-/// A failure that says what was told in place of what was meant, unless it is that.
+/// Fails, and says what is told, unless an edit is told so.
+fn is_told(alloc: Global, tables: &mut Tables, row: Row) -> Result<(), Fail>
+    requires { Sound tables.old.lists }
+    ensures { Sound tables.new.lists }
+{
+    let (code, text, meant) = row;
+    let found = told(alloc, tables, code, text)?;
+    same(text, found.as_str(), meant)
+}
+
+/// Fails unless an edit of a desk as it starts is told so.
+fn is_told_at_start(alloc: Global, row: Row) -> Result<(), Fail> {
+    let mut tables = Tables::start(alloc)?;
+    is_told(alloc, &mut tables, row)
+}
+
+/// Fails, and says what was told in place of what was meant and of what, unless it is that.
 fn same(of: &str, told: &str, meant: &str) -> Result<(), Fail> {
     if told == meant {
         return Ok(());
@@ -92,11 +120,10 @@ fn same(of: &str, told: &str, meant: &str) -> Result<(), Fail> {
     Err(Fail::new(format_args!("{told} in place of {meant}, of {of}")))
 }
 
-/// A failure unless each edit of a desk as it starts is told so.
+/// Fails unless each edit of a desk as it starts is told so.
 fn are_told(alloc: Global, rows: &[Row]) -> Result<(), Fail> {
-    for (code, text, words) in rows {
-        let found = told_at_start(alloc, code, text)?;
-        same(text, found.as_str(), words)?;
+    for row in rows {
+        is_told_at_start(alloc, *row)?;
     }
     Ok(())
 }
@@ -106,24 +133,23 @@ fn the_first_rule_that_an_edit_breaks_is_told(rt: HostRuntime) -> Result<(), Fai
     are_told(rt.alloc(), &FIRST)
 }
 
-/// What is told of a declaration, of the same again and of another under its ticket, and how many edits are kept then.
-fn repeats(alloc: Global, tables: &mut Tables) -> Result<String, Fail>
+/// Fails unless a declaration and the same again are accepted as one, another under its ticket is refused, and one edit is kept then.
+fn repeat(alloc: Global, tables: &mut Tables) -> Result<(), Fail>
     requires { Sound tables.old.lists }
 {
-    let first = told(alloc, tables, "D:ACME:7", DECLARED)?;
-    let again = told(alloc, tables, "D:ACME:7", DECLARED)?;
-    let other = told(alloc, tables, "D:ACME:7", OTHER)?;
-    let kept = tables.number();
-    Ok(format!(in alloc; "{first}, {again}, {other}, {kept} kept")?)
+    is_told(alloc, tables, ("D:ACME:7", DECLARED, "accepted 1"))?;
+    is_told(alloc, tables, ("D:ACME:7", DECLARED, "accepted 1"))?;
+    is_told(alloc, tables, ("D:ACME:7", OTHER, "ticket-reused"))?;
+    expect_eq(&tables.number(), &1)
+}
+
+/// Fails unless it is so at a desk as it starts.
+fn repeat_at_start(alloc: Global) -> Result<(), Fail> {
+    let mut tables = Tables::start(alloc)?;
+    repeat(alloc, &mut tables)
 }
 
 #[test]
 fn a_repeated_edit_acts_once(rt: HostRuntime) -> Result<(), Fail> {
-    let mut tables = Tables::start(rt.alloc())?;
-    let told = repeats(rt.alloc(), &mut tables)?;
-    same(
-        "a repeated edit",
-        told.as_str(),
-        "accepted 1, accepted 1, ticket-reused, 1 kept",
-    )
+    repeat_at_start(rt.alloc())
 }

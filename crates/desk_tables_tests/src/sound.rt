@@ -1,5 +1,7 @@
 use desk_fields::read_row;
+use desk_model::Row;
 use desk_tables::{SoundFault, Tables};
+use desk_testing::{check, expect_eq};
 use std::alloc::Global;
 use std::test::Fail;
 
@@ -93,13 +95,37 @@ const WHOLE: [Case; 5] = [
     ),
 ];
 
+/// Appends the row of a record.
+fn push_row(alloc: Global, rows: &mut Vec<Row>, record: &Record) -> Result<(), Fail> {
+    let (table, code, text) = *record;
+    let row = read_row(alloc, table, code.as_bytes(), text.as_bytes())?;
+    Ok(rows.push(row)?)
+}
+
+/// The rows of these records.
+fn rows_of(alloc: Global, records: &[Record], more: &[Record]) -> Result<Vec<Row>, Fail> {
+    let mut rows = Vec::new(alloc);
+    for record in records.iter().chain(more.iter()) {
+        push_row(alloc, &mut rows, record)?;
+    }
+    Ok(rows)
+}
+
 /// The tables of these rows.
 fn tables_of(alloc: Global, records: &[Record], more: &[Record]) -> Result<Tables, Fail> {
-    let mut rows = Vec::new(alloc);
-    for (table, code, text) in records.iter().chain(more.iter()) {
-        rows.push(read_row(alloc, *table, code.as_bytes(), text.as_bytes())?)?;
-    }
+    let rows = rows_of(alloc, records, more)?;
     Ok(Tables::gather(alloc, rows)?)
+}
+
+/// Whether the tables are told as unsound by this table and code, or as sound.
+fn is_told(alloc: Global, tables: &Tables, told: Option<(u8, &str)>) -> Result<bool, Fail> {
+    match tables.is_sound(alloc) {
+        Ok(()) => Ok(told.is_none()),
+        Err(SoundFault::Unsound { table, key }) => {
+            Ok(told.is_some_and(|told| table == told.0 && key.as_slice() == told.1.as_bytes()))
+        }
+        Err(SoundFault::OutOfMemory) => Err(Fail::new("no memory")),
+    }
 }
 
 /// Whether the tables of these rows are told as unsound by this table and code, or as sound.
@@ -110,16 +136,10 @@ fn are_told(
     told: Option<(u8, &str)>,
 ) -> Result<bool, Fail> {
     let tables = tables_of(alloc, records, more)?;
-    match tables.is_sound(alloc) {
-        Ok(()) => Ok(told.is_none()),
-        Err(SoundFault::Unsound { table, key }) => {
-            Ok(told.is_some_and(|told| table == told.0 && key.as_slice() == told.1.as_bytes()))
-        }
-        Err(SoundFault::OutOfMemory) => Err(Fail::new("no memory")),
-    }
+    is_told(alloc, &tables, told)
 }
 
-/// A failure unless each row beside those of the lamp is told by its table and code.
+/// Fails unless each row beside those of the lamp is told by its table and code.
 fn are_broken(alloc: Global, rows: &[(Record, (u8, &str))]) -> Result<(), Fail> {
     for (record, told) in rows {
         if !are_told(alloc, &LAMP, &[*record], Some(*told))? {
@@ -146,18 +166,30 @@ fn first_other(alloc: Global, cases: &[Case]) -> Result<Option<usize>, Fail> {
 
 #[test]
 fn a_desk_is_sound_where_its_sums_fit(rt: HostRuntime) -> Result<(), Fail> {
-    assert_eq!(rt; first_other(rt.alloc(), &WHOLE)?, None);
-    Ok(())
+    expect_eq(&first_other(rt.alloc(), &WHOLE)?, &None)
 }
 
 /// Lines in another order than that of their keys, and one of them twice.
 const LINES: [Record; 3] = [(5, "B/C", "1\t2"), (5, "A/C", "1\t1"), (5, "A/C", "1\t7")];
 
+/// Fails unless the lines have these counts, in order.
+fn have_counts(tables: &Tables, counts: &[u32]) -> Result<(), Fail> {
+    let found = tables.lines().iter().map(|line| line.count);
+    check(
+        found.eq(counts.iter().copied()),
+        "other lines, or in another order",
+    )
+}
+
+/// Fails unless the lines of these rows have these counts.
+fn lines_have_counts(alloc: Global, records: &[Record], counts: &[u32]) -> Result<(), Fail> {
+    let tables = tables_of(alloc, records, &[])?;
+    have_counts(&tables, counts)
+}
+
 #[test]
 fn rows_stand_in_the_order_of_their_keys_and_the_later_of_two_is_kept(
     rt: HostRuntime,
 ) -> Result<(), Fail> {
-    let tables = tables_of(rt.alloc(), &LINES, &[])?;
-    assert!(rt; tables.lines().iter().map(|line| line.count).eq([7, 2]));
-    Ok(())
+    lines_have_counts(rt.alloc(), &LINES, &[7, 2])
 }

@@ -1,3 +1,4 @@
+use desk_testing::{check, expect_eq};
 use desk_text::{
     Bytes, Cas, CasFault, Code, CodeFault, Day, DayFault, ExemptionNumber, Name, NameFault,
     NumberFault, OutOfMemory, push_u128, read_u32, read_u64,
@@ -6,14 +7,16 @@ use std::alloc::{AllocError, Global};
 use std::fmt::Display;
 use std::test::Fail;
 
-/// A failure that says what is wrong, unless it holds.
-fn check(holds: bool, what: &'static str) -> Result<(), Fail> {
-    if holds { Ok(()) } else { Err(Fail::new(what)) }
+/// Fails unless the value is displayed as this text, and says as which it is.
+fn shows<T: Display>(alloc: Global, value: &T, text: &str) -> Result<(), Fail> {
+    let shown = value.to_string(alloc)?;
+    expect_eq(&shown.as_str(), &text)
 }
 
-/// Whether a value has these bytes and is displayed as this text, which has the same.
-fn is_spelt<T: Display>(alloc: Global, value: &T, bytes: &[u8], text: &str) -> Result<bool, Fail> {
-    Ok(bytes == text.as_bytes() && value.to_string(alloc)?.as_str() == text)
+/// Fails unless the value is displayed as this text, and has these bytes, which are those of the text.
+fn is_spelt<T: Display>(alloc: Global, value: &T, bytes: &[u8], text: &str) -> Result<(), Fail> {
+    shows(alloc, value, text)?;
+    expect_eq(&bytes, &text.as_bytes())
 }
 
 /// A letter more than a code may have.
@@ -54,10 +57,16 @@ fn first_wrong_code<'a>(rows: &[(&'a str, Option<CodeFault>)]) -> Option<&'a str
 
 #[test]
 fn codes_have_their_alphabet_and_length(rt: HostRuntime) -> Result<(), Fail> {
-    assert_eq!(rt; first_wrong_code(&CODES), None);
+    expect_eq(&first_wrong_code(&CODES), &None)?;
     let code = Code::read(b"chromium-vi")?;
-    let holds = is_spelt(rt.alloc(), &code, code.as_bytes(), "chromium-vi")?;
-    check(holds, "a code is not spelt as it was read")
+    is_spelt(rt.alloc(), &code, code.as_bytes(), "chromium-vi")
+}
+
+/// Whether the first code is before the second.
+fn is_before(first: &str, second: &str) -> Result<bool, CodeFault> {
+    let before = Code::read(first.as_bytes())?;
+    let after = Code::read(second.as_bytes())?;
+    Ok(before < after && before != after)
 }
 
 /// The first pair of codes of which the first is not before the second.
@@ -65,9 +74,7 @@ fn first_out_of_order<'a>(
     pairs: &[(&'a str, &'a str)],
 ) -> Result<Option<(&'a str, &'a str)>, CodeFault> {
     for (first, second) in pairs {
-        let before = Code::read(first.as_bytes())?;
-        let after = Code::read(second.as_bytes())?;
-        if !(before < after && before != after) {
+        if !is_before(first, second)? {
             return Ok(Some((first, second)));
         }
     }
@@ -75,7 +82,7 @@ fn first_out_of_order<'a>(
 }
 
 #[test]
-fn codes_are_ordered_by_their_bytes(rt: HostRuntime) -> Result<(), Fail> {
+fn codes_are_ordered_by_their_bytes() -> Result<(), Fail> {
     let pairs = [
         ("A", "a"),
         ("a", "ab"),
@@ -83,8 +90,7 @@ fn codes_are_ordered_by_their_bytes(rt: HostRuntime) -> Result<(), Fail> {
         ("Z9", "a"),
         ("10", "9"),
     ];
-    assert_eq!(rt; first_out_of_order(&pairs), Ok(None));
-    Ok(())
+    expect_eq(&first_out_of_order(&pairs), &Ok(None))
 }
 
 /// The first text that is read as an exemption's number otherwise.
@@ -97,20 +103,21 @@ fn first_wrong_number<'a>(rows: &[(&'a str, Option<CodeFault>)]) -> Option<&'a s
     None
 }
 
+/// Texts, and what keeps each from being an exemption's number.
+const EXEMPTION_NUMBERS: [(&str, Option<CodeFault>); 6] = [
+    ("", Some(CodeFault::Empty)),
+    ("123456789012345678901", Some(CodeFault::TooLong)),
+    ("6[c]", Some(CodeFault::BadByte { at: 1 })),
+    ("6'", Some(CodeFault::BadByte { at: 1 })),
+    ("6*", Some(CodeFault::BadByte { at: 1 })),
+    ("12345678901234567890", None),
+];
+
 #[test]
 fn exemption_numbers_may_have_brackets(rt: HostRuntime) -> Result<(), Fail> {
-    let rows = [
-        ("", Some(CodeFault::Empty)),
-        ("123456789012345678901", Some(CodeFault::TooLong)),
-        ("6[c]", Some(CodeFault::BadByte { at: 1 })),
-        ("6'", Some(CodeFault::BadByte { at: 1 })),
-        ("6*", Some(CodeFault::BadByte { at: 1 })),
-        ("12345678901234567890", None),
-    ];
-    assert_eq!(rt; first_wrong_number(&rows), None);
+    expect_eq(&first_wrong_number(&EXEMPTION_NUMBERS), &None)?;
     let number = ExemptionNumber::read(b"6(c)-I")?;
-    let holds = is_spelt(rt.alloc(), &number, number.as_bytes(), "6(c)-I")?;
-    check(holds, "a number is not spelt as it was read")
+    is_spelt(rt.alloc(), &number, number.as_bytes(), "6(c)-I")
 }
 
 /// A beginning of so many letters, and the rest.
@@ -145,8 +152,7 @@ fn names_have_200_bytes_at_most(rt: HostRuntime) -> Result<(), Fail> {
         (199, b"\xc3", Some(NameFault::BadText)),
         (199, b"\n", Some(NameFault::BadText)),
     ];
-    assert_eq!(rt; first_wrong_long_name(rt.alloc(), &rows), Ok(None));
-    Ok(())
+    expect_eq(&first_wrong_long_name(rt.alloc(), &rows), &Ok(None))
 }
 
 /// The first bytes that are read as a name otherwise.
@@ -159,31 +165,36 @@ fn first_wrong_name<'a>(alloc: Global, rows: &[(&'a [u8], Option<NameFault>)]) -
     None
 }
 
+/// Bytes, and what keeps each from being a name.
+const NAMES: [(&[u8], Option<NameFault>); 14] = [
+    (b"", Some(NameFault::Empty)),
+    (b"\x00", Some(NameFault::BadText)),
+    (b"a\x09", Some(NameFault::BadText)),
+    (b"a\x1f", Some(NameFault::BadText)),
+    (b"a\x7f", Some(NameFault::BadText)),
+    (b"a\xc2\x80", Some(NameFault::BadText)),
+    (b"a\xc2\x85", Some(NameFault::BadText)),
+    (b"a\xc2\x9f", Some(NameFault::BadText)),
+    (b"a\xc2", Some(NameFault::BadText)),
+    (b"a\xc0\x80", Some(NameFault::BadText)),
+    (b"a\xed\xa0\x80", Some(NameFault::BadText)),
+    (b" ~", None),
+    (b"a\xc2\xa0", None),
+    (b"a\xf0\x9f\x98\x80", None),
+];
+
+/// Fails unless the name is this text, and a clone is the same name.
+fn has_text(alloc: Global, name: &Name, text: &str) -> Result<(), Fail> {
+    is_spelt(alloc, name, name.as_bytes(), text)?;
+    expect_eq(&name.as_str(), &text)?;
+    check(name.clone()? == *name, "a clone differs")
+}
+
 #[test]
 fn names_are_texts_without_control_characters(rt: HostRuntime) -> Result<(), Fail> {
-    let rows = [
-        (b"".as_slice(), Some(NameFault::Empty)),
-        (b"\x00", Some(NameFault::BadText)),
-        (b"a\x09", Some(NameFault::BadText)),
-        (b"a\x1f", Some(NameFault::BadText)),
-        (b"a\x7f", Some(NameFault::BadText)),
-        (b"a\xc2\x80", Some(NameFault::BadText)),
-        (b"a\xc2\x85", Some(NameFault::BadText)),
-        (b"a\xc2\x9f", Some(NameFault::BadText)),
-        (b"a\xc2", Some(NameFault::BadText)),
-        (b"a\xc0\x80", Some(NameFault::BadText)),
-        (b"a\xed\xa0\x80", Some(NameFault::BadText)),
-        (b" ~", None),
-        (b"a\xc2\xa0", None),
-        (b"a\xf0\x9f\x98\x80", None),
-    ];
-    assert_eq!(rt; first_wrong_name(rt.alloc(), &rows), None);
-    let text = "Löt-Paste";
-    let name = Name::read(rt.alloc(), text.as_bytes())?;
-    let holds = is_spelt(rt.alloc(), &name, name.as_bytes(), text)?;
-    check(holds, "a name is not spelt as it was read")?;
-    check(name.as_str() == text, "a name is another text")?;
-    check(name.clone()? == name, "a clone differs")
+    expect_eq(&first_wrong_name(rt.alloc(), &NAMES), &None)?;
+    let name = Name::read(rt.alloc(), "Löt-Paste".as_bytes())?;
+    has_text(rt.alloc(), &name, "Löt-Paste")
 }
 
 /// The first text that is read as a CAS number otherwise.
@@ -196,28 +207,29 @@ fn first_wrong_cas<'a>(rows: &[(&'a str, Option<CasFault>)]) -> Option<&'a str> 
     None
 }
 
+/// Texts, and what keeps each from being a CAS number.
+const CAS_NUMBERS: [(&str, Option<CasFault>); 14] = [
+    ("117-81-7", None),
+    ("7439-92-1", None),
+    ("7732-18-5", None),
+    ("85-68-7", None),
+    ("1234567-89-5", None),
+    ("1234567-89-6", Some(CasFault::CheckDigit)),
+    ("117-81-8", Some(CasFault::CheckDigit)),
+    ("171-81-7", Some(CasFault::CheckDigit)),
+    ("1-81-7", Some(CasFault::Shape)),
+    ("12345678-90-1", Some(CasFault::Shape)),
+    ("117-81-", Some(CasFault::Shape)),
+    ("117-81-77", Some(CasFault::Shape)),
+    ("a17-81-7", Some(CasFault::Shape)),
+    ("117/81/7", Some(CasFault::Shape)),
+];
+
 #[test]
 fn cas_numbers_end_in_their_check_digit(rt: HostRuntime) -> Result<(), Fail> {
-    let rows = [
-        ("117-81-7", None),
-        ("7439-92-1", None),
-        ("7732-18-5", None),
-        ("85-68-7", None),
-        ("1234567-89-5", None),
-        ("1234567-89-6", Some(CasFault::CheckDigit)),
-        ("117-81-8", Some(CasFault::CheckDigit)),
-        ("171-81-7", Some(CasFault::CheckDigit)),
-        ("1-81-7", Some(CasFault::Shape)),
-        ("12345678-90-1", Some(CasFault::Shape)),
-        ("117-81-", Some(CasFault::Shape)),
-        ("117-81-77", Some(CasFault::Shape)),
-        ("a17-81-7", Some(CasFault::Shape)),
-        ("117/81/7", Some(CasFault::Shape)),
-    ];
-    assert_eq!(rt; first_wrong_cas(&rows), None);
+    expect_eq(&first_wrong_cas(&CAS_NUMBERS), &None)?;
     let number = Cas::read(b"117-81-7")?;
-    let holds = is_spelt(rt.alloc(), &number, number.as_bytes(), "117-81-7")?;
-    check(holds, "a number is not spelt as it was read")
+    is_spelt(rt.alloc(), &number, number.as_bytes(), "117-81-7")
 }
 
 /// Texts, and what keeps each from being a day.
@@ -252,15 +264,18 @@ fn first_wrong_day<'a>(rows: &[(&'a str, Option<DayFault>)]) -> Option<&'a str> 
     None
 }
 
+/// Fails unless the day is 9 February 2024, and is displayed so.
+fn is_the_ninth(alloc: Global, day: Day) -> Result<(), Fail> {
+    expect_eq(&day, &Day::new(2024, 2, 9))?;
+    expect_eq(&(day.year(), day.month(), day.day()), &(2024, 2, 9))?;
+    is_spelt(alloc, &day, day.to_text().as_slice(), "2024-02-09")
+}
+
 #[test]
 fn days_are_those_of_the_calendar(rt: HostRuntime) -> Result<(), Fail> {
-    assert_eq!(rt; first_wrong_day(&DAYS), None);
+    expect_eq(&first_wrong_day(&DAYS), &None)?;
     let day = Day::read(b"2024-02-09")?;
-    check(day == Day::new(2024, 2, 9), "another day is read")?;
-    let parts = (day.year(), day.month(), day.day());
-    check(parts == (2024, 2, 9), "a day has other parts")?;
-    let holds = is_spelt(rt.alloc(), &day, day.to_text().as_slice(), "2024-02-09")?;
-    check(holds, "a day is not spelt as it was read")?;
+    is_the_ninth(rt.alloc(), day)?;
     let is_between = Day::new(2023, 12, 31) < day && day < Day::new(2024, 3, 1);
     check(is_between, "days are out of order")
 }
@@ -276,14 +291,14 @@ fn first_wrong_askable<'a>(rows: &[(&'a str, bool)]) -> Result<Option<&'a str>, 
 }
 
 #[test]
-fn questions_may_be_asked_from_22_july_2014(rt: HostRuntime) {
+fn questions_may_be_asked_from_22_july_2014() -> Result<(), Fail> {
     let rows = [
         ("2014-07-21", false),
         ("2014-07-22", true),
         ("2013-12-31", false),
         ("2015-01-01", true),
     ];
-    assert_eq!(rt; first_wrong_askable(&rows), Ok(None));
+    expect_eq(&first_wrong_askable(&rows), &Ok(None))
 }
 
 /// Days, and the day six months after each.
@@ -320,8 +335,8 @@ fn first_wrong_six_months<'a>(
 }
 
 #[test]
-fn six_months_later_is_the_same_day_or_the_last_of_the_month(rt: HostRuntime) {
-    assert_eq!(rt; first_wrong_six_months(&SIX_MONTHS), Ok(None));
+fn six_months_later_is_the_same_day_or_the_last_of_the_month() -> Result<(), Fail> {
+    expect_eq(&first_wrong_six_months(&SIX_MONTHS), &Ok(None))
 }
 
 /// The first text that is read as a number of 32 bits otherwise.
@@ -344,28 +359,32 @@ fn first_wrong_u64<'a>(rows: &[(&'a str, Result<u64, NumberFault>)]) -> Option<&
     None
 }
 
+/// Texts, and the number of 32 bits that each is.
+const NUMBERS_OF_32_BITS: [(&str, Result<u32, NumberFault>); 9] = [
+    ("4294967295", Ok(4294967295)),
+    ("4294967296", Err(NumberFault::TooBig)),
+    ("18446744073709551616", Err(NumberFault::TooBig)),
+    ("0", Ok(0)),
+    ("007", Err(NumberFault::Shape)),
+    ("00", Err(NumberFault::Shape)),
+    ("", Err(NumberFault::Shape)),
+    ("+5", Err(NumberFault::Shape)),
+    ("5a", Err(NumberFault::Shape)),
+];
+
+/// Texts, and the number of 64 bits that each is.
+const NUMBERS_OF_64_BITS: [(&str, Result<u64, NumberFault>); 5] = [
+    ("18446744073709551615", Ok(u64::MAX)),
+    ("18446744073709551616", Err(NumberFault::TooBig)),
+    ("100000000000000000000000000000", Err(NumberFault::TooBig)),
+    ("0018446744073709551616", Err(NumberFault::Shape)),
+    ("10", Ok(10)),
+];
+
 #[test]
-fn numbers_have_one_spelling_and_fit_their_type(rt: HostRuntime) {
-    let rows = [
-        ("4294967295", Ok(4294967295)),
-        ("4294967296", Err(NumberFault::TooBig)),
-        ("18446744073709551616", Err(NumberFault::TooBig)),
-        ("0", Ok(0)),
-        ("007", Err(NumberFault::Shape)),
-        ("00", Err(NumberFault::Shape)),
-        ("", Err(NumberFault::Shape)),
-        ("+5", Err(NumberFault::Shape)),
-        ("5a", Err(NumberFault::Shape)),
-    ];
-    assert_eq!(rt; first_wrong_u32(&rows), None);
-    let rows = [
-        ("18446744073709551615", Ok(u64::MAX)),
-        ("18446744073709551616", Err(NumberFault::TooBig)),
-        ("100000000000000000000000000000", Err(NumberFault::TooBig)),
-        ("0018446744073709551616", Err(NumberFault::Shape)),
-        ("10", Ok(10)),
-    ];
-    assert_eq!(rt; first_wrong_u64(&rows), None);
+fn numbers_have_one_spelling_and_fit_their_type() -> Result<(), Fail> {
+    expect_eq(&first_wrong_u32(&NUMBERS_OF_32_BITS), &None)?;
+    expect_eq(&first_wrong_u64(&NUMBERS_OF_64_BITS), &None)
 }
 
 /// A unit, and two numbers with a blank before each.
@@ -397,37 +416,45 @@ fn twice_and_a_number(alloc: Global, letters: usize) -> Result<Bytes, Fail> {
     Ok(out)
 }
 
-#[test]
-fn what_takes_memory_takes_it_for_long_texts(rt: HostRuntime) -> Result<(), Fail> {
-    let alloc = rt.alloc();
-    let out = twice_and_a_number(alloc, 70_000)?;
-    check(out.len() == 140_039, "a long text has another length")?;
-    check(out.copied(alloc)? == out, "a copy differs")?;
-    let name = Name::read(alloc, &long_name(alloc, 200, b"")?)?;
-    check(name.clone()?.as_bytes().len() == 200, "a clone is shorter")
+/// Fails unless the bytes are so many, and a copy is the same.
+fn is_copied(alloc: Global, out: &Bytes, len: usize) -> Result<(), Fail> {
+    expect_eq(&out.len(), &len)?;
+    check(out.copied(alloc)? == *out, "a copy differs")
 }
 
-/// Whether the first is before the second, and a copy of the second is the same.
-fn are_in_order(alloc: Global, first: &Bytes, second: &Bytes) -> Result<bool, OutOfMemory> {
-    let copy = second.copied(alloc)?;
-    Ok(
-        first < second
-            && first != second
-            && copy == *second
-            && copy.len() == second.as_slice().len()
-            && !copy.is_empty(),
-    )
+/// Fails unless a name of so many letters is cloned whole.
+fn is_cloned(alloc: Global, letters: usize) -> Result<(), Fail> {
+    let name = Name::read(alloc, &long_name(alloc, letters, b"")?)?;
+    expect_eq(&name.clone()?.as_bytes().len(), &letters)
+}
+
+#[test]
+fn what_takes_memory_takes_it_for_long_texts(rt: HostRuntime) -> Result<(), Fail> {
+    let out = twice_and_a_number(rt.alloc(), 70_000)?;
+    is_copied(rt.alloc(), &out, 140_039)?;
+    is_cloned(rt.alloc(), 200)
+}
+
+/// Whether a copy of the bytes, which are some, is the same.
+fn has_a_copy(alloc: Global, bytes: &Bytes) -> Result<bool, OutOfMemory> {
+    let copy = bytes.copied(alloc)?;
+    Ok(copy == *bytes && copy.len() == bytes.as_slice().len() && !copy.is_empty())
+}
+
+/// Whether the bytes of the first text are before those of the second, of which a copy is the same.
+fn are_in_order(alloc: Global, first: &str, second: &str) -> Result<bool, OutOfMemory> {
+    let first = Bytes::from(first.as_bytes().to_vec(alloc)?);
+    let second = Bytes::from(second.as_bytes().to_vec(alloc)?);
+    Ok(first < second && first != second && has_a_copy(alloc, &second)?)
 }
 
 /// The first pair of texts of which the first is not before the second.
 fn first_wrong_pair<'a>(
     alloc: Global,
     pairs: &[(&'a str, &'a str)],
-) -> Result<Option<(&'a str, &'a str)>, Fail> {
+) -> Result<Option<(&'a str, &'a str)>, OutOfMemory> {
     for (first, second) in pairs {
-        let before = Bytes::from(first.as_bytes().to_vec(alloc)?);
-        let after = Bytes::from(second.as_bytes().to_vec(alloc)?);
-        if !are_in_order(alloc, &before, &after)? {
+        if !are_in_order(alloc, first, second)? {
             return Ok(Some((first, second)));
         }
     }
@@ -437,6 +464,5 @@ fn first_wrong_pair<'a>(
 #[test]
 fn bytes_are_ordered_as_texts_are(rt: HostRuntime) -> Result<(), Fail> {
     let pairs = [("", "a"), ("a", "ab"), ("ab", "b"), ("Z", "a")];
-    assert_eq!(rt; first_wrong_pair(rt.alloc(), &pairs)?, None);
-    Ok(())
+    expect_eq(&first_wrong_pair(rt.alloc(), &pairs), &Ok(None))
 }

@@ -294,7 +294,18 @@ const CUT: &[(&[&str], u64, &str)] = &[
     (
         &["export", "--store", "desk"],
         2,
-        "1\tbbp\t1\tButyl benzyl phthalate (BBP)\t85-68-7\n",
+        concat!(
+            "1\tbbp\t1\tButyl benzyl phthalate (BBP)\t85-68-7\n",
+            "1\tcadmium\t1\tCadmium\t7440-43-9\n",
+            "1\tchromium-vi\t1\tHexavalent chromium\t18540-29-9\n",
+            "1\tdbp\t1\tDibutyl phthalate (DBP)\t84-74-2\n",
+            "1\tdehp\t1\tBis(2-ethylhexyl) phthalate (DEHP)\t117-81-7\n",
+            "1\tdibp\t1\tDiisobutyl phthalate (DIBP)\t84-69-5\n",
+            "1\tlead\t1\tLead\t7439-92-1\n",
+            "1\tmercury\t1\tMercury\t7439-97-6\n",
+            "1\tpbb\t1\tPolybrominated biphenyls (PBB)\t\n",
+            "1\tpbde\t1\tPolybrominated diphenyl ethers (PBDE)\t\n",
+        ),
     ),
     (&["import", "--store", "desk"], 1, ""),
 ];

@@ -2,20 +2,12 @@ ghost use Rattle.std.specs.Prelude.{◌≡◌, ◌<◌, true, IfOk};
 ghost use Rattle.std.specs.List.{All, list_all};
 ghost use Rattle.desk_totals.specs.Linked.{are_distinct, has_ends_in, is_among};
 
-use desk_model::LineRow;
+use desk_model::{Codes, LineRow};
+use desk_testing::expect_eq;
 use desk_text::Code;
 use desk_totals::Links;
-use std::alloc::Global;
-use std::fmt::Debug;
+use std::alloc::{AllocError, Global};
 use std::test::Fail;
-
-/// A failure that says what was found in place of what was wanted, unless it is that.
-fn same<T: Copy + Debug + PartialEq>(found: T, wanted: T) -> Result<(), Fail> {
-    if found == wanted {
-        return Ok(());
-    }
-    Err(Fail::new(format_args!("{found:?} in place of {wanted:?}")))
-}
 
 /// Whether the code is one of these.
 fn is_among(code: &Code, codes: &[Code]) -> bool
@@ -70,36 +62,68 @@ fn bill_of(
     Ok(Links::new(alloc, nodes, material_count, lines)?)
 }
 
+/// The code of a word.
+fn code(word: &str) -> Result<Code, Fail> {
+    Ok(Code::read(word.as_bytes())?)
+}
+
 /// The codes of these words.
 fn codes(alloc: Global, words: &[&str]) -> Result<Vec<Code>, Fail> {
     let mut codes = Vec::with_capacity(alloc, words.len())?;
     for word in words {
-        codes.push(Code::read(word.as_bytes())?)?;
+        codes.push(code(word)?)?;
     }
     Ok(codes)
 }
 
-/// A line between two codes.
-fn line(parent: &str, child: &str, count: u32) -> Result<LineRow, Fail> {
+/// The words of the two ends of a line, and its count.
+type LineOf<'a> = (&'a str, &'a str, u32);
+
+/// A line between the codes of two words.
+fn line(told: &LineOf) -> Result<LineRow, Fail> {
+    let (parent, child, count) = *told;
     Ok(LineRow {
-        parent: Code::read(parent.as_bytes())?,
-        child: Code::read(child.as_bytes())?,
+        parent: code(parent)?,
+        child: code(child)?,
         count,
     })
 }
 
+/// The lines of these rows.
+fn lines(alloc: Global, rows: &[LineOf]) -> Result<Vec<LineRow>, Fail> {
+    let mut lines = Vec::with_capacity(alloc, rows.len())?;
+    for told in rows {
+        lines.push(line(told)?)?;
+    }
+    Ok(lines)
+}
+
+/// The bill of the nodes of these words, the materials first, and of these lines.
+fn spelled(
+    alloc: Global,
+    words: &[&str],
+    material_count: usize,
+    rows: &[LineOf],
+) -> Result<Links, Fail> {
+    let lines = lines(alloc, rows)?;
+    bill_of(alloc, codes(alloc, words)?, material_count, &lines)
+}
+
 /// A kettle of a cable and a plug, of copper and of plastic: `cu` and `pe`, then `cable`, `kettle` and `plug`.
 fn kettle(alloc: Global) -> Result<Links, Fail> {
-    let nodes = codes(alloc, &["cu", "pe", "cable", "kettle", "plug"])?;
-    let lines = [
-        line("cable", "cu", 3)?,
-        line("cable", "pe", 2)?,
-        line("kettle", "cable", 2)?,
-        line("kettle", "plug", 1)?,
-        line("plug", "cu", 1)?,
-        line("plug", "pe", 4)?,
-    ];
-    bill_of(alloc, nodes, 2, &lines)
+    spelled(
+        alloc,
+        &["cu", "pe", "cable", "kettle", "plug"],
+        2,
+        &[
+            ("cable", "cu", 3),
+            ("cable", "pe", 2),
+            ("kettle", "cable", 2),
+            ("kettle", "plug", 1),
+            ("plug", "cu", 1),
+            ("plug", "pe", 4),
+        ],
+    )
 }
 
 /// The masses, where copper weighs 10 and plastic 5.
@@ -111,29 +135,53 @@ fn masses(alloc: Global, bill: &Links) -> Result<Vec<Option<u128>>, Fail> {
     Ok(bill.rolled_up(alloc, &own)?)
 }
 
-/// A failure unless the nodes weigh this, where copper weighs 10 and plastic 5.
+/// Fails unless the nodes weigh this, where copper weighs 10 and plastic 5.
 fn weigh(alloc: Global, bill: &Links, wanted: &[Option<u128>]) -> Result<(), Fail> {
     let masses = masses(alloc, bill)?;
-    same(masses.as_slice(), wanted)
+    expect_eq(&masses.as_slice(), &wanted)
 }
 
-/// A failure unless the parts that reach the node of each word are marked so.
-fn are_marked(alloc: Global, bill: &Links, rows: &[(&str, [bool; 5])]) -> Result<(), Fail> {
-    for (word, wanted) in rows {
-        let target = Code::read(word.as_bytes())?;
-        let marks = bill.marks(alloc, &target)?;
-        if marks.as_slice() != wanted.as_slice() {
-            return Err(Fail::new(format_args!("marks {marks:?} of {word}")));
-        }
+/// Which parts reach the node of this word.
+fn marks_of(alloc: Global, bill: &Links, word: &str) -> Result<Vec<bool>, Fail> {
+    let target = code(word)?;
+    Ok(bill.marks(alloc, &target)?)
+}
+
+/// A word, and which parts reach its node.
+type MarkRow<'a> = (&'a str, [bool; 5]);
+
+/// Fails, and says which are, unless the parts that reach the node of the word are marked so.
+fn is_marked(alloc: Global, bill: &Links, row: &MarkRow) -> Result<(), Fail> {
+    let (word, wanted) = row;
+    let marks = marks_of(alloc, bill, word)?;
+    if marks.as_slice() == wanted.as_slice() {
+        return Ok(());
+    }
+    Err(Fail::new(format_args!("marks {marks:?} of {word}")))
+}
+
+/// Fails unless it is so for each word.
+fn are_marked(alloc: Global, bill: &Links, rows: &[MarkRow]) -> Result<(), Fail> {
+    for row in rows {
+        is_marked(alloc, bill, row)?;
     }
     Ok(())
 }
 
-/// A failure unless of each two words the first reaches the second, or does not.
-fn do_reach(alloc: Global, bill: &Links, rows: &[(&str, &str, bool)]) -> Result<(), Fail> {
+/// Two words, and whether the node of the first reaches that of the second.
+type ReachRow<'a> = (&'a str, &'a str, bool);
+
+/// Whether the node of a word reaches that of another.
+fn does_reach(alloc: Global, bill: &Links, from: &str, target: &str) -> Result<bool, Fail> {
+    let start = code(from)?;
+    let end = code(target)?;
+    Ok(bill.does_reach(alloc, &start, &end)?)
+}
+
+/// Fails, and says of which, unless of each two words the first reaches the second, or does not.
+fn do_reach(alloc: Global, bill: &Links, rows: &[ReachRow]) -> Result<(), Fail> {
     for (from, target, wanted) in rows {
-        let (start, end) = (Code::read(from.as_bytes())?, Code::read(target.as_bytes())?);
-        if bill.does_reach(alloc, &start, &end)? != *wanted {
+        if does_reach(alloc, bill, from, target)? != *wanted {
             return Err(Fail::new(format_args!("otherwise from {from} to {target}")));
         }
     }
@@ -167,14 +215,31 @@ fn parts_reach_what_their_lines_lead_to(rt: HostRuntime) -> Result<(), Fail> {
 /// Two words, and those of the chain from the first to the second.
 type ChainRow<'a> = (&'a str, &'a str, &'a [&'a str]);
 
-/// A failure unless from each word to the other there is its chain.
+/// The chain from the node of a word to that of another.
+fn chain_of(alloc: Global, bill: &Links, from: &str, target: &str) -> Result<Codes, Fail> {
+    let start = code(from)?;
+    let end = code(target)?;
+    Ok(bill.chain(alloc, &start, &end)?)
+}
+
+/// Whether these are the codes of the words.
+fn are_codes(alloc: Global, found: &[Code], words: &[&str]) -> Result<bool, Fail> {
+    let wanted = codes(alloc, words)?;
+    Ok(found == wanted.as_slice())
+}
+
+/// Whether there is this chain between the two words.
+fn is_chain(alloc: Global, bill: &Links, row: &ChainRow) -> Result<bool, Fail> {
+    let (from, target, words) = *row;
+    let found = chain_of(alloc, bill, from, target)?;
+    are_codes(alloc, found.as_slice(), words)
+}
+
+/// Fails, and says from which, unless from each word to the other there is its chain.
 fn are_chains(alloc: Global, bill: &Links, rows: &[ChainRow]) -> Result<(), Fail> {
-    for (from, target, words) in rows {
-        let (start, end) = (Code::read(from.as_bytes())?, Code::read(target.as_bytes())?);
-        let found = bill.chain(alloc, &start, &end)?;
-        let wanted = codes(alloc, words)?;
-        if found.as_slice() != wanted.as_slice() {
-            return Err(Fail::new(format_args!("another chain from {from} to {target}")));
+    for row in rows {
+        if !is_chain(alloc, bill, row)? {
+            return Err(Fail::new(format_args!("another chain of {row:?}")));
         }
     }
     Ok(())
@@ -208,119 +273,203 @@ fn a_kettle_weighs_its_cable_twice(rt: HostRuntime) -> Result<(), Fail> {
     )
 }
 
-#[test]
-fn parts_that_reach_each_node_are_counted(rt: HostRuntime) -> Result<(), Fail> {
-    let bill = kettle(rt.alloc())?;
+/// Fails unless of each place among the five nodes so many parts reach it.
+fn are_counted(alloc: Global, bill: &Links) -> Result<(), Fail> {
     if bill.nodes().len() != 5 {
         return Err(Fail::new("not five nodes"));
     }
-    let counts = bill.reach_counts(rt.alloc(), &[4, 0, 1, 2, 3, 0])?;
-    same(counts.as_slice(), [1, 3, 3, 1, 0, 3].as_slice())
+    let counts = bill.reach_counts(alloc, &[4, 0, 1, 2, 3, 0])?;
+    expect_eq(&counts.as_slice(), &[1, 3, 3, 1, 0, 3].as_slice())
+}
+
+#[test]
+fn parts_that_reach_each_node_are_counted(rt: HostRuntime) -> Result<(), Fail> {
+    let bill = kettle(rt.alloc())?;
+    are_counted(rt.alloc(), &bill)
+}
+
+/// Fails unless of the five nodes the plug is or reaches these.
+fn plug_reaches(alloc: Global, bill: &Links) -> Result<(), Fail> {
+    if bill.nodes().len() != 5 {
+        return Err(Fail::new("not five nodes"));
+    }
+    let marks = bill.reached_among(alloc, 4, &[4, 0, 2, 1, 3])?;
+    let wanted = [true, true, false, true, false];
+    expect_eq(&marks.as_slice(), &wanted.as_slice())
+}
+
+/// Fails unless copper is itself, and reaches no plastic.
+fn copper_reaches(alloc: Global, bill: &Links) -> Result<(), Fail> {
+    if bill.nodes().len() != 5 {
+        return Err(Fail::new("not five nodes"));
+    }
+    let marks = bill.reached_among(alloc, 0, &[0, 1])?;
+    expect_eq(&marks.as_slice(), &[true, false].as_slice())
 }
 
 #[test]
 fn what_a_node_is_or_reaches_is_told_target_by_target(rt: HostRuntime) -> Result<(), Fail> {
     let bill = kettle(rt.alloc())?;
-    if bill.nodes().len() != 5 {
-        return Err(Fail::new("not five nodes"));
-    }
-    let marks = bill.reached_among(rt.alloc(), 4, &[4, 0, 2, 1, 3])?;
-    let wanted = [true, true, false, true, false];
-    same(marks.as_slice(), wanted.as_slice())?;
-    let marks = bill.reached_among(rt.alloc(), 0, &[0, 1])?;
-    same(marks.as_slice(), [true, false].as_slice())
+    plug_reaches(rt.alloc(), &bill)?;
+    copper_reaches(rt.alloc(), &bill)
 }
 
-/// A line that is set, put in or taken out at a place.
-#[derive(Drop)]
-enum Change {
-    Set(usize, LineRow),
-    Insert(usize, LineRow),
-    Remove(usize),
+/// The bill with another line at a place.
+fn with_line_at(alloc: Global, bill: Links, place: usize, line: LineRow) -> Result<Links, Fail> {
+    if place >= bill.line_count() || !have_ends(bill.nodes(), &[line]) {
+        return Err(Fail::new("no line"));
+    }
+    Ok(bill.with_line_at(alloc, place, &line)?)
 }
 
-/// The kettle after a change of its lines.
-fn changed(alloc: Global, change: Change) -> Result<Links, Fail> {
-    let bill = kettle(alloc)?;
-    let nodes = Vec::from_slice(alloc, bill.nodes())?;
-    let count = bill.line_count();
-    match change {
-        Change::Set(place, line) => {
-            if place >= count || !have_ends(nodes.as_slice(), &[line]) {
-                return Err(Fail::new("no line"));
-            }
-            Ok(bill.with_line_at(alloc, place, &line)?)
-        }
-        Change::Insert(place, line) => {
-            if place > count || !have_ends(nodes.as_slice(), &[line]) {
-                return Err(Fail::new("no line"));
-            }
-            Ok(bill.with_line_before(alloc, place, &line)?)
-        }
-        Change::Remove(place) => {
-            if place >= count {
-                return Err(Fail::new("no line"));
-            }
-            Ok(bill.without_line_at(alloc, place)?)
-        }
+/// The bill with a line before the one at a place.
+fn with_line_before(
+    alloc: Global,
+    bill: Links,
+    place: usize,
+    line: LineRow,
+) -> Result<Links, Fail> {
+    if place > bill.line_count() || !have_ends(bill.nodes(), &[line]) {
+        return Err(Fail::new("no line"));
     }
+    Ok(bill.with_line_before(alloc, place, &line)?)
+}
+
+/// The bill without the line at a place.
+fn without_line_at(alloc: Global, bill: Links, place: usize) -> Result<Links, Fail> {
+    if place >= bill.line_count() {
+        return Err(Fail::new("no line"));
+    }
+    Ok(bill.without_line_at(alloc, place)?)
+}
+
+/// The kettle whose plug has a cable of its own in place of its plastic.
+fn kettle_of_two_cables(alloc: Global) -> Result<Links, Fail> {
+    let line = line(&("plug", "cable", 1))?;
+    with_line_at(alloc, kettle(alloc)?, 5, line)
+}
+
+/// Fails unless the kettle whose plug has a cable of its own weighs this.
+fn two_cables_weigh(alloc: Global, wanted: &[Option<u128>]) -> Result<(), Fail> {
+    let bill = kettle_of_two_cables(alloc)?;
+    weigh(alloc, &bill, wanted)
+}
+
+/// Fails unless the kettle without a plug weighs this.
+fn no_plug_weighs(alloc: Global, wanted: &[Option<u128>]) -> Result<(), Fail> {
+    let bill = without_line_at(alloc, kettle(alloc)?, 3)?;
+    weigh(alloc, &bill, wanted)
 }
 
 #[test]
 fn a_changed_line_changes_the_masses_above_it(rt: HostRuntime) -> Result<(), Fail> {
-    let alloc = rt.alloc();
-    let bill = changed(alloc, Change::Set(5, line("plug", "cable", 1)?))?;
-    weigh(
-        alloc,
-        &bill,
+    two_cables_weigh(
+        rt.alloc(),
         &[Some(10), Some(5), Some(40), Some(130), Some(50)],
     )?;
-    let bill = changed(alloc, Change::Remove(3))?;
-    weigh(
-        alloc,
-        &bill,
+    no_plug_weighs(
+        rt.alloc(),
         &[Some(10), Some(5), Some(40), Some(80), Some(30)],
     )
 }
 
+/// The place of a line on a cycle.
+fn line_on_cycle(alloc: Global, bill: &Links) -> Result<Option<usize>, Fail> {
+    Ok(bill.line_on_cycle(alloc)?)
+}
+
+/// The place of a line of the kettle on a cycle.
+fn cycle_of_kettle(alloc: Global) -> Result<Option<usize>, Fail> {
+    let bill = kettle(alloc)?;
+    line_on_cycle(alloc, &bill)
+}
+
+/// The kettle whose cable holds the kettle.
+fn kettle_in_its_cable(alloc: Global) -> Result<Links, Fail> {
+    let line = line(&("cable", "kettle", 1))?;
+    with_line_before(alloc, kettle(alloc)?, 1, line)
+}
+
+/// The place of a line on a cycle where the cable holds the kettle.
+fn cycle_of_cable(alloc: Global) -> Result<Option<usize>, Fail> {
+    let bill = kettle_in_its_cable(alloc)?;
+    line_on_cycle(alloc, &bill)
+}
+
 #[test]
 fn a_line_on_a_cycle_is_told(rt: HostRuntime) -> Result<(), Fail> {
-    let alloc = rt.alloc();
-    same(kettle(alloc)?.line_on_cycle(alloc)?, None)?;
-    let bill = changed(alloc, Change::Insert(1, line("cable", "kettle", 1)?))?;
-    let place = bill.line_on_cycle(alloc)?;
+    expect_eq(&cycle_of_kettle(rt.alloc())?, &None)?;
+    let place = cycle_of_cable(rt.alloc())?;
     if place == Some(1) || place == Some(3) {
         return Ok(());
     }
     Err(Fail::new(format_args!("the line at {place:?}")))
 }
 
-/// Two materials, and layers of two parts above them, each of which has two lines to the layer below.
-fn layers(alloc: Global, many: u8, count: u32) -> Result<Links, Fail> {
-    let mut nodes = codes(alloc, &["100a", "100b"])?;
+/// The code of a part: its layer and its side.
+fn part(alloc: Global, layer: u32, side: &str) -> Result<Code, Fail> {
+    let word = format!(in alloc; "{layer}{side}")?;
+    code(word.as_str())
+}
+
+/// The codes of two materials, and of layers of two parts above them.
+fn layer_nodes(alloc: Global, many: u8) -> Result<Vec<Code>, Fail> {
+    let mut nodes = Vec::new(alloc);
+    for layer in 100..=100 + u32::from(many) {
+        for side in ["a", "b"] {
+            nodes.push(part(alloc, layer, side)?)?;
+        }
+    }
+    Ok(nodes)
+}
+
+/// Appends the lines of a part to the two parts of the layer below.
+fn push_lines(
+    alloc: Global,
+    lines: &mut Vec<LineRow>,
+    parent: Code,
+    below: u32,
+    count: u32,
+) -> Result<(), Fail> {
+    for side in ["a", "b"] {
+        let child = part(alloc, below, side)?;
+        lines.push(LineRow {
+            parent,
+            child,
+            count,
+        })?;
+    }
+    Ok(())
+}
+
+/// The lines of layers of two parts, each of which has two to the layer below.
+fn layer_lines(alloc: Global, many: u8, count: u32) -> Result<Vec<LineRow>, Fail> {
     let mut lines = Vec::new(alloc);
     for layer in 101..=100 + u32::from(many) {
         for side in ["a", "b"] {
-            let parent = Code::read(format!(in alloc; "{layer}{side}")?.as_bytes())?;
-            nodes.push(parent)?;
-            for below in ["a", "b"] {
-                let child = format!(in alloc; "{}{below}", layer - 1)?;
-                let child = Code::read(child.as_bytes())?;
-                lines.push(LineRow {
-                    parent,
-                    child,
-                    count,
-                })?;
-            }
+            let parent = part(alloc, layer, side)?;
+            push_lines(alloc, &mut lines, parent, layer - 1, count)?;
         }
     }
-    bill_of(alloc, nodes, 2, lines.as_slice())
+    Ok(lines)
+}
+
+/// Two materials, and layers of two parts above them, each of which has two lines to the layer below.
+fn layers(alloc: Global, many: u8, count: u32) -> Result<Links, Fail> {
+    let lines = layer_lines(alloc, many, count)?;
+    bill_of(alloc, layer_nodes(alloc, many)?, 2, &lines)
+}
+
+/// A 1 for each of two materials, and zeros for the other nodes.
+fn ones(alloc: Global, count: usize) -> Result<Vec<u128>, AllocError> {
+    let mut own: Vec<u128> = Vec::from_slice(alloc, &[1; 2])?;
+    own.resize(count, 0)?;
+    Ok(own)
 }
 
 /// The masses where the two materials of a bill weigh 1.
 fn masses_of_ones(alloc: Global, bill: &Links) -> Result<Vec<Option<u128>>, Fail> {
-    let mut own: Vec<u128> = Vec::from_slice(alloc, &[1; 2])?;
-    own.resize(bill.nodes().len(), 0)?;
+    let own = ones(alloc, bill.nodes().len())?;
     if own.len() != bill.nodes().len() {
         return Err(Fail::new("other nodes"));
     }
@@ -337,64 +486,89 @@ fn first_other<T: PartialEq>(list: &[T], rows: &[(usize, T)]) -> Option<usize> {
     None
 }
 
+/// Fails unless the list has so many items, and these at their places.
+fn has_items<T: PartialEq>(list: &[T], len: usize, rows: &[(usize, T)]) -> Result<(), Fail> {
+    expect_eq(&list.len(), &len)?;
+    expect_eq(&first_other(list, rows), &None)
+}
+
 /// How many marks are set.
 fn count_set(marks: &[bool]) -> usize {
     marks.iter().filter(|mark| **mark).count()
 }
 
+/// Fails unless the parts and the materials of 40 layers weigh this.
+fn forty_layers_weigh(alloc: Global, bill: &Links) -> Result<(), Fail> {
+    let masses = masses_of_ones(alloc, bill)?;
+    has_items(masses.as_slice(), 82, &[(2, Some(2)), (81, Some(1 << 40))])
+}
+
+/// Fails unless so many parts reach the node of this word.
+fn is_reached_by(alloc: Global, bill: &Links, word: &str, wanted: usize) -> Result<(), Fail> {
+    let marks = marks_of(alloc, bill, word)?;
+    expect_eq(&count_set(marks.as_slice()), &wanted)
+}
+
 #[test]
 fn forty_layers_count_each_shared_part_as_often_as_it_is_used(rt: HostRuntime) -> Result<(), Fail> {
     let bill = layers(rt.alloc(), 40, 1)?;
-    let masses = masses_of_ones(rt.alloc(), &bill)?;
-    same(masses.len(), 82)?;
-    same(
-        first_other(masses.as_slice(), &[(2, Some(2)), (81, Some(1 << 40))]),
-        None,
-    )?;
-    let marks = bill.marks(rt.alloc(), &Code::read(b"120a")?)?;
-    same(count_set(marks.as_slice()), 40)
+    forty_layers_weigh(rt.alloc(), &bill)?;
+    is_reached_by(rt.alloc(), &bill, "120a", 40)
 }
 
-/// Of the last part of so many layers what it weighs, where each line has a count of 1,000,000 and materials weigh 1.
-fn heavy(alloc: Global, many: u8) -> Result<Option<u128>, Fail> {
-    let bill = layers(alloc, many, 1_000_000)?;
-    let masses = masses_of_ones(alloc, &bill)?;
+/// What the last of the nodes weighs, where materials weigh 1.
+fn last_mass(alloc: Global, bill: &Links) -> Result<Option<u128>, Fail> {
+    let masses = masses_of_ones(alloc, bill)?;
     match masses.last() {
         Some(mass) => Ok(*mass),
         None => Err(Fail::new("no nodes")),
     }
 }
 
+/// Of the last part of so many layers what it weighs, where each line has a count of 1,000,000 and materials weigh 1.
+fn heavy(alloc: Global, many: u8) -> Result<Option<u128>, Fail> {
+    let bill = layers(alloc, many, 1_000_000)?;
+    last_mass(alloc, &bill)
+}
+
+/// Fails unless the last part of so many layers weighs this.
+fn layers_weigh(alloc: Global, rows: &[(u8, Option<u128>)]) -> Result<(), Fail> {
+    for (many, wanted) in rows {
+        expect_eq(&heavy(alloc, *many)?, wanted)?;
+    }
+    Ok(())
+}
+
 /// What a material of this mass weighs, and then a pair of it and a single one.
 fn pair_and_single(alloc: Global, own: u128) -> Result<Vec<Option<u128>>, Fail> {
-    let nodes = codes(alloc, &["m", "pair", "single"])?;
-    let lines = [line("pair", "m", 2)?, line("single", "m", 1)?];
-    let bill = bill_of(alloc, nodes, 1, &lines)?;
+    let words = ["m", "pair", "single"];
+    let bill = spelled(alloc, &words, 1, &[("pair", "m", 2), ("single", "m", 1)])?;
     if bill.nodes().len() != 3 {
         return Err(Fail::new("not three nodes"));
     }
     Ok(bill.rolled_up(alloc, &[own, 0, 0])?)
 }
 
-/// A failure unless a pair of a material of each mass weighs too much, and one of it doesn't.
+/// Fails unless a pair of a material of this mass weighs too much, and one of it doesn't.
+fn pair_has_no_mass(alloc: Global, mass: u128) -> Result<(), Fail> {
+    let found = pair_and_single(alloc, mass)?;
+    let wanted = [Some(mass), None, Some(mass)];
+    expect_eq(&found.as_slice(), &wanted.as_slice())
+}
+
+/// Fails unless it is so for each mass.
 fn pairs_have_no_mass(alloc: Global, masses: &[u128]) -> Result<(), Fail> {
     for mass in masses {
-        let found = pair_and_single(alloc, *mass)?;
-        if found.as_slice() != [Some(*mass), None, Some(*mass)].as_slice() {
-            return Err(Fail::new(format_args!("masses {found:?}")));
-        }
+        pair_has_no_mass(alloc, *mass)?;
     }
     Ok(())
 }
 
 #[test]
 fn what_weighs_too_much_has_no_mass(rt: HostRuntime) -> Result<(), Fail> {
-    let alloc = rt.alloc();
     let six = 64_000_000_000_000_000_000_000_000_000_000_000_000;
-    same(heavy(alloc, 6)?, Some(six))?;
-    same(heavy(alloc, 7)?, None)?;
-    same(heavy(alloc, 40)?, None)?;
-    pairs_have_no_mass(alloc, &[1 << 127, u128::MAX])
+    layers_weigh(rt.alloc(), &[(6, Some(six)), (7, None), (40, None)])?;
+    pairs_have_no_mass(rt.alloc(), &[1 << 127, u128::MAX])
 }
 
 /// All places below this one.
@@ -408,40 +582,45 @@ fn places_below(alloc: Global, count: usize) -> Result<Vec<usize>, Fail>
     Ok(places)
 }
 
+/// How many parts reach each node.
+fn counts_of_all(alloc: Global, bill: &Links) -> Result<Vec<usize>, Fail> {
+    let places = places_below(alloc, bill.nodes().len())?;
+    Ok(bill.reach_counts(alloc, places.as_slice())?)
+}
+
 #[test]
 fn more_nodes_are_counted_than_a_number_has_bits(rt: HostRuntime) -> Result<(), Fail> {
-    let alloc = rt.alloc();
-    let bill = layers(alloc, 40, 3)?;
-    let places = places_below(alloc, bill.nodes().len())?;
-    let counts = bill.reach_counts(alloc, places.as_slice())?;
-    same(counts.len(), 82)?;
-    same(
-        first_other(
-            counts.as_slice(),
-            &[
-                (0, 80),
-                (1, 80),
-                (2, 78),
-                (63, 18),
-                (64, 16),
-                (80, 0),
-                (81, 0),
-            ],
-        ),
-        None,
+    let bill = layers(rt.alloc(), 40, 3)?;
+    let counts = counts_of_all(rt.alloc(), &bill)?;
+    has_items(
+        counts.as_slice(),
+        82,
+        &[
+            (0, 80),
+            (1, 80),
+            (2, 78),
+            (63, 18),
+            (64, 16),
+            (80, 0),
+            (81, 0),
+        ],
     )
+}
+
+/// Whether the node at place 40 is or reaches each node.
+fn reached_among_all(alloc: Global, bill: &Links) -> Result<Vec<bool>, Fail> {
+    let count = bill.nodes().len();
+    if count <= 40 {
+        return Err(Fail::new("too few layers"));
+    }
+    let places = places_below(alloc, count)?;
+    Ok(bill.reached_among(alloc, 40, places.as_slice())?)
 }
 
 #[test]
 fn more_targets_are_told_than_a_number_has_bits(rt: HostRuntime) -> Result<(), Fail> {
-    let alloc = rt.alloc();
-    let bill = layers(alloc, 40, 3)?;
-    let count = bill.nodes().len();
-    let places = places_below(alloc, count)?;
-    if count <= 40 {
-        return Err(Fail::new("too few layers"));
-    }
-    let marks = bill.reached_among(alloc, 40, places.as_slice())?;
-    same(marks.len(), 82)?;
-    same(count_set(marks.as_slice()), 41)
+    let bill = layers(rt.alloc(), 40, 3)?;
+    let marks = reached_among_all(rt.alloc(), &bill)?;
+    expect_eq(&marks.len(), &82)?;
+    expect_eq(&count_set(marks.as_slice()), &41)
 }

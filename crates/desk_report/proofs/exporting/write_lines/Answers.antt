@@ -1,20 +1,51 @@
--- What was written when a line failed is a beginning of the lines.
-use Rattle.std.proofs.Common.{◌≡◌, suc, ◌++◌, sym, ap, ◌∙◌, subst, take, drop}
+-- The lines of a few more records were written, or a beginning of theirs when they failed.
+use Rattle.std.proofs.Common.{◌≡◌, [], ◌++◌, sym, ap, ◌∙◌, subst, rules, append_assoc, append-nil}
+use Rattle.std.specs.Io.KnownBytes.{Appends}
+use Rattle.std.specs.Slice.Iter.{chunks_rest}
+use Rattle.std.proofs.KnownBytes.{Appends-nil, Appends-trans}
+use Rattle.std.proofs.lemmas.List.{nil_from_length}
+use Rattle.std.proofs.lemmas.List.Concat.{flat_map-append}
 use Rattle.desk_edge.specs.Transfer.{AppendsBeginning}
 use Rattle.desk_report.specs.Lines.{line_of, record_lines}
-use Rattle.desk_report.proofs.Parts.{begun, on_error, parts_at}
+use Rattle.desk_report.proofs.Parts.{begun, on_error}
 use Rattle.desk_report.proofs.exporting.write_lines.Goals as goal
 
-pub returns-in_err-write_line-clause-beginning : goal.returns-in_err-write_line-clause-beginning
-returns-in_err-write_line-clause-beginning g c =
-    let (so_far, input, count) = c.loop-kept.invariant in
-    let records = c.args.records.now in
-    let i = c.loop-kept.kept-index in
-    let kept = c.kept-item.result in
-    let front = record_lines (take i records) in
-    let behind = record_lines (drop (suc i) records) in
-    let parts : record_lines records ≡ front ++ line_of kept ++ behind =
-    parts_at line_of records i kept c.loop-kept-test.true ∙ ap (λ r. front ++ line_of r ++ behind) (sym c.kept-item.is) in
+pub loop-few-init : goal.loop-few-init
+loop-few-init g c = (search rules, tt, search rules, ([], Appends-nil (g.L.Link.written c.args.link.now), search rules), search rules, search rules)
+
+pub loop-few-preserved : goal.loop-few-preserved
+loop-few-preserved g c =
+    let (goes, ends, size, (front, so_far, parts), input, count) = c.loop-few.invariant in
+    let few = c.in-Some.few.now in
+    let rest = chunks_rest c.next.new.self in
+    let steps = c.in-Some.ensures.steps in (
+      search rules,
+      tt,
+      steps.0 ∙ size,
+      (
+        front ++ record_lines few,
+        Appends-trans _ _ _ front (record_lines few) so_far c.in_ok-write_few.ensures.ok,
+        parts ∙ ap (λ r. front ++ record_lines r) steps.1.0 ∙ ap (λ t. front ++ t) (flat_map-append line_of few rest)
+            ∙ sym (append_assoc front (record_lines few) (record_lines rest)),
+      ),
+      c.write_few.ensures.input_stays ∙ input,
+      c.in_ok-write_few.ensures.steady (λ other. cc other) ∙ count,
+    )
+
+pub returns-in_err-write_few-clause-beginning : goal.returns-in_err-write_few-clause-beginning
+returns-in_err-write_few-clause-beginning g c =
+    let (goes, ends, size, (front, so_far, parts), input, count) = c.loop-few.invariant in
+    let few = c.in-Some.few.now in
+    let rest = chunks_rest c.next.new.self in
+    let whole : record_lines c.args.records.now ≡ front ++ record_lines few ++ record_lines rest =
+    parts ∙ ap (λ r. front ++ record_lines r) c.in-Some.ensures.steps.1.0 ∙ ap (λ t. front ++ t) (flat_map-append line_of few rest)
+    ∙ sym (append_assoc front (record_lines few) (record_lines rest)) in
     on_error _ c.from_residual.result
-    (subst (AppendsBeginning (g.L.Link.written c.args.link.now) (g.L.Link.written c.write_line.new.link)) (sym parts)
-    (begun _ _ _ front (line_of kept) behind so_far c.in_err-write_line.ensures.beginning))
+    (subst (AppendsBeginning (g.L.Link.written c.args.link.now) (g.L.Link.written c.write_few.new.link)) (sym whole)
+    (begun _ _ _ front (record_lines few) (record_lines rest) so_far c.in_err-write_few.ensures.beginning))
+
+pub returns-clause-ok : goal.returns-clause-ok
+returns-clause-ok g c =
+    let (goes, ends, size, (front, so_far, parts), input, count) = c.loop-few.invariant in
+    let none = nil_from_length _ c.in-None.ensures.steps.1.0 in
+    subst (Appends (g.L.Link.written c.args.link.now) (g.L.Link.written c.loop-few.link)) (sym (parts ∙ ap (λ r. front ++ record_lines r) none ∙ append-nil front)) so_far

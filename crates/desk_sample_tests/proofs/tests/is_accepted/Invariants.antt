@@ -1,6 +1,6 @@
 -- The tables stay sound.
 use Rattle.desk_history.specs.Sound.{Sound}
-use Rattle.desk_sample_tests.proofs.tests.accepted.Given as goal
+use Rattle.desk_sample_tests.proofs.tests.is_accepted.Given as goal
 
 abbrev pub invariant-loop-edit : goal.invariant-loop-edit
 invariant-loop-edit l =
