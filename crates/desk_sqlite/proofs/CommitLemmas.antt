@@ -17,13 +17,13 @@ inside_itself s = record { clean = λ clean. clean; kept = λ _ _. record { was_
 pub none_made : (rows : List Row) → AreMade [] rows rows
 none_made rows key = refl
 
-changed_push : (changes : List Change) (change : Change) (key : Key) (body : Option (List ℕ)) → changed_all (changes ++ change ∷ []) key body ≡ changed change key (changed_all changes key body)
-changed_push [] change key body = refl
-changed_push (first ∷ changes) change key body = changed_push changes change key (changed first key body)
+changed_then : (changes more : List Change) (key : Key) (body : Option (List ℕ)) → changed_all (changes ++ more) key body ≡ changed_all more key (changed_all changes key body)
+changed_then [] more key body = refl
+changed_then (first ∷ changes) more key body = changed_then changes more key (changed first key body)
 
--- one change more
-pub made_push : (changes : List Change) (change : Change) (old mid new : List Row) → AreMade changes old mid → IsMade change mid new → AreMade (changes ++ change ∷ []) old new
-made_push changes change old mid new all one key = one key ∙ ap (changed change key) (all key) ∙ sym (changed_push changes change key (content_of old key))
+-- some changes more
+pub made_then : (changes more : List Change) (old mid new : List Row) → AreMade changes old mid → AreMade more mid new → AreMade (changes ++ more) old new
+made_then changes more old mid new first then key = then key ∙ ap (changed_all more key) (first key) ∙ sym (changed_then changes more key (content_of old key))
 
 -- nothing is made by no change
 pub none_left_out : (s : State) (changes : List Change) → Leaves s s (Ok tt) (AreMade (take 0 changes))
@@ -40,5 +40,5 @@ one_left_more a b c changes i change within is later all one clean inside =
       λ store.
           let m = mid.1 store in
           let n = last.1 m.0 in
-          (n.0, subst (λ made. AreMade made (rows_in a) (rows_in c)) (sym more) (made_push (take i changes) change (rows_in a) (rows_in b) (rows_in c) m.1 n.1)),
+          (n.0, subst (λ made. AreMade made (rows_in a) (rows_in c)) (sym more) (made_then (take i changes) (change ∷ []) (rows_in a) (rows_in b) (rows_in c) m.1 n.1)),
     )

@@ -25,7 +25,7 @@ use Rattle.desk_edge.specs.declared.key.Key.{Key}
 use Rattle.desk_edge.specs.declared.record.Record.{Record}
 use Rattle.desk_sqlite.specs.Content.{content_of, IsPut, IsOf, AreKeyed, AreNext, AreLooked, AreNextRows, AreFirstRows, AreNextPast, AreFirstPast, AreShown, IsShown}
 use Rattle.desk_sqlite.specs.Rows.{is_of, body_of, same_key}
-use Rattle.desk_sqlite.specs.Store.{IsStore, rows_in, Dropped, Inserted, any_key, is_within, is_beyond}
+use Rattle.desk_sqlite.specs.Store.{IsStore, rows_in, Dropped, any_key, is_within, is_beyond}
 use Rattle.desk_sqlite.proofs.ContentLemmas.{both_true, same_number, number_itself}
 use Rattle.desk_sqlite.proofs.ListLemmas.{find_only, le_lt}
 use Rattle.desk_sqlite.proofs.ValueLemmas.{columns_of, of_columns, number_eq, blob_eq, bytes_itself, same_int}
@@ -37,9 +37,9 @@ twice : {X : Type 0} (b : Bool) (x y : Option X) → cond b x (cond b None y) �
 twice true x y = refl
 twice false x y = refl
 
-pub put_made : (kept : Record) (old mid new : List Row) → Dropped kept.kind kept.code old mid → Inserted kept.kind kept.code kept.body mid new → IsPut kept old new
+pub put_made : (kept : Record) (old mid new : List Row) → Dropped kept.kind kept.code old mid → IsPut kept mid new → IsPut kept old new
 put_made kept old mid new d i k =
-    i k.kind k.code ∙ ap (λ o. cond (same_key kept.kind kept.code k.kind k.code) (Some kept.body) o) (d k.kind k.code) ∙ twice (same_key kept.kind kept.code k.kind k.code) (Some kept.body) (body_of old k.kind k.code)
+    i k ∙ ap (λ o. cond (same_key kept.kind kept.code k.kind k.code) (Some kept.body) o) (d k.kind k.code) ∙ twice (same_key kept.kind kept.code k.kind k.code) (Some kept.body) (body_of old k.kind k.code)
 
 -- ---- looks
 

@@ -8,13 +8,13 @@ use Rattle.sqlite.specs.Effect.{Database}
 use Rattle.sqlite.specs.State.{State, HasCleanDisk, Survives, ExecutesInside, IsUnchanged, IsRolledBack, KeepsCommit}
 use Rattle.sqlite.proofs.InsideLemmas.{inside_keeps, keeps_then}
 use Rattle.desk_edge.specs.declared.record.Record.{Record}
-use Rattle.desk_sqlite.specs.Content.{IsPut}
+use Rattle.desk_sqlite.specs.Content.{ArePut, IsPut}
 use Rattle.desk_sqlite.specs.Inside.{IsDone, IsInside, Leaves, Spares}
-use Rattle.desk_sqlite.specs.Store.{IsStore, rows_in, Dropped, Inserted}
-use Rattle.desk_sqlite.specs.Texts.{insert_text, drop_text}
+use Rattle.desk_sqlite.specs.Store.{IsStore, rows_in, Dropped}
+use Rattle.desk_sqlite.specs.Texts.{insert_text, four_text, drop_text}
 use Rattle.desk_sqlite.proofs.FindLemmas.{put_made}
 use Rattle.desk_sqlite.proofs.PastLemmas.{store_same}
-use Rattle.desk_sqlite.proofs.StateLemmas.{drop_made, insert_made}
+use Rattle.desk_sqlite.proofs.StateLemmas.{drop_made, four_made, four_params, insert_made}
 
 on_ok : {X E : Type 0} (P Q : Type 0) (r : Result X E) → (P → Q) → OnOk r P → OnOk r Q
 on_ok P Q (Ok x) f h = f h
@@ -34,21 +34,24 @@ inside_then a b c one two on = record {
 }
 
 module _ (old new : State) where
+  leaves : (sql : List ℕ) (params : Row) (Did : List Row → List Row → Type 0) → ((count : ℕ) → ExecutesInside 0 sql params old new (Ok count) → IsStore old → IsStore new × Did (rows_in old) (rows_in new))
+      → (r : Result ℕ Error) (done : Result (Unit {0}) Error) → IsDone r done → (HasCleanDisk new → IsTrue old.in_transaction → ExecutesInside 0 sql params old new r) → Leaves old new done Did
+  leaves sql params Did made (Ok count) done is ran clean inside =
+      let h = ran clean inside in
+      subst (λ d. OnOk d (IsTrue new.in_transaction × (IsStore old → IsStore new × Did (rows_in old) (rows_in new)))) (sym is) (h.1.mode, made count h)
+  leaves sql params Did made (Err e) done is ran clean inside = subst (λ d. OnOk d (IsTrue new.in_transaction × (IsStore old → IsStore new × Did (rows_in old) (rows_in new)))) (sym is) tt
+
   pub drop_leaves : (kind : ℕ) (code : List ℕ) (r : Result ℕ Error) (done : Result (Unit {0}) Error) → IsDone r done
       → (HasCleanDisk new → IsTrue old.in_transaction → ExecutesInside 0 drop_text (Int (pos kind) ∷ Blob code ∷ []) old new r) → Leaves old new done (Dropped kind code)
-  drop_leaves kind code (Ok count) done is ran clean inside =
-      let h = ran clean inside in
-      subst (λ d. OnOk d (IsTrue new.in_transaction × (IsStore old → IsStore new × Dropped kind code (rows_in old) (rows_in new)))) (sym is) (h.1.mode, λ store. drop_made old new store kind code count h)
-  drop_leaves kind code (Err e) done is ran clean inside =
-      subst (λ d. OnOk d (IsTrue new.in_transaction × (IsStore old → IsStore new × Dropped kind code (rows_in old) (rows_in new)))) (sym is) tt
+  drop_leaves kind code = leaves drop_text (Int (pos kind) ∷ Blob code ∷ []) (Dropped kind code) (λ count h store. drop_made old new store kind code count h)
 
-  pub insert_leaves : (kind : ℕ) (code body : List ℕ) (r : Result ℕ Error) (done : Result (Unit {0}) Error) → IsDone r done
-      → (HasCleanDisk new → IsTrue old.in_transaction → ExecutesInside 0 insert_text (Int (pos kind) ∷ Blob code ∷ Blob body ∷ []) old new r) → Leaves old new done (Inserted kind code body)
-  insert_leaves kind code body (Ok count) done is ran clean inside =
-      let h = ran clean inside in
-      subst (λ d. OnOk d (IsTrue new.in_transaction × (IsStore old → IsStore new × Inserted kind code body (rows_in old) (rows_in new)))) (sym is) (h.1.mode, λ store. insert_made old new store kind code body count h)
-  insert_leaves kind code body (Err e) done is ran clean inside =
-      subst (λ d. OnOk d (IsTrue new.in_transaction × (IsStore old → IsStore new × Inserted kind code body (rows_in old) (rows_in new)))) (sym is) tt
+  pub insert_leaves : (kept : Record) (r : Result ℕ Error) (done : Result (Unit {0}) Error) → IsDone r done
+      → (HasCleanDisk new → IsTrue old.in_transaction → ExecutesInside 0 insert_text (Int (pos kept.kind) ∷ Blob kept.code ∷ Blob kept.body ∷ []) old new r) → Leaves old new done (IsPut kept)
+  insert_leaves kept = leaves insert_text _ (IsPut kept) (λ count h store. insert_made old new store kept count h)
+
+  pub four_leaves : (first second third fourth : Record) (r : Result ℕ Error) (done : Result (Unit {0}) Error) → IsDone r done
+      → (HasCleanDisk new → IsTrue old.in_transaction → ExecutesInside 0 four_text (four_params first second third fourth) old new r) → Leaves old new done (ArePut (first ∷ second ∷ third ∷ fourth ∷ []))
+  four_leaves first second third fourth = leaves four_text _ (ArePut (first ∷ second ∷ third ∷ fourth ∷ [])) (λ count h store. four_made old new store first second third fourth count h)
 
   -- what a refused statement leaves
   pub refused_spares : (sql : List ℕ) (params : Row) (held : ℕ) (r : Result ℕ Error) (done : Result (Unit {0}) Error) → IsDone r done
@@ -68,23 +71,24 @@ module _ (old new : State) where
           by (inr back) = inr back.autocommit
       go (inr h) = same h.2
 
+-- two things that are done in turn
+pub left_then : (a b c : State) (One Two Both : List Row → List Row → Type 0) (done : Result (Unit {0}) Error) → IsInside b c
+    → ((x y z : List Row) → One x y → Two y z → Both x z) → Leaves a b (Ok tt) One → Leaves b c done Two → Leaves a c done Both
+left_then a b c One Two Both done later joins one two clean inside =
+    let before = one (later.clean clean) inside in
+    on_ok _ _ done (λ after. (
+      after.0,
+      λ store.
+          let d = before.1 store in
+          let i = after.1 d.0 in
+          (i.0, joins (rows_in a) (rows_in b) (rows_in c) d.1 i.1),
+    )) (two clean before.0)
+
 -- a drop and then an insert put a record in
 pub put_leaves : (a b c : State) (kept : Record) (done : Result (Unit {0}) Error) (code : List ℕ) → IsInside b c
-    → Leaves a b (Ok tt) (Dropped kept.kind code) → Leaves b c done (Inserted kept.kind kept.code kept.body) → code ≡ kept.code → Leaves a c done (IsPut kept)
-put_leaves a b c kept done code after dropped inserted code_is clean inside =
-    let drop : Leaves a b (Ok tt) (Dropped kept.kind kept.code) = subst (λ (l : List ℕ). Leaves a b (Ok tt) (Dropped kept.kind l)) code_is dropped in
-    let one = drop (after.clean clean) inside in
-    on_ok _ _ done (λ two. (
-      two.0,
-      λ store.
-          let d = one.1 store in
-          let i = two.1 d.0 in
-          (i.0, put_made kept (rows_in a) (rows_in b) (rows_in c) d.1 i.1),
-    )) (inserted clean one.0)
-
--- an insert alone puts a record in
-pub inserted_put : (a b : State) (kept : Record) (done : Result (Unit {0}) Error) → Leaves a b done (Inserted kept.kind kept.code kept.body) → Leaves a b done (IsPut kept)
-inserted_put a b kept done inserted clean inside = on_ok _ _ done (λ h. (h.0, λ store. let it = h.1 store in (it.0, λ key. it.1 key.kind key.code))) (inserted clean inside)
+    → Leaves a b (Ok tt) (Dropped kept.kind code) → Leaves b c done (IsPut kept) → code ≡ kept.code → Leaves a c done (IsPut kept)
+put_leaves a b c kept done code later dropped put code_is =
+    left_then a b c (Dropped kept.kind kept.code) (IsPut kept) (IsPut kept) done later (put_made kept) (subst (λ (l : List ℕ). Leaves a b (Ok tt) (Dropped kept.kind l)) code_is dropped) put
 
 -- what comes behind a statement that was refused
 module _ (a b c : State) (one : IsInside a b) (two : IsInside b c)
@@ -96,14 +100,14 @@ module _ (a b c : State) (one : IsInside a b) (two : IsInside b c)
       go mid inside kept (inl h) = keeps_then a b c (one.kept mid inside) (kept h.1)
       go mid inside kept (inr e) = subst (KeepsCommit a) (sym (ended e)) (one.kept mid inside)
 
-  pub refused_put : (kept : Record) (done : Result (Unit {0}) Error) → (b.in_transaction ≡ false → OnOk done ⊥) → Leaves b c done (IsPut kept) → Leaves a c done (IsPut kept)
-  refused_put kept done ended put clean inside = go (spares (two.clean clean) inside)
+  pub refused_leaves : (Did : List Row → List Row → Type 0) (done : Result (Unit {0}) Error) → (b.in_transaction ≡ false → OnOk done ⊥) → Leaves b c done Did → Leaves a c done Did
+  refused_leaves Did done ended left clean inside = go (spares (two.clean clean) inside)
     where
-      go : ((b.now ≡ a.now) × IsTrue b.in_transaction) ⊎ (b.in_transaction ≡ false) → OnOk done (IsTrue c.in_transaction × (IsStore a → IsStore c × IsPut kept (rows_in a) (rows_in c)))
+      go : ((b.now ≡ a.now) × IsTrue b.in_transaction) ⊎ (b.in_transaction ≡ false) → OnOk done (IsTrue c.in_transaction × (IsStore a → IsStore c × Did (rows_in a) (rows_in c)))
       go (inl h) = on_ok _ _ done (λ went. (
         went.0,
         λ store.
             let it = went.1 (store_same a b h.0 store) in
-            (it.0, subst (λ (d : Database). IsPut kept (d.trees 0) (rows_in c)) h.0 it.1),
-      )) (put clean h.1)
+            (it.0, subst (λ (d : Database). Did (d.trees 0) (rows_in c)) h.0 it.1),
+      )) (left clean h.1)
       go (inr e) = on_ok ⊥ _ done (λ never. absurd never) (ended e)

@@ -1,5 +1,5 @@
 -- What a statement leaves of a connection's state, and what it does to a store.
-use Rattle.std.proofs.Common.{◌≡◌, ◌&&◌, inl, inr, ℕ, zero, suc, ℤ, pos, List, [], ◌∷◌, map, take, Bool, true, false, Option, option_map, Some, None, Ok, IsTrue, refl, sym, ap, subst, ◌∙◌, true≢false}
+use Rattle.std.proofs.Common.{◌≡◌, ◌&&◌, inl, inr, ℕ, zero, suc, ◌/◌, ℤ, pos, List, [], ◌∷◌, length, map, take, Bool, true, false, Option, option_map, Some, None, Ok, IsTrue, refl, sym, ap, subst, ◌∙◌, true≢false}
 use Rattle.std.proofs.lemmas.Cmp.{tied_itself}
 use Rattle.std.specs.List.Sorted.{IsSorted}
 use Rattle.std.specs.Cmp.Lexicographic.{slice_cmp}
@@ -18,26 +18,34 @@ use Rattle.sqlite_sql.proofs.QueryLemmas.{output_cmp_total}
 use Rattle.sqlite_sql.specs.Program.{overlay}
 use Rattle.sqlite_schema.specs.declared.command.Returning.{Returning}
 use Rattle.sqlite_rules.specs.Lists.{Has}
-use Rattle.sqlite_rules.specs.Edit.{is_taken, without_all}
-use Rattle.sqlite_trees.specs.Tree.{rowid}
+use Rattle.sqlite_rules.specs.Edit.{are_fresh, is_taken, next_rowid, put_all, without_all}
+use Rattle.sqlite_trees.specs.Tree.{put_row, rowid}
 use Rattle.sqlite_rules.specs.Calls.{ids_of}
 use Rattle.sqlite_resolve.specs.declared.compiled.Compiled.{Compiled}
 use Rattle.sqlite.specs.declared.error.Error.{Error}
 use Rattle.sqlite.specs.Given.{IsPlain}
+use Rattle.sqlite.specs.Effect.{value_rows}
+use Rattle.sqlite.specs.Rows.{stamped}
+use Rattle.sqlite.proofs.Callers.{command_of}
+use Rattle.sqlite_schema.specs.declared.command.Command.TheVariants.{Insert}
+use Rattle.sqlite_schema.specs.declared.command.Source.TheVariants.{Values}
 use Rattle.sqlite.specs.Listing.{understood}
 use Rattle.sqlite.specs.State.{State, IsNotRun, FailsToShow, FailsToQuery, ShowsRows, Shown, ExecutesInside}
-use Rattle.desk_edge.specs.Content.{is_past, key_cmp}
+use Rattle.desk_edge.specs.Content.{changed_all, is_past, key_cmp}
+use Rattle.desk_edge.specs.declared.change.Change.TheVariants.{Put}
 use Rattle.desk_edge.specs.declared.key.Key.{Key}
+use Rattle.desk_edge.specs.declared.record.Record.{Record}
 use Rattle.desk_edge.proofs.Keys.{key_order}
-use Rattle.desk_sqlite.specs.Content.{AreKeyed, IsOf, AreNext, AreLooked}
-use Rattle.desk_sqlite.specs.Texts.{first_text, within_text, beyond_text, insert_text, drop_text}
+use Rattle.desk_sqlite.specs.Content.{AreKeyed, IsOf, AreNext, AreLooked, ArePut, IsPut, content_of}
+use Rattle.desk_sqlite.specs.Texts.{first_text, within_text, beyond_text, insert_text, four_text, drop_text}
 use Rattle.desk_sqlite.specs.Rows.{is_of, body_of, AreNumbered}
-use Rattle.desk_sqlite.specs.Store.{IsOurs, IsStore, rows_in, Dropped, Inserted, any_key, is_within, is_beyond}
-use Rattle.desk_sqlite.proofs.ContentLemmas.{drop_numbered, drop_bodies, insert_numbered, insert_bodies}
-use Rattle.desk_sqlite.proofs.MeaningLemmas.{drop_tests, drops, inserts, row_of, shows_first, shows_within, shows_beyond, within_tests, beyond_tests}
+use Rattle.desk_sqlite.specs.Store.{IsOurs, IsStore, rows_in, Dropped, any_key, is_within, is_beyond}
+use Rattle.desk_sqlite.proofs.ContentLemmas.{both_true, drop_numbered, drop_bodies, insert_numbered, insert_bodies}
+use Rattle.desk_sqlite.proofs.MeaningLemmas.{drop_tests, drops, inserts, new_row, new_rows, row_of, sources, shows_first, shows_within, shows_beyond, within_tests, beyond_tests}
 use Rattle.desk_sqlite.proofs.ReadLemmas.{passes, shown_of, AreListed, listed_in, numbers_in}
-use Rattle.desk_sqlite.proofs.TextLemmas.{first_query}
-use Rattle.desk_sqlite.proofs.ListLemmas.{has_put, kept_put, le_lt, none_found, sorted_first, sorted_tail, taken_not}
+use Rattle.desk_sqlite.specs.Table.{record_table, store_schema}
+use Rattle.desk_sqlite.proofs.TextLemmas.{first_query, insert_is, insert_plain, four_is, four_plain}
+use Rattle.desk_sqlite.proofs.ListLemmas.{has_put, kept_put, le_lt, none_found, not_false, sorted_first, sorted_tail, taken_not}
 use Rattle.desk_sqlite.proofs.FindLemmas.{are_keyed}
 use Rattle.desk_sqlite.proofs.ValueLemmas.{columns_of, of_columns, number_cmp, number_eq, number_gt, blob_gt}
 
@@ -113,6 +121,42 @@ none_of old new kind code row n keyed here is free stays = ap (option_map (λ r.
             let one : is_eq (value_cmp (rowid row) (rowid row)) ≡ true = ap is_eq (tied_itself value_cmp_total (rowid row)) in
             absurd (true≢false (sym one ∙ apart))
 
+-- what stands in a row that was put in stays as others are put in under numbers that none had
+stays_all : (rows news : List Row) (x : Row) → are_fresh rows news ≡ true → Has rows x → Has (put_all rows news) x
+stays_all rows [] x fresh has = has
+stays_all rows (r ∷ news) x fresh has =
+    let h = both_true _ _ fresh in
+    stays_all (put_row r rows) news x h.1 (kept_put r rows x (not_false _ h.0) has)
+
+numbered_all : (rows : List Row) (records : List Record) → AreNumbered rows → are_fresh rows (new_rows rows records) ≡ true → AreNumbered (put_all rows (new_rows rows records))
+numbered_all rows [] numbered fresh = numbered
+numbered_all rows (kept ∷ more) numbered fresh =
+    let h = both_true _ _ fresh in
+    numbered_all (put_row (new_row rows kept) rows) more (insert_numbered rows numbered kept.kind kept.code (next_rowid rows) kept.body (not_false _ h.0)) h.1
+
+-- where no two rows have one key at the end, none of the records had the key of another row
+put_in_turn : (last : List Row) → AreKeyed last → (rows : List Row) (records : List Record) → last ≡ put_all rows (new_rows rows records) → AreNumbered rows
+    → are_fresh rows (new_rows rows records) ≡ true → ArePut records rows last
+put_in_turn last keyed rows [] is numbered fresh = λ key. ap (λ l. content_of l key) is
+put_in_turn last keyed rows (kept ∷ more) is numbered fresh =
+    let h = both_true _ _ fresh in
+    let free = not_false _ h.0 in
+    let row = new_row rows kept in
+    let next = put_row row rows in
+    let stays : (x : Row) → Has next x → Has last x = λ x has. subst (λ l. Has l x) (sym is) (stays_all next (new_rows next more) x h.1 has) in
+    let none = none_of rows last kept.kind kept.code row (next_rowid rows) keyed (stays row (has_put row rows)) refl free (λ x has. stays x (kept_put row rows x free has)) in
+    let later = put_in_turn last keyed next more is (insert_numbered rows numbered kept.kind kept.code (next_rowid rows) kept.body free) h.1 in
+    λ key. later key ∙ ap (changed_all (map Put more) key) (insert_bodies rows numbered kept.kind kept.code (next_rowid rows) kept.body free none key.kind key.code)
+
+-- what an insert of four records is told
+abbrev pub four_params : Record → Record → Record → Record → Row
+four_params first second third fourth =
+    Int (pos first.kind) ∷ Blob first.code ∷ Blob first.body
+    ∷ Int (pos second.kind) ∷ Blob second.code ∷ Blob second.body
+    ∷ Int (pos third.kind) ∷ Blob third.code ∷ Blob third.body
+    ∷ Int (pos fourth.kind) ∷ Blob fourth.code ∷ Blob fourth.body
+    ∷ []
+
 module _ (old new : State) (store : IsStore old) where
   pub drop_made : (kind : ℕ) (code : List ℕ) (count : ℕ) → ExecutesInside 0 drop_text (Int (pos kind) ∷ Blob code ∷ []) old new (Ok count)
       → IsStore new × Dropped kind code (rows_in old) (rows_in new)
@@ -129,23 +173,28 @@ module _ (old new : State) (store : IsStore old) where
         λ k c. ap (λ rows. body_of rows k c) left ∙ drop_bodies (rows_in old) store.numbered kind code it.1 asked.0 asked.1 k c,
       )
 
-  pub insert_made : (kind : ℕ) (code body : List ℕ) (count : ℕ) → ExecutesInside 0 insert_text (Int (pos kind) ∷ Blob code ∷ Blob body ∷ []) old new (Ok count)
-      → IsStore new × Inserted kind code body (rows_in old) (rows_in new)
-  insert_made kind code body count h =
+  -- an insert of records puts them in, one after the other
+  inserted : (sql : List ℕ) (terms : List Term) (params : Row) (records : List Record) (count : ℕ)
+      → ((checks : List Term) (name : List ℕ) → IsPlain (understood (store_schema checks name) sql))
+      → ((checks : List Term) (name : List ℕ) → command_of (understood (store_schema checks name) sql) ≡ Insert 0 (Values terms 4))
+      → ((checks : List Term) → value_rows (stamped (record_table checks) params) 4 (length terms / 4) terms ≡ sources records) → ExecutesInside 0 sql params old new (Ok count) → IsStore new × ArePut records (rows_in old) (rows_in new)
+  inserted sql terms params records count plain is from h =
       let checks = store.ours.0 in
       let name = store.ours.1 in
-      let it = inserts checks name old new store.ours.2 kind code body count h.0 in
-      let row = row_of it.1 kind code body in
+      let it = inserts checks name old new store.ours.2 sql terms params records count (plain checks name) (is checks name) (from checks) h.0 in
       let left : IsStore new = record {
         ours = (checks, name, it.0);
-        numbered = subst AreNumbered (sym it.3) (insert_numbered (rows_in old) store.numbered kind code it.1 body it.2);
+        numbered = subst AreNumbered (sym it.2) (numbered_all (rows_in old) records store.numbered it.1);
       } in
-      let here : Has (rows_in new) row = subst (λ l. Has l row) (sym it.3) (has_put row (rows_in old)) in
-      let stays : (x : Row) → Has (rows_in old) x → Has (rows_in new) x = λ x has. subst (λ l. Has l x) (sym it.3) (kept_put row (rows_in old) x it.2 has) in
-      let free = none_of (rows_in old) (rows_in new) kind code row it.1 (are_keyed new it.4 left) here refl it.2 stays in (
-        left,
-        λ k c. ap (λ rows. body_of rows k c) it.3 ∙ insert_bodies (rows_in old) store.numbered kind code it.1 body it.2 free k c,
-      )
+      (left, put_in_turn (rows_in new) (are_keyed new it.3 left) (rows_in old) records it.2 store.numbered it.1)
+
+  pub insert_made : (kept : Record) (count : ℕ) → ExecutesInside 0 insert_text (Int (pos kept.kind) ∷ Blob kept.code ∷ Blob kept.body ∷ []) old new (Ok count)
+      → IsStore new × IsPut kept (rows_in old) (rows_in new)
+  insert_made kept count h = inserted insert_text _ _ (kept ∷ []) count insert_plain insert_is (λ checks. refl) h
+
+  pub four_made : (first second third fourth : Record) (count : ℕ) → ExecutesInside 0 four_text (four_params first second third fourth) old new (Ok count)
+      → IsStore new × ArePut (first ∷ second ∷ third ∷ fourth ∷ []) (rows_in old) (rows_in new)
+  four_made first second third fourth count h = inserted four_text _ _ (first ∷ second ∷ third ∷ fourth ∷ []) count four_plain four_is (λ checks. refl) h
 
 -- ---- looks
 

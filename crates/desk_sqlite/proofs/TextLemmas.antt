@@ -13,7 +13,7 @@ use Rattle.sqlite_tied.specs.Compute.{everything}
 use Rattle.sqlite.specs.Given.{IsPlain}
 use Rattle.sqlite.specs.Listing.{understood, reads_listing}
 use Rattle.sqlite.proofs.Callers.{command_of}
-use Rattle.desk_sqlite.specs.Texts.{numbers_text, first_text, within_text, beyond_text, insert_text, drop_text}
+use Rattle.desk_sqlite.specs.Texts.{numbers_text, first_text, within_text, beyond_text, insert_text, four_text, drop_text}
 use Rattle.desk_sqlite.specs.Table.{store_schema}
 
 -- a query that shows kind, code and body of the first rows that pass the tests, in the order of the keys
@@ -58,6 +58,15 @@ numbers_query = record {
   offset = lit (Int (pos 0));
 }
 
+-- the terms of the rows that an insert of four records is given
+abbrev pub four_terms : List Term
+four_terms =
+    lit Null ∷ col 0 0 ∷ col 0 1 ∷ col 0 2
+    ∷ lit Null ∷ col 0 3 ∷ col 0 4 ∷ col 0 5
+    ∷ lit Null ∷ col 0 6 ∷ col 0 7 ∷ col 0 8
+    ∷ lit Null ∷ col 0 9 ∷ col 0 10 ∷ col 0 11
+    ∷ []
+
 module _ (checks : List Term) (name : List ℕ) where
   pub insert_plain : IsPlain (understood (store_schema checks name) insert_text)
   unfolding understood everything
@@ -66,6 +75,14 @@ module _ (checks : List Term) (name : List ℕ) where
   pub insert_is : command_of (understood (store_schema checks name) insert_text) ≡ Insert 0 (Values (lit Null ∷ col 0 0 ∷ col 0 1 ∷ col 0 2 ∷ []) 4)
   unfolding understood everything
   insert_is = refl
+
+  pub four_plain : IsPlain (understood (store_schema checks name) four_text)
+  unfolding understood everything
+  four_plain = (refl, refl)
+
+  pub four_is : command_of (understood (store_schema checks name) four_text) ≡ Insert 0 (Values four_terms 4)
+  unfolding understood everything
+  four_is = refl
 
   pub drop_plain : IsPlain (understood (store_schema checks name) drop_text)
   unfolding understood everything

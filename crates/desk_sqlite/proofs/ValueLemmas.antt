@@ -1,5 +1,5 @@
 -- How SQL's comparisons read where the values are numbers and bytes.
-use Rattle.std.proofs.Common.{◌≡◌, ◌&&◌, ◌<◌, ℕ, ℤ, pos, negsuc, ◌<ℤ◌, ◌==◌, nat_lt, cond, arith, List, Bool, true, false, Some, refl, sym, ap, ◌∙◌, true≢false}
+use Rattle.std.proofs.Common.{◌≡◌, ◌&&◌, ℕ, ℤ, pos, negsuc, ◌<ℤ◌, ◌==◌, nat_lt, cond, arith, List, Bool, true, false, Some, refl, sym, ap, ◌∙◌, true≢false}
 use Rattle.std.proofs.lemmas.Bool.{eqb-true, eqb-false, eq-eqb, ltb-true, ltb-false}
 use Rattle.std.proofs.lemmas.Cmp.{tied_itself}
 use Rattle.std.proofs.lemmas.Slice.Eq.{bytes_eq-Decides}

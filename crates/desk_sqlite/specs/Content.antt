@@ -1,5 +1,5 @@
 -- What the rows of a store keep under each key.
-use Rattle.std.specs.Prelude.{◌≡◌, ℕ, pos, List, [], ◌∷◌, Option, None, Some, Bool, true, false}
+use Rattle.std.specs.Prelude.{◌≡◌, ℕ, pos, List, [], ◌∷◌, map, Option, None, Some, Bool, true, false}
 use Rattle.std.specs.Ordering.{is_lt}
 use Rattle.sqlite_value.specs.declared.value.Value.TheVariants.{Int, Blob}
 use Rattle.sqlite_value.specs.Order.{Row, column}
@@ -26,6 +26,10 @@ AreMade changes old new = IsChanged changes (content_of old) (content_of new)
 -- the record was put in
 abbrev pub IsPut : Record → List Row → List Row → Type 0
 IsPut kept = IsMade (Put kept)
+
+-- the records were put in, one after the other
+abbrev pub ArePut : List Record → List Row → List Row → Type 0
+ArePut records = AreMade (map Put records)
 
 -- the row has the key
 abbrev pub IsOf : Key → Row → Type 0

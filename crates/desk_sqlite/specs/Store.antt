@@ -1,5 +1,5 @@
 -- When a connection stands over the table of a store.
-use Rattle.std.specs.Prelude.{◌≡◌, ℕ, true, Bool, ◌&&◌, List, None, Some, if◌then◌else◌, IsTrue}
+use Rattle.std.specs.Prelude.{◌≡◌, ℕ, true, Bool, ◌&&◌, List, None, if◌then◌else◌, IsTrue}
 use Rattle.std.specs.Cmp.Lexicographic.{slice_cmp}
 use Rattle.std.specs.Ordering.{nat_cmp, is_eq, is_gt}
 use Rattle.sqlite_value.specs.Order.{Row}
@@ -29,10 +29,6 @@ Suits s = HasCleanDisk s → IsTrue s.is_open → IsStore s
 -- nothing is kept for the kind and the code, and for each other as before
 abbrev pub Dropped : ℕ → List ℕ → List Row → List Row → Type 0
 Dropped kind code old new = (k : ℕ) (c : List ℕ) → body_of new k c ≡ (if same_key kind code k c then None else body_of old k c)
-
--- the body is kept for the kind and the code, and for each other key what was kept before
-abbrev pub Inserted : ℕ → List ℕ → List ℕ → List Row → List Row → Type 0
-Inserted kind code body old new = (k : ℕ) (c : List ℕ) → body_of new k c ≡ (if same_key kind code k c then Some body else body_of old k c)
 
 -- as far as the disk is clean and the connection open, they were before, and nothing is changed
 pub record IsStill (old new : State) : Type 0 where

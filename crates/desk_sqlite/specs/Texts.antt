@@ -21,6 +21,10 @@ beyond_text = codes "SELECT kind, code, body FROM record WHERE kind > ?1 ORDER B
 abbrev pub insert_text : List ℕ
 insert_text = codes "INSERT INTO record (kind, code, body) VALUES (?1, ?2, ?3)"
 
+-- keeps four records whose keys no other has
+abbrev pub four_text : List ℕ
+four_text = codes "INSERT INTO record (kind, code, body) VALUES (?1, ?2, ?3), (?4, ?5, ?6), (?7, ?8, ?9), (?10, ?11, ?12)"
+
 -- drops the record of a key
 abbrev pub drop_text : List ℕ
 drop_text = codes "DELETE FROM record WHERE kind = ?1 AND code = ?2"

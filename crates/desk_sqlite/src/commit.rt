@@ -1,23 +1,13 @@
-ghost use Rattle.std.specs.Prelude.{◌≡◌, false, OnErr, OnOk, IsTrue};
+ghost use Rattle.std.specs.Prelude.{◌≡◌, [], ◌∷◌, false, OnErr, OnOk, IsTrue};
 ghost use Rattle.sqlite.specs.Held.{state};
 ghost use Rattle.sqlite.specs.State.{HasCleanDisk};
-ghost use Rattle.desk_sqlite.specs.Content.{AreMade, IsMade, IsPut};
+ghost use Rattle.desk_sqlite.specs.Content.{AreMade, ArePut, IsMade, IsPut};
 ghost use Rattle.desk_sqlite.specs.Inside.{IsInside, Leaves, Spares};
-ghost use Rattle.desk_sqlite.specs.Store.{Inserted, IsStore, Suits, rows_in};
+ghost use Rattle.desk_sqlite.specs.Store.{IsStore, Suits, rows_in};
 
-use crate::change::{drop_record, insert_record};
+use crate::change::{drop_record, insert_four, insert_record};
 use desk_edge::{Change, Record};
 use sqlite::{Alter, Connection, Error, ErrorCode, Transaction};
-
-/// Keeps the record where none of its key is kept.
-fn insert<S: Alter>(tx: &mut Transaction<'_, S>, kept: &Record) -> Result<(), Error>
-    ensures same_reference { tx.new.conn.ghost_name ≡ tx.old.conn.ghost_name }
-    ensures inside { IsInside (state S.Store tx.old.conn.now) (state S.Store tx.new.conn.now) }
-    ensures inserted { Leaves (state S.Store tx.old.conn.now) (state S.Store tx.new.conn.now) result (Inserted kept.now.kind kept.now.code kept.now.body) }
-    ensures spares { Spares (state S.Store tx.old.conn.now) (state S.Store tx.new.conn.now) result }
-{
-    insert_record(tx, kept.kind, kept.code.as_slice(), kept.body.as_slice())
-}
 
 /// Keeps the record in place of the one of its key.
 fn replace<S: Alter>(tx: &mut Transaction<'_, S>, kept: &Record) -> Result<(), Error>
@@ -27,7 +17,7 @@ fn replace<S: Alter>(tx: &mut Transaction<'_, S>, kept: &Record) -> Result<(), E
     ensures ended { (state S.Store tx.old.conn.now).in_transaction ≡ false → OnOk result ⊥ × (tx.new.conn.now ≡ tx.old.conn.now) }
 {
     match drop_record(tx, kept.kind, kept.code.as_slice()) {
-        Ok(()) => insert(tx, kept),
+        Ok(()) => insert_record(tx, kept),
         Err(error) => Err(error),
     }
 }
@@ -39,8 +29,64 @@ fn put_record<S: Alter>(tx: &mut Transaction<'_, S>, kept: &Record) -> Result<()
     ensures inside { IsInside (state S.Store tx.old.conn.now) (state S.Store tx.new.conn.now) }
     ensures put { Leaves (state S.Store tx.old.conn.now) (state S.Store tx.new.conn.now) result (IsPut kept.now) }
 {
-    match insert(tx, kept) {
+    match insert_record(tx, kept) {
         Err(Error::SqliteFailure(ErrorCode::ConstraintViolation(_))) => replace(tx, kept),
+        done => done,
+    }
+}
+
+/// Keeps two records, each in place of the one of its key if there is one.
+fn put_two<S: Alter>(
+    tx: &mut Transaction<'_, S>,
+    first: &Record,
+    second: &Record,
+) -> Result<(), Error>
+    ensures same_reference { tx.new.conn.ghost_name ≡ tx.old.conn.ghost_name }
+    ensures inside { IsInside (state S.Store tx.old.conn.now) (state S.Store tx.new.conn.now) }
+    ensures put { Leaves (state S.Store tx.old.conn.now) (state S.Store tx.new.conn.now) result (ArePut (first.now ∷ second.now ∷ [])) }
+{
+    match put_record(tx, first) {
+        Ok(()) => put_record(tx, second),
+        Err(error) => Err(error),
+    }
+}
+
+/// Keeps four records one after the other, each in place of the one of its key if there is one.
+fn put_in_turn<S: Alter>(
+    tx: &mut Transaction<'_, S>,
+    first: &Record,
+    second: &Record,
+    third: &Record,
+    fourth: &Record,
+) -> Result<(), Error>
+    ensures same_reference { tx.new.conn.ghost_name ≡ tx.old.conn.ghost_name }
+    ensures inside { IsInside (state S.Store tx.old.conn.now) (state S.Store tx.new.conn.now) }
+    ensures put { Leaves (state S.Store tx.old.conn.now) (state S.Store tx.new.conn.now) result
+        (ArePut (first.now ∷ second.now ∷ third.now ∷ fourth.now ∷ [])) }
+    ensures ended { (state S.Store tx.old.conn.now).in_transaction ≡ false → OnOk result ⊥ × (tx.new.conn.now ≡ tx.old.conn.now) }
+{
+    replace(tx, first)?;
+    put_record(tx, second)?;
+    put_two(tx, third, fourth)
+}
+
+/// Keeps four records, by one statement where they are new, as most are where many are put in.
+fn put_four<S: Alter>(
+    tx: &mut Transaction<'_, S>,
+    first: &Record,
+    second: &Record,
+    third: &Record,
+    fourth: &Record,
+) -> Result<(), Error>
+    ensures same_reference { tx.new.conn.ghost_name ≡ tx.old.conn.ghost_name }
+    ensures inside { IsInside (state S.Store tx.old.conn.now) (state S.Store tx.new.conn.now) }
+    ensures put { Leaves (state S.Store tx.old.conn.now) (state S.Store tx.new.conn.now) result
+        (ArePut (first.now ∷ second.now ∷ third.now ∷ fourth.now ∷ [])) }
+{
+    match insert_four(tx, first, second, third, fourth) {
+        Err(Error::SqliteFailure(ErrorCode::ConstraintViolation(_))) => {
+            put_in_turn(tx, first, second, third, fourth)
+        }
         done => done,
     }
 }
@@ -58,13 +104,42 @@ fn make_change<S: Alter>(tx: &mut Transaction<'_, S>, change: &Change) -> Result
 }
 
 /// Makes the changes, one after the other, up to the first that is refused.
-fn make_all<S: Alter>(tx: &mut Transaction<'_, S>, batch: &[Change]) -> Result<(), Error>
+fn make_in_turn<S: Alter>(tx: &mut Transaction<'_, S>, batch: &[Change]) -> Result<(), Error>
     ensures same_reference { tx.new.conn.ghost_name ≡ tx.old.conn.ghost_name }
     ensures inside { IsInside (state S.Store tx.old.conn.now) (state S.Store tx.new.conn.now) }
     ensures made { Leaves (state S.Store tx.old.conn.now) (state S.Store tx.new.conn.now) result (AreMade batch.now) }
 {
     'changes: for change in batch {
         make_change(tx, change)?;
+    }
+    Ok(())
+}
+
+/// Makes up to four changes.
+fn make_few<S: Alter>(tx: &mut Transaction<'_, S>, few: &[Change]) -> Result<(), Error>
+    ensures same_reference { tx.new.conn.ghost_name ≡ tx.old.conn.ghost_name }
+    ensures inside { IsInside (state S.Store tx.old.conn.now) (state S.Store tx.new.conn.now) }
+    ensures made { Leaves (state S.Store tx.old.conn.now) (state S.Store tx.new.conn.now) result (AreMade few.now) }
+{
+    match few {
+        [
+            Change::Put(first),
+            Change::Put(second),
+            Change::Put(third),
+            Change::Put(fourth),
+        ] => put_four(tx, first, second, third, fourth),
+        _ => make_in_turn(tx, few),
+    }
+}
+
+/// Makes all the changes, up to the first that is refused. It goes by four, as four records that are put in take one statement.
+fn make_all<S: Alter>(tx: &mut Transaction<'_, S>, batch: &[Change]) -> Result<(), Error>
+    ensures same_reference { tx.new.conn.ghost_name ≡ tx.old.conn.ghost_name }
+    ensures inside { IsInside (state S.Store tx.old.conn.now) (state S.Store tx.new.conn.now) }
+    ensures made { Leaves (state S.Store tx.old.conn.now) (state S.Store tx.new.conn.now) result (AreMade batch.now) }
+{
+    for few in batch.chunks(4) {
+        make_few(tx, few)?;
     }
     Ok(())
 }

@@ -111,6 +111,50 @@ fn records_come_by_kind_and_then_by_the_bytes_of_the_code(rt: HostRuntime) -> Re
     goes_over_disks(Trial::Order, rt.alloc())
 }
 
+/// Puts four records at once of which one has a key that is kept, and then four of which two have one key.
+fn puts_four_over_others<S: Alter>(keeper: &mut SqlKeeper<S>, alloc: Global) -> Result<(), Fail> {
+    ready(keeper)?;
+    keep(keeper, alloc, &[(1, "b", Some("old"))])?;
+    keep(
+        keeper,
+        alloc,
+        &[
+            (1, "a", Some("p")),
+            (1, "b", Some("new")),
+            (1, "c", Some("q")),
+            (2, "a", Some("r")),
+        ],
+    )?;
+    has(keeper, alloc, "1 a p\n1 b new\n1 c q\n2 a r\n")?;
+    keep(
+        keeper,
+        alloc,
+        &[
+            (1, "c", None),
+            (3, "a", Some("s")),
+            (3, "b", Some("t")),
+            (3, "c", Some("u")),
+            (4, "a", Some("first")),
+            (4, "b", Some("v")),
+            (4, "a", Some("second")),
+            (4, "c", Some("w")),
+        ],
+    )?;
+    has(
+        keeper,
+        alloc,
+        "1 a p\n1 b new\n2 a r\n3 a s\n3 b t\n3 c u\n4 a second\n4 b v\n4 c w\n",
+    )?;
+    counted(keeper, 0)
+}
+
+#[test]
+fn four_records_are_put_in_at_once_where_one_is_kept_already_or_comes_twice(
+    rt: HostRuntime,
+) -> Result<(), Fail> {
+    goes_over_disks(Trial::Four, rt.alloc())
+}
+
 /// The record of this number, which has three digits.
 fn numbered(alloc: Global, number: u8) -> Result<Record, Fail> {
     let code = format!(in alloc; "{number}")?;
@@ -403,6 +447,7 @@ fn a_new_database_is_found_to_be_a_store_and_one_with_a_second_table_is_not(
 #[derive(Clone, Copy)]
 enum Trial {
     Order,
+    Four,
     Commit,
     NotReady,
     WrongRow,
@@ -414,6 +459,7 @@ enum Trial {
 fn goes<S: Alter + Drop>(trial: Trial, conn: Connection<S>, alloc: Global) -> Result<(), Fail> {
     match trial {
         Trial::Order => keeps_order(&mut adopted(conn), alloc),
+        Trial::Four => puts_four_over_others(&mut adopted(conn), alloc),
         Trial::Commit => goes_on_behind_a_commit(&mut adopted(conn), alloc),
         Trial::NotReady => fails_until_ready(&mut adopted(conn), alloc),
         Trial::WrongRow => stops_at_a_wrong_row(conn, alloc),
