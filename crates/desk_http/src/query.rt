@@ -1,4 +1,5 @@
 ghost use Rattle.std.specs.Prelude.{◌≡◌, ◌≢◌, ◌++◌, ℕ, List, [], ◌∷◌, Err, IfOk};
+ghost use Rattle.std.specs.Cow.{cow_str_bytes};
 ghost use Rattle.std.specs.Option.{ok_or};
 ghost use Rattle.desk_text.specs.Day.{Date};
 ghost use Rattle.desk_law.specs.declared.kind.Kind.{Kind};
@@ -18,6 +19,7 @@ use desk_law::Kind;
 use desk_text::Day;
 use form_urlencoded::parse;
 use std::alloc::{AllocError, Global};
+use std::borrow::CowStr;
 
 /// What the pairs of a query say under one name.
 #[derive(Clone, Copy, Debug)]
@@ -66,10 +68,18 @@ impl Query {
     {
         let mut query = Query::new();
         for pair in parse(alloc, bytes) {
-            let (name, value) = pair?;
-            query = query.with(name.as_bytes(), value.as_bytes());
+            query = query.with_pair(pair?);
         }
         Ok(query)
+    }
+
+    /// The query with one pair more that was read.
+    fn with_pair(self, pair: (CowStr<'_>, CowStr<'_>)) -> Query
+        ensures { (pairs : List Pair) → IsQueryOf self pairs
+            → IsQueryOf result (pairs ++ (cow_str_bytes pair.entry.0, cow_str_bytes pair.entry.1) ∷ []) }
+    {
+        let (name, value) = pair;
+        self.with(name.as_bytes(), value.as_bytes())
     }
 
     /// The query with one pair more.

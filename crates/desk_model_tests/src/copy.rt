@@ -1,15 +1,15 @@
-use crate::helpers::{check, code, day, name, same};
+use crate::helpers::{code, day, name};
 use desk_law::Rule;
 use desk_model::{ListOf, MaterialRow, MemberRow, SubstanceRow, TicketRow};
 use desk_rows::Keyed;
-use desk_text::{Bytes, Code};
+use desk_testing::{bytes, check, expect_eq};
+use desk_text::Code;
 use std::alloc::Global;
 use std::test::Fail;
 
-/// Whether the row's copy is the row again.
-fn is_copied<R: Keyed + PartialEq>(alloc: Global, row: &R) -> Result<bool, Fail> {
-    let copy = row.copied(alloc)?;
-    Ok(copy == *row)
+/// The copy of the row.
+pub(crate) fn copy_of<R: Keyed>(alloc: Global, row: R) -> Result<R, Fail> {
+    Ok(row.copied(alloc)?)
 }
 
 #[test]
@@ -19,73 +19,58 @@ fn a_copied_member_is_the_same(rt: HostRuntime) -> Result<(), Fail> {
         rule: Rule::Lead,
         factor: 7,
     };
-    check(is_copied(rt.alloc(), &row)?, "another member")
-}
-
-/// Whether the copy of a substance of this name has it.
-fn keeps_name(alloc: Global, text: &str) -> Result<bool, Fail> {
-    let row = SubstanceRow {
-        code: code("tin")?,
-        name: name(alloc, text)?,
-        cas: None,
-    };
-    let copy = row.copied(alloc)?;
-    Ok(copy.name.as_str() == text)
+    expect_eq(&copy_of(rt.alloc(), row)?, &row)
 }
 
 #[test]
 fn a_copied_substance_keeps_its_name(rt: HostRuntime) -> Result<(), Fail> {
-    check(keeps_name(rt.alloc(), "Tin")?, "another name")
-}
-
-/// Whether the copy of a ticket of this text has it.
-fn keeps_text(alloc: Global, text: &[u8]) -> Result<bool, Fail> {
-    let row = TicketRow {
-        code: Bytes::from(b"E:t1".to_vec(alloc)?),
-        number: 7,
-        text: Bytes::from(text.to_vec(alloc)?),
+    let row = SubstanceRow {
+        code: code("tin")?,
+        name: name(rt.alloc(), "Tin")?,
+        cas: None,
     };
-    let copy = row.copied(alloc)?;
-    Ok(copy.text.as_slice() == text)
+    let copy = copy_of(rt.alloc(), row)?;
+    expect_eq(&copy.name.as_str(), &"Tin")
 }
 
 #[test]
 fn a_copied_ticket_keeps_its_text(rt: HostRuntime) -> Result<(), Fail> {
-    check(keeps_text(rt.alloc(), b"unexempt\tR")?, "another text")
-}
-
-/// The number of the copy of a material's row of this number.
-fn copied_number(alloc: Global, number: u64) -> Result<u64, Fail> {
-    let row = MaterialRow {
-        code: code("M")?,
-        supplier: code("ACME")?,
-        number,
-        day: day("2024-03-02")?,
-        name: name(alloc, "Steel")?,
-        mass: 9,
-        substances: ListOf::new(Vec::new(alloc)),
-        claims: ListOf::new(Vec::new(alloc)),
+    let row = TicketRow {
+        code: bytes(rt.alloc(), "E:t1")?,
+        number: 7,
+        text: bytes(rt.alloc(), "unexempt\tR")?,
     };
-    let copy = row.copied(alloc)?;
-    Ok(copy.number)
+    let copy = copy_of(rt.alloc(), row)?;
+    expect_eq(&copy.text.as_slice(), &b"unexempt\tR".as_slice())
 }
 
 #[test]
 fn a_copied_material_keeps_its_number(rt: HostRuntime) -> Result<(), Fail> {
-    let number = copied_number(rt.alloc(), u64::MAX)?;
-    same(number, u64::MAX)
+    let row = MaterialRow {
+        code: code("M")?,
+        supplier: code("ACME")?,
+        number: u64::MAX,
+        day: day("2024-03-02")?,
+        name: name(rt.alloc(), "Steel")?,
+        mass: 9,
+        substances: ListOf::new(Vec::new(rt.alloc())),
+        claims: ListOf::new(Vec::new(rt.alloc())),
+    };
+    let copy = copy_of(rt.alloc(), row)?;
+    expect_eq(&copy.number, &u64::MAX)
 }
 
-/// Whether the copy of a list of these codes has them, and gives them out.
-fn is_list_copied(alloc: Global, codes: &[Code]) -> Result<bool, Fail> {
-    let list = ListOf::new(codes.to_vec(alloc)?);
+/// Fails unless the list's copy has these codes, and gives them out.
+fn keeps_codes(alloc: Global, list: &ListOf<Code>, codes: &[Code]) -> Result<(), Fail> {
     let copy = list.copied(alloc)?;
-    let is_same = copy.as_slice() == codes;
-    Ok(is_same && copy.into_vec().as_slice() == codes)
+    check(copy.as_slice() == codes, "the copy has other codes")?;
+    let given = copy.into_vec();
+    check(given.as_slice() == codes, "the copy gives out other codes")
 }
 
 #[test]
 fn a_copied_list_is_the_same(rt: HostRuntime) -> Result<(), Fail> {
     let codes = [code("A")?, code("B")?];
-    check(is_list_copied(rt.alloc(), &codes)?, "another list")
+    let list = ListOf::new(codes.to_vec(rt.alloc())?);
+    keeps_codes(rt.alloc(), &list, &codes)
 }

@@ -1,21 +1,10 @@
+ghost use Rattle.std.specs.Prelude.{◌≤◌};
+
 use desk_law::{Claim, Rule};
+use desk_model::Declaration;
 use desk_text::{Code, Day, ExemptionNumber, Name};
 use std::alloc::Global;
-use std::fmt::Debug;
 use std::test::Fail;
-
-/// A failure that says what is wrong, unless it holds.
-pub(crate) fn check(holds: bool, wrong: &'static str) -> Result<(), Fail> {
-    if holds { Ok(()) } else { Err(Fail::new(wrong)) }
-}
-
-/// A failure that says what was found in place of what was meant, unless it is that.
-pub(crate) fn same<T: Copy + Debug + PartialEq>(found: T, meant: T) -> Result<(), Fail> {
-    if found == meant {
-        return Ok(());
-    }
-    Err(Fail::new(format_args!("{found:?} in place of {meant:?}")))
-}
 
 /// The code of this text.
 pub(crate) fn code(text: &str) -> Result<Code, Fail> {
@@ -42,4 +31,65 @@ pub(crate) fn day(text: &str) -> Result<Day, Fail> {
 pub(crate) fn claim(rule: Rule, number: &str) -> Result<Claim, Fail> {
     let number = ExemptionNumber::read(number.as_bytes())?;
     Ok(Claim { rule, number })
+}
+
+/// A declaration of ACME of this number and day, without materials.
+pub(crate) fn declared(alloc: Global, number: u64, text: &str) -> Result<Declaration, Fail>
+    requires { 1 ≤ number }
+{
+    let (supplier, day) = (code("ACME")?, day(text)?);
+    Ok(Declaration::start(alloc, supplier, number, day)?)
+}
+
+/// Adds a material of this name and mass.
+pub(crate) fn add_material(
+    declaration: &mut Declaration,
+    alloc: Global,
+    material: Code,
+    text: &str,
+    mass: u32,
+) -> Result<(), Fail>
+    requires { 1 ≤ mass }
+{
+    declaration.add_material(material, name(alloc, text)?, u64::from(mass))?;
+    Ok(())
+}
+
+/// Adds 64 substances of this mass to a material, whose numbers go on from the first one.
+pub(crate) fn add_64_substances(
+    declaration: &mut Declaration,
+    alloc: Global,
+    material: &Code,
+    first: u32,
+    mass: u32,
+) -> Result<(), Fail> {
+    for number in first..first.saturating_add(64) {
+        let substance = numbered(alloc, "S", number)?;
+        declaration.add_substance(material, substance, u64::from(mass))?;
+    }
+    Ok(())
+}
+
+/// Adds substances of these masses to a material.
+pub(crate) fn add_substances(
+    declaration: &mut Declaration,
+    material: &str,
+    rows: &[(&str, u32)],
+) -> Result<(), Fail> {
+    for (substance, mass) in rows {
+        declaration.add_substance(&code(material)?, code(substance)?, u64::from(*mass))?;
+    }
+    Ok(())
+}
+
+/// Adds claims for a material.
+pub(crate) fn add_claims(
+    declaration: &mut Declaration,
+    material: &str,
+    rows: &[(Rule, &str)],
+) -> Result<(), Fail> {
+    for (rule, number) in rows {
+        declaration.add_claim(&code(material)?, claim(*rule, number)?)?;
+    }
+    Ok(())
 }

@@ -1,199 +1,200 @@
-use crate::helpers::{check, claim, code, day, name, numbered, same};
+use crate::copy::copy_of;
+use crate::helpers::{
+    add_64_substances, add_claims, add_material, add_substances, claim, code, day, declared, name,
+    numbered,
+};
 use crate::text::is_told;
 use desk_law::Rule;
 use desk_model::{DeclError, Declaration, Edit, MaterialDecl};
-use desk_rows::Keyed;
+use desk_testing::{check, expect_eq};
 use desk_text::Code;
-use std::alloc::{AllocError, Global};
+use std::alloc::Global;
 use std::test::Fail;
 
 /// The first declaration of ACME, of 2 March 2024, without materials.
 fn started(alloc: Global) -> Result<Declaration, Fail> {
-    let day = day("2024-03-02")?;
-    Ok(Declaration::start(alloc, code("ACME")?, 1, day)?)
+    declared(alloc, 1, "2024-03-02")
 }
 
 /// A declaration of one material, M, of one gram.
 fn with_one_material(alloc: Global) -> Result<Declaration, Fail> {
+    let material = code("M")?;
     let mut declaration = started(alloc)?;
-    declaration.add_material(code("M")?, name(alloc, "Solder")?, 1_000_000)?;
+    add_material(&mut declaration, alloc, material, "Solder", 1_000_000)?;
     Ok(declaration)
 }
 
-/// The supplier, the number and the day of a declaration, and how many materials it has.
-fn head(alloc: Global, declaration: &Declaration) -> Result<String, AllocError> {
+/// Fails unless a declaration tells that it is the first of ACME, of 2 March 2024, without materials.
+fn is_started(declaration: &Declaration) -> Result<(), Fail> {
     let (supplier, number) = (declaration.supplier(), declaration.number());
-    let (day, count) = (declaration.day(), declaration.materials().len());
-    format!(in alloc; "{supplier} {number} {day} of {count}")
+    let (day_told, count) = (declaration.day(), declaration.materials().len());
+    expect_eq(
+        &(supplier, number, day_told, count),
+        &(&code("ACME")?, 1, day("2024-03-02")?, 0),
+    )
 }
 
 #[test]
 fn a_declaration_tells_what_it_was_started_with(rt: HostRuntime) -> Result<(), Fail> {
     let declaration = started(rt.alloc())?;
-    let head = head(rt.alloc(), &declaration)?;
-    same(head.as_str(), "ACME 1 2024-03-02 of 0")
+    is_started(&declaration)
 }
 
-/// A declaration of a material for each letter, entered in this order.
-fn of_letters(alloc: Global, letters: &str) -> Result<Declaration, Fail> {
-    let mut declaration = started(alloc)?;
+/// Adds a material for each letter, in this order.
+fn add_letters(declaration: &mut Declaration, alloc: Global, letters: &str) -> Result<(), Fail> {
     for letter in letters.as_bytes() {
-        declaration.add_material(Code::read(&[*letter])?, name(alloc, "Steel")?, 7)?;
+        add_material(declaration, alloc, Code::read(&[*letter])?, "Steel", 7)?;
     }
-    Ok(declaration)
+    Ok(())
 }
 
-/// Of each material its code, its name, its mass, and how many substances and claims it has.
-fn materials(alloc: Global, declaration: &Declaration) -> Result<String, AllocError> {
-    let mut all = String::new(alloc);
-    for material in declaration.materials() {
-        let (code, name, mass) = (&material.code, &material.name, material.mass);
+/// Fails unless the materials are those of the letters from a to d, without substances and claims.
+fn has_letters(declaration: &Declaration) -> Result<(), Fail> {
+    expect_eq(&declaration.materials().len(), &4)?;
+    for (material, letter) in declaration.materials().iter().zip(b"abcd") {
+        let (code, name) = (material.code.as_bytes(), material.name.as_str());
         let substances = material.substances.as_slice().len();
         let claims = material.claims.as_slice().len();
-        let one = format!(in alloc; "{code} {name} {mass} {substances} {claims}\n")?;
-        all.push_str(one.as_str())?;
-    }
-    Ok(all)
-}
-
-/// A failure unless materials stand in the order of their letters when they were entered in these orders.
-fn are_in_order(alloc: Global, orders: &[&str]) -> Result<(), Fail> {
-    for order in orders {
-        let declaration = of_letters(alloc, order)?;
-        let found = materials(alloc, &declaration)?;
-        same(
-            found.as_str(),
-            "a Steel 7 0 0\nb Steel 7 0 0\nc Steel 7 0 0\nd Steel 7 0 0\n",
+        expect_eq(
+            &(code, name, material.mass, substances, claims),
+            &([*letter].as_slice(), "Steel", 7, 0, 0),
         )?;
     }
     Ok(())
 }
 
+/// Fails unless materials that are entered in the order of these letters stand in that of their codes.
+fn stand_in_order(alloc: Global, letters: &str) -> Result<(), Fail> {
+    let mut declaration = started(alloc)?;
+    add_letters(&mut declaration, alloc, letters)?;
+    has_letters(&declaration)
+}
+
 #[test]
 fn materials_stand_in_order_of_code_however_they_come(rt: HostRuntime) -> Result<(), Fail> {
-    are_in_order(rt.alloc(), &["abcd", "dcba", "bdac", "cadb"])
-}
-
-/// Adds substances of these masses to a material.
-pub(crate) fn add_substances(
-    declaration: &mut Declaration,
-    material: &str,
-    rows: &[(&str, u32)],
-) -> Result<(), Fail> {
-    for (substance, mass) in rows {
-        declaration.add_substance(&code(material)?, code(substance)?, u64::from(*mass))?;
+    for letters in &["abcd", "dcba", "bdac", "cadb"] {
+        stand_in_order(rt.alloc(), letters)?;
     }
     Ok(())
 }
 
-/// Adds claims for a material.
-pub(crate) fn add_claims(
-    declaration: &mut Declaration,
-    material: &str,
-    rows: &[(Rule, &str)],
-) -> Result<(), Fail> {
-    for (rule, number) in rows {
-        declaration.add_claim(&code(material)?, claim(*rule, number)?)?;
-    }
-    Ok(())
+/// Adds three substances and three claims to M, out of order.
+fn add_three(declaration: &mut Declaration) -> Result<(), Fail> {
+    let substances = [("tin", 600_000), ("copper", 7), ("lead", 0)];
+    add_substances(declaration, "M", &substances)?;
+    let claims = [
+        (Rule::Cadmium, "8(b)"),
+        (Rule::Lead, "7(c)-I"),
+        (Rule::Lead, "6(c)"),
+    ];
+    add_claims(declaration, "M", &claims)
 }
 
 #[test]
 fn a_material_keeps_its_substances_and_claims_in_order(rt: HostRuntime) -> Result<(), Fail> {
     let mut declaration = with_one_material(rt.alloc())?;
-    add_substances(
-        &mut declaration,
-        "M",
-        &[("tin", 600_000), ("copper", 7), ("lead", 0)],
-    )?;
-    add_claims(
-        &mut declaration,
-        "M",
-        &[
-            (Rule::Cadmium, "8(b)"),
-            (Rule::Lead, "7(c)-I"),
-            (Rule::Lead, "6(c)"),
-        ],
-    )?;
+    add_three(&mut declaration)?;
     is_told(
         rt.alloc(),
-        &Edit::Declare { declaration },
+        Edit::Declare { declaration },
         "declare|ACME|1|2024-03-02|1|M|Solder|1000000|3|copper|7|lead|0|tin|600000|3|lead|6(c)|lead|7(c)-I|cadmium|8(b)",
         "D:ACME:1",
     )
 }
 
-/// A declaration of so many materials, M0 and so on.
-fn of_many(alloc: Global, count: u32) -> Result<Declaration, Fail> {
-    let mut declaration = started(alloc)?;
-    for number in 0..count {
+/// Adds 256 materials, from M0 to M255.
+fn add_256(declaration: &mut Declaration, alloc: Global) -> Result<(), Fail> {
+    for number in 0..256 {
         let material = numbered(alloc, "M", number)?;
-        declaration.add_material(material, name(alloc, "Steel")?, 1)?;
+        add_material(declaration, alloc, material, "Steel", 1)?;
     }
-    Ok(declaration)
+    Ok(())
 }
 
-/// Why a material of this code isn't added.
-fn material_fault(
-    alloc: Global,
+/// Fails unless a material of this code is refused by this fault.
+fn refuses_material(
     declaration: &mut Declaration,
+    alloc: Global,
     text: &str,
-) -> Result<Option<DeclError>, Fail> {
-    let (code, name) = (code(text)?, name(alloc, "Steel")?);
-    Ok(declaration.add_material(code, name, 1).err())
+    fault: DeclError,
+) -> Result<(), Fail> {
+    let answer = declaration.add_material(code(text)?, name(alloc, "Steel")?, 1);
+    expect_eq(&answer, &Err(fault))
+}
+
+/// Fails unless 256 materials can be added, and no other one then.
+fn takes_256(declaration: &mut Declaration, alloc: Global) -> Result<(), Fail> {
+    add_256(declaration, alloc)?;
+    refuses_material(declaration, alloc, "new", DeclError::TooMany)?;
+    refuses_material(declaration, alloc, "M255", DeclError::Repeated)?;
+    expect_eq(&declaration.materials().len(), &256)
 }
 
 #[test]
 fn a_declaration_takes_256_materials(rt: HostRuntime) -> Result<(), Fail> {
-    let mut declaration = of_many(rt.alloc(), 256)?;
-    let next = material_fault(rt.alloc(), &mut declaration, "new")?;
-    let again = material_fault(rt.alloc(), &mut declaration, "M255")?;
-    same(
-        (next, again, declaration.materials().len()),
-        (Some(DeclError::TooMany), Some(DeclError::Repeated), 256),
-    )
+    let mut declaration = started(rt.alloc())?;
+    takes_256(&mut declaration, rt.alloc())
 }
 
-/// A declaration of M, with 64 substances and 16 claims.
-fn of_full_material(alloc: Global) -> Result<Declaration, Fail> {
-    let mut declaration = with_one_material(alloc)?;
-    let m = code("M")?;
-    for number in 0..64 {
-        declaration.add_substance(&m, numbered(alloc, "S", number)?, 1)?;
-    }
-    for number in 0..16 {
-        let number = format!(in alloc; "{number}")?;
-        declaration.add_claim(&m, claim(Rule::Pbde, number.as_str())?)?;
-    }
-    Ok(declaration)
-}
+/// The claims of a full material.
+const CLAIMS: [(Rule, &str); 16] = [
+    (Rule::Pbde, "0"),
+    (Rule::Pbde, "1"),
+    (Rule::Pbde, "2"),
+    (Rule::Pbde, "3"),
+    (Rule::Pbde, "4"),
+    (Rule::Pbde, "5"),
+    (Rule::Pbde, "6"),
+    (Rule::Pbde, "7"),
+    (Rule::Pbde, "8"),
+    (Rule::Pbde, "9"),
+    (Rule::Pbde, "10"),
+    (Rule::Pbde, "11"),
+    (Rule::Pbde, "12"),
+    (Rule::Pbde, "13"),
+    (Rule::Pbde, "14"),
+    (Rule::Pbde, "15"),
+];
 
-/// The first of these materials and substances whose substance isn't refused by its fault.
-fn other_substance_fault(
+/// Materials and substances, and the fault that refuses each.
+const REFUSED_SUBSTANCES: [(&str, &str, DeclError); 3] = [
+    ("N", "S0", DeclError::Orphan),
+    ("M", "S0", DeclError::Repeated),
+    ("M", "new", DeclError::TooMany),
+];
+
+/// Materials and rules, and the fault that refuses a claim of number 0 for each.
+const REFUSED_CLAIMS: [(&str, Rule, DeclError); 3] = [
+    ("N", Rule::Pbde, DeclError::Orphan),
+    ("M", Rule::Pbde, DeclError::Repeated),
+    ("M", Rule::Lead, DeclError::TooMany),
+];
+
+/// Fails unless each substance is refused by its fault, and says of which material and substance it isn't.
+fn refuses_substances(
     declaration: &mut Declaration,
     rows: &[(&str, &str, DeclError)],
-) -> Result<Option<usize>, Fail> {
-    for (place, (material, substance, fault)) in rows.iter().enumerate() {
+) -> Result<(), Fail> {
+    for (material, substance, fault) in rows {
         let answer = declaration.add_substance(&code(material)?, code(substance)?, 2);
-        if answer != Err(*fault) {
-            return Ok(Some(place));
-        }
+        expect_eq(
+            &(material, substance, answer),
+            &(material, substance, Err(*fault)),
+        )?;
     }
-    Ok(None)
+    Ok(())
 }
 
-/// The first of these materials and rules whose claim of number 0 isn't refused by its fault.
-fn other_claim_fault(
+/// Fails unless each claim is refused by its fault, and says of which material and rule it isn't.
+fn refuses_claims(
     declaration: &mut Declaration,
     rows: &[(&str, Rule, DeclError)],
-) -> Result<Option<usize>, Fail> {
-    for (place, (material, rule, fault)) in rows.iter().enumerate() {
+) -> Result<(), Fail> {
+    for (material, rule, fault) in rows {
         let answer = declaration.add_claim(&code(material)?, claim(*rule, "0")?);
-        if answer != Err(*fault) {
-            return Ok(Some(place));
-        }
+        expect_eq(&(material, rule, answer), &(material, rule, Err(*fault)))?;
     }
-    Ok(None)
+    Ok(())
 }
 
 /// Whether each material has 64 substances of one microgram and 16 claims.
@@ -206,65 +207,52 @@ fn are_full(materials: &[MaterialDecl]) -> bool {
     })
 }
 
-#[test]
-fn a_material_takes_64_substances_and_16_claims(rt: HostRuntime) -> Result<(), Fail> {
-    let mut declaration = of_full_material(rt.alloc())?;
-    let other = other_substance_fault(
-        &mut declaration,
-        &[
-            ("N", "S0", DeclError::Orphan),
-            ("M", "S0", DeclError::Repeated),
-            ("M", "new", DeclError::TooMany),
-        ],
-    )?;
-    same(other, None)?;
-    let other = other_claim_fault(
-        &mut declaration,
-        &[
-            ("N", Rule::Pbde, DeclError::Orphan),
-            ("M", Rule::Pbde, DeclError::Repeated),
-            ("M", Rule::Lead, DeclError::TooMany),
-        ],
-    )?;
-    same(other, None)?;
+/// Fails unless M takes 64 substances and 16 claims, and keeps these alone where another one is refused.
+fn takes_64_and_16(declaration: &mut Declaration, alloc: Global) -> Result<(), Fail> {
+    add_64_substances(declaration, alloc, &code("M")?, 0, 1)?;
+    add_claims(declaration, "M", &CLAIMS)?;
+    refuses_substances(declaration, &REFUSED_SUBSTANCES)?;
+    refuses_claims(declaration, &REFUSED_CLAIMS)?;
     check(are_full(declaration.materials()), "another content")
 }
 
-/// The first substance after which a material is told to hold too much, or not to, otherwise.
-fn first_other_weight(
-    declaration: &mut Declaration,
-    rows: &[(&str, u32, bool)],
-) -> Result<Option<usize>, Fail> {
-    for (place, (substance, mass, too_much)) in rows.iter().enumerate() {
+#[test]
+fn a_material_takes_64_substances_and_16_claims(rt: HostRuntime) -> Result<(), Fail> {
+    let mut declaration = with_one_material(rt.alloc())?;
+    takes_64_and_16(&mut declaration, rt.alloc())
+}
+
+/// Substances and their masses, and whether M holds too much with each.
+const WEIGHTS: [(&str, u32, bool); 3] = [
+    ("tin", 600_000, false),
+    ("lead", 400_000, false),
+    ("zinc", 1, true),
+];
+
+/// Fails unless M holds too much with those substances of which it is said, and says with which it doesn't go so.
+fn holds_too_much(declaration: &mut Declaration, rows: &[(&str, u32, bool)]) -> Result<(), Fail> {
+    for (substance, mass, too_much) in rows {
         add_substances(declaration, "M", &[(*substance, *mass)])?;
         let mut materials = declaration.materials().iter();
-        if materials.any(|material| material.holds_too_much()) != *too_much {
-            return Ok(Some(place));
-        }
+        let found = materials.any(|material| material.holds_too_much());
+        expect_eq(&(substance, found), &(substance, *too_much))?;
     }
-    Ok(None)
+    Ok(())
 }
 
 #[test]
 fn substances_may_weigh_as_much_as_the_material(rt: HostRuntime) -> Result<(), Fail> {
     let mut declaration = with_one_material(rt.alloc())?;
-    let rows = &[
-        ("tin", 600_000, false),
-        ("lead", 400_000, false),
-        ("zinc", 1, true),
-    ];
-    same(first_other_weight(&mut declaration, rows)?, None)
-}
-
-/// The code, the name and the mass of a material's copy.
-fn copy_of(alloc: Global, material: &MaterialDecl) -> Result<String, Fail> {
-    let copy = material.copied(alloc)?;
-    Ok(format!(in alloc; "{} {} {}", copy.code, copy.name, copy.mass)?)
+    holds_too_much(&mut declaration, &WEIGHTS)
 }
 
 #[test]
 fn a_copied_material_is_the_same(rt: HostRuntime) -> Result<(), Fail> {
-    let alloc = rt.alloc();
-    let material = MaterialDecl::empty(alloc, code("M")?, name(alloc, "Steel")?, 9);
-    same(copy_of(alloc, &material)?.as_str(), "M Steel 9")
+    let code = code("M")?;
+    let material = MaterialDecl::empty(rt.alloc(), code, name(rt.alloc(), "Steel")?, 9);
+    let copy = copy_of(rt.alloc(), material)?;
+    expect_eq(
+        &(copy.code, copy.name.as_str(), copy.mass),
+        &(code, "Steel", 9),
+    )
 }

@@ -1,23 +1,41 @@
-use crate::helpers::{check, code, day, name, numbered, same};
-use crate::tests::{add_claims, add_substances};
+use crate::helpers::{
+    add_64_substances, add_claims, add_material, add_substances, code, day, declared, name,
+    numbered,
+};
 use desk_law::{Annex, Kind, KindSet, Rule, Terms};
 use desk_model::{Declaration, Edit, Exemption, count_of, factor_of, units_of, year_of};
+use desk_testing::{check, expect_eq};
 use desk_text::{Bytes, ExemptionNumber};
 use std::alloc::Global;
 use std::test::Fail;
 
-/// A failure unless the edit appends this text, with the fields set apart by `|` here, and this code of a ticket.
-pub(crate) fn is_told(alloc: Global, edit: &Edit, fields: &str, code: &str) -> Result<(), Fail> {
-    let mut text = Bytes::start(alloc);
-    edit.text(&mut text)?;
-    let mut ticket = Bytes::start(alloc);
-    edit.ticket_code(&mut ticket)?;
+/// Fails unless the text has these fields, which are set apart by `|` here.
+fn has_fields(text: &[u8], fields: &str) -> Result<(), Fail> {
     let meant = fields.as_bytes().split(|b| *b == b'|');
-    let told = text.as_slice().split(|b| *b == b'\t');
-    if told.eq(meant) && ticket.as_slice() == code.as_bytes() {
+    if text.split(|b| *b == b'\t').eq(meant) {
         return Ok(());
     }
-    Err(Fail::new(format_args!("another text or ticket than {fields}")))
+    Err(Fail::new(format_args!("another text than {fields}")))
+}
+
+/// Fails unless the edit appends a text of these fields.
+fn tells_fields(alloc: Global, edit: &Edit, fields: &str) -> Result<(), Fail> {
+    let mut text = Bytes::start(alloc);
+    edit.text(&mut text)?;
+    has_fields(text.as_slice(), fields)
+}
+
+/// Fails unless the edit appends this code of a ticket.
+fn tells_ticket(alloc: Global, edit: &Edit, code: &str) -> Result<(), Fail> {
+    let mut ticket = Bytes::start(alloc);
+    edit.ticket_code(&mut ticket)?;
+    expect_eq(&ticket.as_slice(), &code.as_bytes())
+}
+
+/// Fails unless the edit appends this text, with the fields set apart by `|` here, and this code of a ticket.
+pub(crate) fn is_told(alloc: Global, edit: Edit, fields: &str, code: &str) -> Result<(), Fail> {
+    tells_fields(alloc, &edit, fields)?;
+    tells_ticket(alloc, &edit, code)
 }
 
 /// An exemption row for lead in these kinds.
@@ -41,54 +59,56 @@ fn shielding(
     Ok(Exemption::new(terms, name(alloc, "Shielding")?))
 }
 
-/// A declaration of two materials, the first of which has two substances and two claims.
-fn of_brass_and_copper(alloc: Global) -> Result<Declaration, Fail> {
-    let day = day("2024-01-23")?;
-    let mut declaration = Declaration::start(alloc, code("ACME")?, u64::MAX, day)?;
-    declaration.add_material(code("BRASS")?, name(alloc, "Brass")?, 10)?;
-    declaration.add_material(code("COPPER")?, name(alloc, "Copper")?, 20)?;
-    add_substances(&mut declaration, "BRASS", &[("tin", 6), ("lead", 4)])?;
-    let claims = &[(Rule::Cadmium, "8(b)"), (Rule::Lead, "6(c)")];
-    add_claims(&mut declaration, "BRASS", claims)?;
-    Ok(declaration)
+/// Adds two materials, the first of which has two substances and two claims.
+fn add_brass_and_copper(declaration: &mut Declaration, alloc: Global) -> Result<(), Fail> {
+    add_material(declaration, alloc, code("BRASS")?, "Brass", 10)?;
+    add_material(declaration, alloc, code("COPPER")?, "Copper", 20)?;
+    add_substances(declaration, "BRASS", &[("tin", 6), ("lead", 4)])?;
+    let claims = [(Rule::Cadmium, "8(b)"), (Rule::Lead, "6(c)")];
+    add_claims(declaration, "BRASS", &claims)
 }
 
 #[test]
 fn substances_and_claims_have_their_count_in_front(rt: HostRuntime) -> Result<(), Fail> {
-    let declaration = of_brass_and_copper(rt.alloc())?;
+    let mut declaration = declared(rt.alloc(), u64::MAX, "2024-01-23")?;
+    add_brass_and_copper(&mut declaration, rt.alloc())?;
     is_told(
         rt.alloc(),
-        &Edit::Declare { declaration },
+        Edit::Declare { declaration },
         "declare|ACME|18446744073709551615|2024-01-23|2|BRASS|Brass|10|2|lead|4|tin|6|2|lead|6(c)|cadmium|8(b)|COPPER|Copper|20|0|0",
         "D:ACME:18446744073709551615",
     )
 }
 
-/// A declaration of 256 materials with 64 substances each.
-fn of_many(alloc: Global) -> Result<Declaration, Fail> {
-    let day = day("2024-01-23")?;
-    let mut declaration = Declaration::start(alloc, code("ACME")?, 1, day)?;
+/// Adds 256 materials with 64 substances each.
+fn add_256(declaration: &mut Declaration, alloc: Global) -> Result<(), Fail> {
     for number in 100..356 {
         let material = numbered(alloc, "M", number)?;
-        declaration.add_material(material, name(alloc, "Steel")?, 1)?;
-        for number in 10..74 {
-            declaration.add_substance(&material, numbered(alloc, "S", number)?, 0)?;
-        }
+        add_material(declaration, alloc, material, "Steel", 1)?;
+        add_64_substances(declaration, alloc, &material, 10, 0)?;
     }
-    Ok(declaration)
+    Ok(())
+}
+
+/// Fails unless the edit's text has this length and this end.
+fn ends_so(alloc: Global, edit: &Edit, length: usize, end: &[u8]) -> Result<(), Fail> {
+    let mut text = Bytes::start(alloc);
+    edit.text(&mut text)?;
+    expect_eq(&text.len(), &length)?;
+    check(text.as_slice().ends_with(end), "another end")
 }
 
 #[test]
 fn a_text_tells_each_of_256_materials(rt: HostRuntime) -> Result<(), Fail> {
-    let declaration = of_many(rt.alloc())?;
-    let mut text = Bytes::start(rt.alloc());
-    Edit::Declare { declaration }.text(&mut text)?;
+    let mut declaration = declared(rt.alloc(), 1, "2024-01-23")?;
+    add_256(&mut declaration, rt.alloc())?;
     // 29 bytes of the head, and of each material 18 of its own and 6 of each substance.
-    same(text.len(), 29 + 256 * (18 + 64 * 6))?;
-    check(text.as_slice().ends_with(b"\tS73\t0\t0"), "another end")
+    let length = 29 + 256 * (18 + 64 * 6);
+    let edit = Edit::Declare { declaration };
+    ends_so(rt.alloc(), &edit, length, b"\tS73\t0\t0")
 }
 
-/// A failure unless an exemption row of two kinds has this text.
+/// Fails unless an exemption row of two kinds has this text.
 fn is_exemption(
     alloc: Global,
     floor: Option<u32>,
@@ -104,7 +124,7 @@ fn is_exemption(
     )?
     .ok_or("no exemption")?;
     let edit = Edit::Exemption { ticket, exemption };
-    is_told(alloc, &edit, fields, "E:t1")
+    is_told(alloc, edit, fields, "E:t1")
 }
 
 #[test]
@@ -131,7 +151,7 @@ fn a_shipment_taken_off_has_a_word_of_its_own(rt: HostRuntime) -> Result<(), Fai
         year: year_of(2099).ok_or("no year")?,
         units: units_of(1).ok_or("no units")?,
     };
-    is_told(rt.alloc(), &edit, "unship|P|2099|1", "E:t3")
+    is_told(rt.alloc(), edit, "unship|P|2099|1", "E:t3")
 }
 
 #[test]
@@ -177,5 +197,5 @@ const EXEMPTIONS: [ExemptionRow; 4] = [
 
 #[test]
 fn an_exemption_names_a_kind_and_bounds_up_to_the_whole(rt: HostRuntime) -> Result<(), Fail> {
-    same(first_wrong(rt.alloc(), &EXEMPTIONS)?, None)
+    expect_eq(&first_wrong(rt.alloc(), &EXEMPTIONS)?, &None)
 }

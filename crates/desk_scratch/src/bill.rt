@@ -19,11 +19,21 @@ use std::alloc::Global;
 use std::marker::Model;
 
 /// The bill of materials of sound tables with the masses of its parts: what an answer makes once, and then looks up.
-#[derive(Drop)]
 pub(crate) struct Bill<'a> {
     tables: &'a Tables,
     links: Links,
     masses: Vec<Option<u128>>,
+}
+
+// Written out, so that a function that owns one does not prove anew how each part is dropped.
+impl Drop for Bill<'_> {
+    fn drop(self) {
+        let Bill {
+            tables: _,
+            links: _,
+            masses: _,
+        } = self;
+    }
 }
 
 impl<'a> Model for Bill<'a> {

@@ -20,7 +20,6 @@ use std::marker::Model;
 ///
 /// It is found by going down from the part, so it costs what lies there, however large the bill is. That all of it is found
 /// isn't proved: where something lacks, the whole bill is asked.
-#[derive(Drop)]
 pub(crate) struct SubBill<'a> {
     tables: &'a Tables,
     /// The codes of materials and parts, children first.
@@ -29,6 +28,18 @@ pub(crate) struct SubBill<'a> {
     masses: Vec<u128>,
     /// Of each material and then of each part of the tables, where it stands among the codes, as far as a guess goes.
     places: Vec<usize>,
+}
+
+// Written out, so that a function that owns one does not prove anew how each part is dropped.
+impl Drop for SubBill<'_> {
+    fn drop(self) {
+        let SubBill {
+            tables: _,
+            codes: _,
+            masses: _,
+            places: _,
+        } = self;
+    }
 }
 
 impl<'a> Model for SubBill<'a> {

@@ -1,185 +1,48 @@
 //! Every question at an ordinary desk, which edits build: a gateway of a board with brass pins and of two cables, with
 //! an exemption for the brass.
 
-ghost use Rattle.desk_history.specs.Sound.{Sound};
-
-use crate::steps::{askable, code, day, enter, enter_line, enter_part, name, some, tells};
-use desk_law::{Annex, Claim, Kind, KindSet, Rule, Terms};
-use desk_model::{Declaration, Edit, Exemption, PartSort, factor_of, units_of, year_of};
-use desk_scratch::Question;
-use desk_tables::Tables;
-use desk_text::{Cas, ExemptionNumber};
-use std::alloc::Global;
+use crate::steps::{ANY_CODE, ANY_DAY, Row, Sent, Sort, go_through};
 use std::test::Fail;
 
-/// Lead oxide, of whose mass the lead is counted.
-fn enter_oxide(alloc: Global, tables: &mut Tables) -> Result<(), Fail>
-    requires { Sound tables.old.lists }
-    ensures { Sound tables.new.lists }
-{
-    let substance = Edit::Substance {
-        ticket: code("t1")?,
-        code: code("lead-oxide")?,
-        name: name(alloc, "Lead oxide")?,
-        cas: Some(Cas::read(b"1317-36-8")?),
-    };
-    enter(alloc, tables, substance)?;
-    let member = Edit::Member {
-        ticket: code("t2")?,
-        substance: code("lead-oxide")?,
-        rule: Rule::Lead,
-        factor: some(factor_of(928_320))?,
-    };
-    enter(alloc, tables, member)
-}
-
-/// An exemption for lead in copper alloys.
-fn enter_exemption(alloc: Global, tables: &mut Tables) -> Result<(), Fail>
-    requires { Sound tables.old.lists }
-    ensures { Sound tables.new.lists }
-{
-    let terms = Terms {
-        row: code("III-6C")?,
-        annex: Annex::Three,
-        number: ExemptionNumber::read(b"6(c)")?,
-        rule: Rule::Lead,
-        kinds: KindSet::from([Kind::Telecommunications, Kind::Consumer].as_slice()),
-        first: day("2014-07-22")?,
-        last: day("2026-06-30")?,
-        floor: None,
-        cap: Some(40_000),
-    };
-    let exemption = some(Exemption::new(terms, name(alloc, "Copper alloy")?))?;
-    let ticket = code("t3")?;
-    enter(alloc, tables, Edit::Exemption { ticket, exemption })
-}
-
-/// Two substances of the candidate list.
-fn enter_candidates(alloc: Global, tables: &mut Tables) -> Result<(), Fail>
-    requires { Sound tables.old.lists }
-    ensures { Sound tables.new.lists }
-{
-    let (ticket, substance) = (code("t4")?, code("dehp")?);
-    let included = day("2008-10-28")?;
-    enter(
-        alloc,
-        tables,
-        Edit::Candidate {
-            ticket,
-            substance,
-            day: included,
-        },
-    )?;
-    let (ticket, substance) = (code("t5")?, code("lead")?);
-    let included = day("2018-06-27")?;
-    enter(
-        alloc,
-        tables,
-        Edit::Candidate {
-            ticket,
-            substance,
-            day: included,
-        },
-    )
-}
-
-/// Brass with leaded alloy, for which the exemption is claimed.
-fn brass(alloc: Global) -> Result<Edit, Fail> {
-    let brass = code("BRASS")?;
-    let mut declaration = Declaration::start(alloc, code("BRASSCO")?, 11, day("2024-01-23")?)?;
-    declaration.add_material(brass, name(alloc, "Brass")?, 2_000_000)?;
-    declaration.add_substance(&brass, code("lead")?, 60_000)?;
-    let claim = Claim {
-        rule: Rule::Lead,
-        number: ExemptionNumber::read(b"6(c)")?,
-    };
-    declaration.add_claim(&brass, claim)?;
-    Ok(Edit::Declare { declaration })
-}
-
-/// Copper, and PVC with a phthalate.
-fn cable_materials(alloc: Global) -> Result<Edit, Fail> {
-    let pvc = code("PVC")?;
-    let mut declaration = Declaration::start(alloc, code("CABLECO")?, 3, day("2024-01-23")?)?;
-    declaration.add_material(code("COPPER")?, name(alloc, "Copper")?, 3_000_000)?;
-    declaration.add_material(pvc, name(alloc, "PVC")?, 5_000_000)?;
-    declaration.add_substance(&pvc, code("dehp")?, 15_000)?;
-    Ok(Edit::Declare { declaration })
-}
-
-fn enter_articles(alloc: Global, tables: &mut Tables) -> Result<(), Fail>
-    requires { Sound tables.old.lists }
-    ensures { Sound tables.new.lists }
-{
-    enter_part(alloc, tables, "t8", "PIN", PartSort::Article)?;
-    enter_part(alloc, tables, "t9", "CABLE", PartSort::Article)?;
-    enter_line(alloc, tables, "t12", "PIN", "BRASS", 1)?;
-    enter_line(alloc, tables, "t13", "CABLE", "PVC", 1)?;
-    enter_line(alloc, tables, "t14", "CABLE", "COPPER", 2)
-}
-
-fn enter_assemblies(alloc: Global, tables: &mut Tables) -> Result<(), Fail>
-    requires { Sound tables.old.lists }
-    ensures { Sound tables.new.lists }
-{
-    enter_part(alloc, tables, "t10", "BOARD", PartSort::Assembly)?;
-    enter_part(alloc, tables, "t11", "GATEWAY", PartSort::Assembly)?;
-    enter_line(alloc, tables, "t15", "BOARD", "PIN", 40)?;
-    enter_line(alloc, tables, "t16", "GATEWAY", "BOARD", 1)?;
-    enter_line(alloc, tables, "t17", "GATEWAY", "CABLE", 2)
-}
-
-fn enter_product(alloc: Global, tables: &mut Tables) -> Result<(), Fail>
-    requires { Sound tables.old.lists }
-    ensures { Sound tables.new.lists }
-{
-    let product = Edit::Product {
-        ticket: code("t18")?,
-        part: code("GATEWAY")?,
-        kind: Kind::Telecommunications,
-    };
-    enter(alloc, tables, product)?;
-    let ship = Edit::Ship {
-        ticket: code("t19")?,
-        product: code("GATEWAY")?,
-        year: some(year_of(2024))?,
-        units: some(units_of(500_000))?,
-    };
-    enter(alloc, tables, ship)
-}
-
 /// The nineteen edits.
-fn enter_all(alloc: Global, tables: &mut Tables) -> Result<(), Fail>
-    requires { Sound tables.old.lists }
-    ensures { Sound tables.new.lists }
-{
-    enter_oxide(alloc, tables)?;
-    enter_exemption(alloc, tables)?;
-    enter_candidates(alloc, tables)?;
-    enter(alloc, tables, brass(alloc)?)?;
-    enter(alloc, tables, cable_materials(alloc)?)?;
-    enter_articles(alloc, tables)?;
-    enter_assemblies(alloc, tables)?;
-    enter_product(alloc, tables)
-}
-
-#[test]
-fn each_question_is_answered_over_tables_that_edits_built(rt: HostRuntime) -> Result<(), Fail> {
-    let mut tables = Tables::start(rt.alloc())?;
-    asks_all(rt.alloc(), &mut tables)
-}
-
-fn asks_all(alloc: Global, tables: &mut Tables) -> Result<(), Fail>
-    requires { Sound tables.old.lists }
-{
-    enter_all(alloc, tables)?;
-    asks_of_material(alloc, tables)?;
-    asks_of_product(alloc, tables)?;
-    asks_of_duties(alloc, tables)?;
-    asks_of_parts(alloc, tables)?;
-    asks_of_desk(alloc, tables)?;
-    asks_of_nothing(alloc, tables)
-}
+const EDITS: &[Sent] = &[
+    // Lead oxide, of whose mass the lead is counted.
+    ("E:t1", "substance|lead-oxide|Lead oxide|1317-36-8"),
+    ("E:t2", "member|lead-oxide|lead|928320"),
+    // An exemption for lead in copper alloys.
+    (
+        "E:t3",
+        "exemption|III-6C|3|6(c)|lead|3,4|2014-07-22|2026-06-30||40000|Copper alloy",
+    ),
+    // Two substances of the candidate list.
+    ("E:t4", "candidate|dehp|2008-10-28"),
+    ("E:t5", "candidate|lead|2018-06-27"),
+    // Brass with leaded alloy, for which the exemption is claimed.
+    (
+        "D:BRASSCO:11",
+        "declare|BRASSCO|11|2024-01-23|1|BRASS|Brass|2000000|1|lead|60000|1|lead|6(c)",
+    ),
+    // Copper, and PVC with a phthalate.
+    (
+        "D:CABLECO:3",
+        "declare|CABLECO|3|2024-01-23|2|COPPER|Copper|3000000|0|0|PVC|PVC|5000000|1|dehp|15000|0",
+    ),
+    // Articles.
+    ("E:t8", "part|PIN|article|PIN"),
+    ("E:t9", "part|CABLE|article|CABLE"),
+    ("E:t12", "line|PIN|BRASS|1"),
+    ("E:t13", "line|CABLE|PVC|1"),
+    ("E:t14", "line|CABLE|COPPER|2"),
+    // Assemblies.
+    ("E:t10", "part|BOARD|assembly|BOARD"),
+    ("E:t11", "part|GATEWAY|assembly|GATEWAY"),
+    ("E:t15", "line|BOARD|PIN|40"),
+    ("E:t16", "line|GATEWAY|BOARD|1"),
+    ("E:t17", "line|GATEWAY|CABLE|2"),
+    // A product, and how much of it was shipped.
+    ("E:t18", "product|GATEWAY|3"),
+    ("E:t19", "ship|GATEWAY|2024|500000"),
+];
 
 const BRASS: &str = "> version 19
 material BRASS supplier BRASSCO declaration 11 mass 2000000
@@ -195,19 +58,6 @@ rule dbp share 0 limit 2000000000 within
 rule dibp share 0 limit 2000000000 within
 compliant
 ";
-
-fn asks_of_material(alloc: Global, tables: &Tables) -> Result<(), Fail>
-    requires { Sound tables.now.lists }
-{
-    let kind = Kind::Telecommunications;
-    let (code, day) = (code("BRASS")?, askable("2026-06-30")?);
-    tells(
-        alloc,
-        tables,
-        &Question::Material { code, kind, day },
-        BRASS,
-    )
-}
 
 const ROHS: &str = "> version 19
 product GATEWAY kind 3 day 2024-07-22 mass 102000000
@@ -226,15 +76,6 @@ chain GATEWAY CABLE PVC
 not-compliant
 ";
 
-fn asks_of_product(alloc: Global, tables: &Tables) -> Result<(), Fail>
-    requires { Sound tables.now.lists }
-{
-    let (code, day) = (code("GATEWAY")?, askable("2024-07-22")?);
-    tells(alloc, tables, &Question::Rohs { code, day }, ROHS)?;
-    let day = askable("2026-07-01")?;
-    tells(alloc, tables, &Question::Rohs { code, day }, ROHS_LATER)
-}
-
 const REACH33: &str = "> version 19
 part GATEWAY day 2024-07-22
 duty CABLE dehp mass 15000 of 11000000 included 2008-10-28
@@ -252,15 +93,6 @@ notice lead tonnage 1200000000000 included 2018-06-27 due 2018-12-27
 notices 1
 ";
 
-fn asks_of_duties(alloc: Global, tables: &Tables) -> Result<(), Fail>
-    requires { Sound tables.now.lists }
-{
-    let (code, day) = (code("GATEWAY")?, askable("2024-07-22")?);
-    tells(alloc, tables, &Question::Reach33 { code, day }, REACH33)?;
-    let (year, day) = (2024, askable("2024-12-31")?);
-    tells(alloc, tables, &Question::Reach7 { year, day }, REACH7)
-}
-
 const PART: &str = "> version 19
 part GATEWAY assembly mass 102000000
 name GATEWAY
@@ -277,15 +109,6 @@ user BOARD 40
 product GATEWAY kind 3
 ";
 
-fn asks_of_parts(alloc: Global, tables: &Tables) -> Result<(), Fail>
-    requires { Sound tables.now.lists }
-{
-    let part = code("GATEWAY")?;
-    tells(alloc, tables, &Question::Part { code: part }, PART)?;
-    let pin = code("PIN")?;
-    tells(alloc, tables, &Question::Uses { code: pin }, USES)
-}
-
 const SUMMARY: &str = "> version 19
 day 2024-07-22
 substances 11
@@ -300,29 +123,21 @@ shipments 1
 product GATEWAY kind 3 not-compliant breaches 1 duties 2
 ";
 
-fn asks_of_desk(alloc: Global, tables: &Tables) -> Result<(), Fail>
-    requires { Sound tables.now.lists }
-{
-    let day = askable("2024-07-22")?;
-    tells(alloc, tables, &Question::Summary { day }, SUMMARY)?;
-    tells(alloc, tables, &Question::Version, "> version 19\n")
-}
+const ANSWERS: &[Row] = &[
+    (Sort::Material, "BRASS", "2026-06-30", BRASS),
+    (Sort::Rohs, "GATEWAY", "2024-07-22", ROHS),
+    (Sort::Rohs, "GATEWAY", "2026-07-01", ROHS_LATER),
+    (Sort::Reach33, "GATEWAY", "2024-07-22", REACH33),
+    (Sort::Reach7Of2024, ANY_CODE, "2024-12-31", REACH7),
+    (Sort::Part, "GATEWAY", ANY_DAY, PART),
+    (Sort::Uses, "PIN", ANY_DAY, USES),
+    (Sort::Summary, ANY_CODE, "2024-07-22", SUMMARY),
+    (Sort::Version, ANY_CODE, ANY_DAY, "> version 19\n"),
+    (Sort::Rohs, "PIN", "2024-07-22", "> not-a-product PIN"),
+    (Sort::Part, "BRASS", ANY_DAY, "> no-such-code BRASS"),
+];
 
-fn asks_of_nothing(alloc: Global, tables: &Tables) -> Result<(), Fail>
-    requires { Sound tables.now.lists }
-{
-    let (pin, day) = (code("PIN")?, askable("2024-07-22")?);
-    tells(
-        alloc,
-        tables,
-        &Question::Rohs { code: pin, day },
-        "> not-a-product PIN",
-    )?;
-    let brass = code("BRASS")?;
-    tells(
-        alloc,
-        tables,
-        &Question::Part { code: brass },
-        "> no-such-code BRASS",
-    )
+#[test]
+fn each_question_is_answered_over_tables_that_edits_built(rt: HostRuntime) -> Result<(), Fail> {
+    go_through(rt.alloc(), &[(EDITS, ANSWERS)])
 }

@@ -1,32 +1,19 @@
-ghost use Rattle.std.specs.Prelude.{◌≤◌};
 ghost use Rattle.desk_history.specs.Sound.{Sound};
 
-use crate::steps::{askable, code};
+use crate::steps::{Sent, askable, code, edit_of, is_text};
 use desk_law::{Kind, KindOnDay};
-use desk_model::Declaration;
+use desk_model::{Declaration, Edit};
 use desk_scratch::{AskFault, check_text};
 use desk_tables::Tables;
-use desk_text::{Code, Day, Name};
+use desk_testing::expect_eq;
 use std::alloc::Global;
 use std::test::Fail;
 
-/// A gram of paste with these micrograms of lead and of cadmium.
-fn paste(alloc: Global, lead: u64, cadmium: u64) -> Result<Declaration, Fail>
-    requires lead { lead ≤ 1000000 }
-    requires cadmium { cadmium ≤ 1000000 }
-{
-    let paste = Code::read(b"SOLDER")?;
-    let mut declaration = Declaration::start(
-        alloc,
-        Code::read(b"ACME")?,
-        7,
-        Day::read(b"2024-01-23")?,
-    )?;
-    declaration.add_material(paste, Name::read(alloc, b"Solder paste")?, 1_000_000)?;
-    declaration.add_substance(&paste, Code::read(b"lead")?, lead)?;
-    declaration.add_substance(&paste, Code::read(b"cadmium")?, cadmium)?;
-    Ok(declaration)
-}
+/// A gram of paste with 1001 micrograms of lead and 100 of cadmium.
+const PASTE: Sent = (
+    "D:ACME:7",
+    "declare|ACME|7|2024-01-23|1|SOLDER|Solder paste|1000000|2|cadmium|100|lead|1001|0",
+);
 
 const OVER: &str = "check 2024-01-23 kind 3 supplier ACME declaration 7
 material SOLDER supplier ACME declaration 7 mass 1000000
@@ -52,30 +39,35 @@ fn a_material_is_judged_for_each_rule(rt: HostRuntime) -> Result<(), Fail> {
 fn judges(alloc: Global, tables: &Tables) -> Result<(), Fail>
     requires { Sound tables.now.lists }
 {
-    let kind = Kind::Telecommunications;
-    let day = askable("2024-01-23")?;
-    let paste = paste(alloc, 1001, 100)?;
-    let text = check_text(alloc, tables, &KindOnDay { kind, day }, &paste)?;
-    if text.as_slice() != OVER.as_bytes() {
-        return Err(Fail::new("another answer"));
+    match &edit_of(alloc, &PASTE)? {
+        Edit::Declare { declaration } => judges_so(alloc, tables, declaration),
+        _ => Err(Fail::new("no declaration")),
     }
-    Ok(())
 }
 
-/// Whether the fault is displayed as this text.
-fn is_displayed(alloc: Global, fault: &AskFault, text: &str) -> Result<bool, Fail> {
-    Ok(format!(in alloc; "{fault}")?.as_str() == text)
+/// Fails unless the declared material is judged in this text.
+fn judges_so(alloc: Global, tables: &Tables, declaration: &Declaration) -> Result<(), Fail>
+    requires { Sound tables.now.lists }
+{
+    let kind = Kind::Telecommunications;
+    let day = askable("2024-01-23")?;
+    let text = check_text(alloc, tables, &KindOnDay { kind, day }, declaration)?;
+    is_text(text.as_slice(), OVER)
+}
+
+/// Fails, and says as which it is, unless the fault is displayed as this text.
+fn is_displayed(alloc: Global, fault: &AskFault, text: &str) -> Result<(), Fail> {
+    let shown = fault.to_string(alloc)?;
+    expect_eq(&shown.as_str(), &text)
 }
 
 #[test]
 fn a_fault_names_the_code_that_was_asked_for(rt: HostRuntime) -> Result<(), Fail> {
     let code = code("P")?;
-    let no_code = is_displayed(rt.alloc(), &AskFault::NoSuchCode { code }, "no-such-code P")?;
-    let no_product = is_displayed(
+    is_displayed(rt.alloc(), &AskFault::NoSuchCode { code }, "no-such-code P")?;
+    is_displayed(
         rt.alloc(),
         &AskFault::NotAProduct { code },
         "not-a-product P",
-    )?;
-    assert_eq!(rt; (no_code, no_product), (true, true));
-    Ok(())
+    )
 }

@@ -14,7 +14,6 @@ use std::alloc::Global;
 use std::marker::Model;
 
 /// Rows that are put together as tables. Contracts see the lists.
-#[derive(Drop)]
 struct Gathering {
     substances: Table<SubstanceRow>,
     members: Table<MemberRow>,
@@ -26,6 +25,24 @@ struct Gathering {
     candidates: Table<CandidateRow>,
     shipments: Table<ShipmentRow>,
     tickets: Table<TicketRow>,
+}
+
+// Written out, so that a function that owns one does not prove anew how each part is dropped.
+impl Drop for Gathering {
+    fn drop(self) {
+        let Gathering {
+            substances: _,
+            members: _,
+            materials: _,
+            parts: _,
+            lines: _,
+            products: _,
+            exemptions: _,
+            candidates: _,
+            shipments: _,
+            tickets: _,
+        } = self;
+    }
 }
 
 impl Model for Gathering {
@@ -116,17 +133,29 @@ impl Gathering {
         ensures { result.lists ≡ self }
     {
         let text = text_length(self.tickets.as_slice());
+        let Gathering {
+            substances,
+            members,
+            materials,
+            parts,
+            lines,
+            products,
+            exemptions,
+            candidates,
+            shipments,
+            tickets,
+        } = self;
         Tables {
-            substances: self.substances,
-            members: self.members,
-            materials: self.materials,
-            parts: self.parts,
-            lines: self.lines,
-            products: self.products,
-            exemptions: self.exemptions,
-            candidates: self.candidates,
-            shipments: self.shipments,
-            tickets: self.tickets,
+            substances,
+            members,
+            materials,
+            parts,
+            lines,
+            products,
+            exemptions,
+            candidates,
+            shipments,
+            tickets,
             text,
         }
     }

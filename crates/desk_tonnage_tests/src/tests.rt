@@ -3,6 +3,7 @@ ghost use Rattle.std.specs.List.{AllByRecursion};
 ghost use Rattle.desk_tonnage.specs.Tonnage.{AreLoadsByProduct, carried_by};
 
 use desk_rows::Table;
+use desk_testing::expect_eq;
 use desk_text::Code;
 use desk_tonnage::{
     Entry, MassFault, ProductLoad, ProductMass, TakeFault, TonnageFault, Yearly, carried_by,
@@ -105,15 +106,6 @@ fn entry(year: u16, product: &[u8], units: u64, mass: u128) -> Result<Entry, Fai
     })
 }
 
-/// Products A and B in 2023, and B in 2024, put in out of order.
-fn three_entries(alloc: Global) -> Result<Yearly, Fail> {
-    let mut yearly = Yearly::start(alloc)?;
-    add(&mut yearly, alloc, 2024, b"B", 7, 20)??;
-    add(&mut yearly, alloc, 2023, b"B", 5, 20)??;
-    add(&mut yearly, alloc, 2023, b"A", 3, 10)??;
-    Ok(yearly)
-}
-
 /// A step of a test: an edit and its answer, or what a table of years then holds.
 #[derive(Clone, Copy)]
 enum Step {
@@ -173,26 +165,40 @@ fn is_held(yearly: &Yearly, alloc: Global, step: Step) -> Result<bool, Fail> {
     }
 }
 
-/// The place of the first step that does not go so.
-fn first_wrong(yearly: &mut Yearly, alloc: Global, steps: &[Step]) -> Result<Option<usize>, Fail> {
+/// Fails at the first step that does not go so.
+fn go_so(yearly: &mut Yearly, alloc: Global, steps: &[Step]) -> Result<(), Fail> {
     for (place, step) in steps.iter().enumerate() {
         if !is_answered(yearly, alloc, *step)? {
-            return Ok(Some(place));
+            return Err(Fail::new(format_args!("step {place}")));
         }
     }
-    Ok(None)
+    Ok(())
 }
 
-/// The same, where the first step finds no entries.
-fn first_wrong_of_none(alloc: Global, steps: &[Step]) -> Result<Option<usize>, Fail> {
+/// Products A and B in 2023, and B in 2024, put in out of order.
+const THREE_ENTRIES: &[Step] = &[
+    Step::Add(2024, b"B", 7, 20, Ok(())),
+    Step::Add(2023, b"B", 5, 20, Ok(())),
+    Step::Add(2023, b"A", 3, 10, Ok(())),
+];
+
+/// A table of the three entries.
+fn three_entries(alloc: Global) -> Result<Yearly, Fail> {
     let mut yearly = Yearly::start(alloc)?;
-    first_wrong(&mut yearly, alloc, steps)
+    go_so(&mut yearly, alloc, THREE_ENTRIES)?;
+    Ok(yearly)
 }
 
-/// The same, where the first step finds the three entries.
-fn first_wrong_of_three(alloc: Global, steps: &[Step]) -> Result<Option<usize>, Fail> {
+/// Fails at the first step that does not go so, where the first one finds no entries.
+fn go_so_from_none(alloc: Global, steps: &[Step]) -> Result<(), Fail> {
+    let mut yearly = Yearly::start(alloc)?;
+    go_so(&mut yearly, alloc, steps)
+}
+
+/// Fails at the first step that does not go so, where the first one finds the three entries.
+fn go_so_from_three(alloc: Global, steps: &[Step]) -> Result<(), Fail> {
     let mut yearly = three_entries(alloc)?;
-    first_wrong(&mut yearly, alloc, steps)
+    go_so(&mut yearly, alloc, steps)
 }
 
 #[test]
@@ -202,8 +208,7 @@ fn entries_stand_by_year_and_then_by_product(rt: HostRuntime) -> Result<(), Fail
         (2023, b"B", 5, 20),
         (2024, b"B", 7, 20),
     ])];
-    assert_eq!(rt; first_wrong_of_three(rt.alloc(), STEPS)?, None);
-    Ok(())
+    go_so_from_three(rt.alloc(), STEPS)
 }
 
 #[test]
@@ -214,8 +219,7 @@ fn units_of_a_product_and_year_add_up(rt: HostRuntime) -> Result<(), Fail> {
         Step::HasUnits(2024, b"B", 7),
         Step::HasUnits(2024, b"A", 0),
     ];
-    assert_eq!(rt; first_wrong_of_three(rt.alloc(), STEPS)?, None);
-    Ok(())
+    go_so_from_three(rt.alloc(), STEPS)
 }
 
 #[test]
@@ -226,8 +230,7 @@ fn one_unit_past_the_limit_is_refused(rt: HostRuntime) -> Result<(), Fail> {
         Step::HasUnits(2024, b"A", 1_000_000_000_000),
         Step::Add(2025, b"A", 1, 1, Ok(())),
     ];
-    assert_eq!(rt; first_wrong_of_none(rt.alloc(), STEPS)?, None);
-    Ok(())
+    go_so_from_none(rt.alloc(), STEPS)
 }
 
 #[test]
@@ -242,8 +245,7 @@ fn a_year_of_2_to_the_128_micrograms_is_refused(rt: HostRuntime) -> Result<(), F
         Step::Add(2023, b"B", 1, HALF, Ok(())),
         Step::Add(2022, b"C", 4, HALF, Err(IN_2022)),
     ];
-    assert_eq!(rt; first_wrong_of_none(rt.alloc(), STEPS)?, None);
-    Ok(())
+    go_so_from_none(rt.alloc(), STEPS)
 }
 
 #[test]
@@ -253,8 +255,7 @@ fn taking_5_where_3_are_kept_is_refused_with_3(rt: HostRuntime) -> Result<(), Fa
         Step::Take(2024, b"A", 1, Err(TakeFault::BelowZero { kept: 0 })),
         Step::HasLength(3),
     ];
-    assert_eq!(rt; first_wrong_of_three(rt.alloc(), STEPS)?, None);
-    Ok(())
+    go_so_from_three(rt.alloc(), STEPS)
 }
 
 #[test]
@@ -266,8 +267,7 @@ fn an_entry_at_0_goes_out(rt: HostRuntime) -> Result<(), Fail> {
         Step::Take(2023, b"A", 0, Ok(())),
         Step::HasLength(2),
     ];
-    assert_eq!(rt; first_wrong_of_three(rt.alloc(), STEPS)?, None);
-    Ok(())
+    go_so_from_three(rt.alloc(), STEPS)
 }
 
 #[test]
@@ -280,8 +280,7 @@ fn a_new_mass_holds_in_each_year_of_the_product(rt: HostRuntime) -> Result<(), F
             (2024, b"B", 7, 30),
         ]),
     ];
-    assert_eq!(rt; first_wrong_of_three(rt.alloc(), STEPS)?, None);
-    Ok(())
+    go_so_from_three(rt.alloc(), STEPS)
 }
 
 #[test]
@@ -294,8 +293,7 @@ fn of_years_that_would_weigh_too_much_the_least_is_named(rt: HostRuntime) -> Res
         Step::SetMasses(&[(b"A", HALF / 4), (b"B", 1)], Ok(())),
         Step::HasMass(2022, b"A", HALF / 4),
     ];
-    assert_eq!(rt; first_wrong_of_three(rt.alloc(), STEPS)?, None);
-    Ok(())
+    go_so_from_three(rt.alloc(), STEPS)
 }
 
 #[test]
@@ -307,8 +305,7 @@ fn masses_that_make_up_for_one_another_are_taken_together(rt: HostRuntime) -> Re
         Step::SetMasses(&[(b"A", HALF)], Err(IN_2024)),
         Step::SetMasses(&[(b"A", HALF), (b"B", 1)], Ok(())),
     ];
-    assert_eq!(rt; first_wrong_of_none(rt.alloc(), STEPS)?, None);
-    Ok(())
+    go_so_from_none(rt.alloc(), STEPS)
 }
 
 #[test]
@@ -319,8 +316,7 @@ fn a_tonne_and_a_milligram(rt: HostRuntime) -> Result<(), Fail> {
         Step::Add(2024, b"G", 1, 2_000, Ok(())),
         Step::HasTonnage(2024, &[(b"G", 1_000)], 1_000_000_001_000),
     ];
-    assert_eq!(rt; first_wrong_of_none(rt.alloc(), STEPS)?, None);
-    Ok(())
+    go_so_from_none(rt.alloc(), STEPS)
 }
 
 #[test]
@@ -331,40 +327,42 @@ fn a_tonnage_counts_the_entries_of_its_year_that_have_a_load(rt: HostRuntime) ->
         Step::HasTonnage(2024, &[(b"B", 4), (b"C", 1_000)], 28),
         Step::HasTonnage(2023, &[(b"A", 10), (b"B", 20)], 130),
     ];
-    assert_eq!(rt; first_wrong_of_three(rt.alloc(), STEPS)?, None);
-    Ok(())
+    go_so_from_three(rt.alloc(), STEPS)
+}
+
+/// Fails unless the copy has the same entries, and what is added to it is not added to what it is a copy of.
+fn is_copied(yearly: &Yearly, copy: &mut Yearly, alloc: Global) -> Result<(), Fail> {
+    const STEPS: &[Step] = &[Step::Add(2024, b"A", 1, 10, Ok(()))];
+    expect_eq(&copy.as_slice(), &yearly.as_slice())?;
+    go_so(copy, alloc, STEPS)?;
+    expect_eq(&yearly.as_slice().len(), &3)
 }
 
 #[test]
 fn a_copy_has_the_same_entries(rt: HostRuntime) -> Result<(), Fail> {
     let yearly = three_entries(rt.alloc())?;
     let mut copy = yearly.copied(rt.alloc())?;
-    assert_eq!(rt; copy.as_slice(), yearly.as_slice());
-    add(&mut copy, rt.alloc(), 2024, b"A", 1, 10)??;
-    assert_eq!(rt; yearly.as_slice().len(), 3);
-    Ok(())
+    is_copied(&yearly, &mut copy, rt.alloc())
 }
 
-/// Adds three products to each of 92 years.
-fn add_hundreds(yearly: &mut Yearly, alloc: Global) -> Result<(), Fail> {
+/// Fails unless three products can be added to each of 92 years, and are counted then.
+fn has_room_for_hundreds(yearly: &mut Yearly, alloc: Global) -> Result<(), Fail> {
+    const STEPS: &[Step] = &[
+        Step::HasLength(276),
+        Step::HasTonnage(2_050, &[(b"A", 1), (b"C", 3)], 8),
+    ];
     for year in 2_008..2_100 {
         for product in [b"B", b"A", b"C"] {
             add(yearly, alloc, year, product, 2, 10)??;
         }
     }
-    Ok(())
+    go_so(yearly, alloc, STEPS)
 }
 
 #[test]
 fn hundreds_of_entries_find_room(rt: HostRuntime) -> Result<(), Fail> {
-    const STEPS: &[Step] = &[
-        Step::HasLength(276),
-        Step::HasTonnage(2_050, &[(b"A", 1), (b"C", 3)], 8),
-    ];
     let mut yearly = Yearly::start(rt.alloc())?;
-    add_hundreds(&mut yearly, rt.alloc())?;
-    assert_eq!(rt; first_wrong(&mut yearly, rt.alloc(), STEPS)?, None);
-    Ok(())
+    has_room_for_hundreds(&mut yearly, rt.alloc())
 }
 
 /// The desk's entries once more, kept as plain counts: units by year and product, and the mass of each product.
@@ -454,14 +452,17 @@ fn first_wrong_edit(
     Ok(None)
 }
 
-#[test]
-fn a_thousand_edits_leave_what_plain_counts_do(rt: HostRuntime) -> Result<(), Fail> {
-    let mut yearly = Yearly::start(rt.alloc())?;
+/// Fails unless each of a thousand edits is answered alike, and leaves the same entries.
+fn are_alike(yearly: &mut Yearly, alloc: Global) -> Result<(), Fail> {
     let mut plain = Plain {
         units: [[0; 4]; 3],
         masses: [1; 4],
     };
-    let wrong = first_wrong_edit(&mut yearly, rt.alloc(), &mut plain)?;
-    assert_eq!(rt; wrong, None);
-    Ok(())
+    expect_eq(&first_wrong_edit(yearly, alloc, &mut plain)?, &None)
+}
+
+#[test]
+fn a_thousand_edits_leave_what_plain_counts_do(rt: HostRuntime) -> Result<(), Fail> {
+    let mut yearly = Yearly::start(rt.alloc())?;
+    are_alike(&mut yearly, rt.alloc())
 }
