@@ -1,5 +1,5 @@
 -- A sweep over the bill after a plan gives what is affected there, and what a plan of a new node says.
-use Rattle.std.proofs.Common.{◌≡◌, ℕ, ◌+◌, ◌<◌, ◌≤◌, Bool, true, false, cond, ◌||◌, List, Ok, Err, filter, length, slice_index, sym, ap, ◌∙◌, subst, arith}
+use Rattle.std.proofs.Common.{◌≡◌, ℕ, ◌+◌, ◌<◌, ◌≤◌, Bool, true, false, cond, ◌||◌, List, Ok, Err, filter, length, sym, ap, ◌∙◌, subst, arith}
 use Rattle.std.specs.Prelude.{nat_le}
 use Rattle.std.proofs.lemmas.Bool.{cond-false, cond-true, le-leb, lt-leb}
 use Rattle.std.proofs.lemmas.List.Folds.{list_any-append}
@@ -10,12 +10,12 @@ use Rattle.desk_graph.specs.declared.fault.PlanFault.TheVariants.{Node}
 use Rattle.std.specs.Ordering.{is_eq}
 use Rattle.desk_graph.specs.Graph.{Graph, is_line, label_cmp}
 use Rattle.desk_graph.specs.Edits.{is_taken}
-use Rattle.desk_graph.specs.Order.{AreBothEnds, AreMarkedUp, IsInOrder, IsSwept, has_mark}
+use Rattle.desk_graph.specs.Order.{AreBothEnds, AreMarkedUp, AreSweptUp, IsInOrder, IsSwept, has_mark}
 use Rattle.desk_graph.specs.Planned.{BillEdit, HasMadeWayFor, IsBillPlan, changed_lines, changed_users, plan_answer, planned, with_empty, with_next}
 use Rattle.desk_graph.specs.Reaches.{AreAffected, AreChildrenFirst}
 use Rattle.desk_graph.proofs.ChangedLines.{StaysKept, changed-kept, length-labels, more-kept, with_labels, with_labels-is, with_nodes-is}
 use Rattle.desk_graph.proofs.Kept.{bill_falls, bill_swept}
-use Rattle.desk_graph.proofs.Ordered.{marked_once, order_inside, order_pairs, rank}
+use Rattle.desk_graph.proofs.Ordered.{marked_once, order_pairs, rank}
 use Rattle.desk_graph.proofs.Reached.{marks_are}
 
 module _ (labels : List (List ℕ)) (lines users : List (List BillLine)) (order : List ℕ) (ends : AreBothEnds labels lines users) (ordered : IsInOrder lines order) (edit : BillEdit) (good : IsBillPlan (record { labels = labels; lines = lines }) edit)
@@ -42,22 +42,25 @@ module _ (labels : List (List ℕ)) (lines users : List (List BillLine)) (order 
     after.ends.users_size ∙ ap (λ g. length g.labels) (sym (with_nodes-is edit.labels (record { labels = labels; lines = changed_lines edit.line lines }))),
   )
 
-  pub inside_after : (place : ℕ) → place < length new_order → slice_index new_order place < length new_order
-  inside_after place h = order_inside new_order after.in_order.once place h
-
   lines_are : (planned edit (record { labels = labels; lines = lines })).lines ≡ new_lines
   lines_are = ap (λ g. g.lines) (with_nodes-is edit.labels (record { labels = labels; lines = changed_lines edit.line lines }))
 
-  pub affected_by_marks : (seeds : List ℕ) (marks : List Bool) → AreMarkedUp new_users seeds marks → AreAffected (planned edit (record { labels = labels; lines = lines })).lines seeds (filter (has_mark true marks) new_order)
+  affected_by_marks : (seeds : List ℕ) (marks : List Bool) → AreMarkedUp new_users seeds marks → AreAffected (planned edit (record { labels = labels; lines = lines })).lines seeds (filter (has_mark true marks) new_order)
   affected_by_marks seeds marks up =
       subst (λ l. AreAffected l seeds (filter (has_mark true marks) new_order)) (sym lines_are)
       (λ node. marked_once marks new_order after.in_order.once (up.size ∙ sym swept_after.size) node
       ∙ ap (λ b. cond b 1 0) (marks_are new_lines (rank new_order) (bill_falls new_labels new_lines new_users new_order after.ends after.in_order) seeds new_users marks after.ends.agree up node))
 
-  pub first_by_marks : (marks : List Bool) → AreChildrenFirst (planned edit (record { labels = labels; lines = lines })).lines (filter (has_mark true marks) new_order)
+  first_by_marks : (marks : List Bool) → AreChildrenFirst (planned edit (record { labels = labels; lines = lines })).lines (filter (has_mark true marks) new_order)
   first_by_marks marks =
       subst (λ l. AreChildrenFirst l (filter (has_mark true marks) new_order)) (sym lines_are)
       (AllPairs-filter (λ x y. is_line new_lines x y ≡ false) (has_mark true marks) new_order (order_pairs new_lines new_order after.in_order))
+
+  pub nodes_after : (seeds nodes : List ℕ) → AreSweptUp new_users new_order seeds nodes → AreAffected (planned edit (record { labels = labels; lines = lines })).lines seeds nodes
+  nodes_after seeds nodes swept = subst (AreAffected (planned edit (record { labels = labels; lines = lines })).lines seeds) (sym swept.2) (affected_by_marks seeds swept.0 swept.1)
+
+  pub first_after : (seeds nodes : List ℕ) → AreSweptUp new_users new_order seeds nodes → AreChildrenFirst (planned edit (record { labels = labels; lines = lines })).lines nodes
+  first_after seeds nodes swept = subst (AreChildrenFirst (planned edit (record { labels = labels; lines = lines })).lines) (sym swept.2) (first_by_marks swept.0)
 
 -- whether a label is taken after a plan
 pub taken_after : (new labels : List (List ℕ)) (label : List ℕ) → is_taken (with_labels new labels) label ≡ (is_taken labels label || is_taken new label)

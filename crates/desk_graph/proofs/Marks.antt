@@ -1,5 +1,5 @@
 -- Marks of nodes, and what marking does to them.
-use Rattle.std.proofs.Common.{◌≡◌, ℕ, ◌+◌, ◌<◌, ◌≤◌, Bool, true, false, cond, not, ◌||◌, ◌==◌, List, [], ◌∷◌, ◌++◌, filter, count_by, replicate, length, get_or, set, take, refl, sym, ap, ◌∙◌, inl, inr, subst, slice_index, arith}
+use Rattle.std.proofs.Common.{◌≡◌, ℕ, zero, suc, ◌+◌, ◌<◌, ◌≤◌, Bool, true, false, cond, not, ◌||◌, ◌==◌, List, [], ◌∷◌, ◌++◌, filter, count_by, replicate, length, get_or, set, drop, take, refl, sym, ap, ◌∙◌, inl, inr, subst, slice_index, arith}
 use Rattle.std.proofs.lemmas.Bool.{cases_eq, cases_lt, eq-eqb, false≢true, ne_eqb}
 use Rattle.std.proofs.lemmas.List.{append_assoc, get_or-replicate, get_or-set_same, get_or-set_other, get_or_default, get_or_past, length-replicate}
 use Rattle.std.proofs.lemmas.List.Sums.{count_by_more_yes, sum_by-cons, sum_by-take-le, sum_by_more}
@@ -7,7 +7,7 @@ use Rattle.std.proofs.lemmas.List.Elements.{filter_more}
 use Rattle.std.proofs.lemmas.List.Folds.{list_any_at, list_any_more}
 use Rattle.desk_graph.specs.declared.line.BillLine.{BillLine}
 use Rattle.desk_graph.specs.Graph.{has_line, lines_of}
-use Rattle.desk_graph.specs.Order.{AreMarkedUp, HoldsBelow, IsSwept, has_mark, mark_of}
+use Rattle.desk_graph.specs.Order.{AreMarkedUp, AreUnmarked, HoldsBelow, IsSwept, has_mark, mark_of}
 use Rattle.desk_graph.specs.Reaches.{has_node}
 
 or-true : (b : Bool) → (b || true) ≡ true
@@ -113,3 +113,11 @@ counted_more p order i d wanted h e = rw e (sum_by_more (λ node. cond (p node) 
 -- where the next node passes there is room for it
 pub room_for_next : (p : ℕ → Bool) (order : List ℕ) (i d : ℕ) → i < length order → p (get_or order i d) ≡ true → count_by p (take i order) + 1 ≤ count_by p order
 room_for_next p order i d h e = omega (arith, count_by_more_yes p order i d h e, sum_by-take-le (λ node. cond (p node) 1 0) order (i + 1))
+
+-- where none of the first so many nodes is marked, the marked ones are among the others
+pub filter_behind : (marks : List Bool) (first : ℕ) (order : List ℕ) → AreUnmarked first order marks → filter (has_mark true marks) (drop first order) ≡ filter (has_mark true marks) order
+filter_behind marks zero order none = refl
+filter_behind marks (suc first) [] none = refl
+filter_behind marks (suc first) (node ∷ order) none =
+    let rest = filter (has_mark true marks) order in
+    filter_behind marks first order (λ place h. none (suc place) (omega arith)) ∙ sym (ap (λ b. cond b (node ∷ rest) rest) (none 0 (omega arith)))

@@ -38,6 +38,19 @@ pub record AreMarkedUp (users : List (List BillLine)) (seeds : List ℕ) (marks 
       ((node user : ℕ) → holds node ≡ true → has_line (lines_of users node) user ≡ true → holds user ≡ true) →
       (node : ℕ) → mark_of marks node ≡ true → holds node ≡ true
 
+-- none of the first so many nodes of the order is marked
+abbrev pub AreUnmarked : ℕ → List ℕ → List Bool → Type 0
+AreUnmarked first order marks = (place : ℕ) → place < first → mark_of marks (slice_index order place) ≡ false
+
+-- none of the first so many nodes of the order is one of these
+abbrev pub AreBehind : ℕ → List ℕ → List ℕ → Type 0
+AreBehind first order nodes = (place : ℕ) → place < first → has_node nodes (slice_index order place) ≡ false
+
+-- the seeds, and the nodes from which lines lead to one, in their order
+abbrev pub AreSweptUp : List (List BillLine) → List ℕ → List ℕ → List ℕ → Type 0
+AreSweptUp users order seeds nodes =
+    (marks : List Bool) × AreMarkedUp users seeds marks × (nodes ≡ filter (has_mark true marks) order)
+
 -- the users of each node are those of the lines, in the order of their labels, as the lines of each node are
 pub record AreBothEnds (labels : List (List ℕ)) (lines users : List (List BillLine)) : Type 0 where
   pub lines_size : length lines ≡ length labels

@@ -1,8 +1,8 @@
-ghost use Rattle.std.specs.Prelude.{◌≡◌, ◌≢◌, ◌+◌, ◌<◌, ◌≤◌, ℕ, true, false, [], filter, length, slice_index, vec_capacity, Ok, Err, IfOk, IfErr, OnOk, OnErr};
+ghost use Rattle.std.specs.Prelude.{◌≡◌, ◌≢◌, ◌+◌, ◌<◌, ◌≤◌, ℕ, true, false, [], length, vec_capacity, Ok, Err, IfOk, IfErr, OnOk, OnErr};
 ghost use Rattle.desk_graph.specs.Bill.{IsBill};
 ghost use Rattle.desk_graph.specs.Graph.{AreUsers, IsByLabel, is_line, label_of, lines_of};
 ghost use Rattle.desk_graph.specs.Edits.{is_taken, line_answer, node_answer, with_line_in, with_node, without_line_in};
-ghost use Rattle.desk_graph.specs.Order.{HasMadeWay, HasOnce, IsSwept, has_mark, mark_of};
+ghost use Rattle.desk_graph.specs.Order.{HasMadeWay, HasOnce, IsSwept, mark_of};
 ghost use Rattle.desk_graph.specs.Plan.{IsLinePlan};
 ghost use Rattle.desk_graph.specs.Reaches.{AreAffected, AreChildrenFirst, chain, has_node, is_affected, is_or_reaches};
 
@@ -16,7 +16,7 @@ use crate::node_order::{NODE_LIMIT, NodeOrder};
 use crate::path::Path;
 use crate::plan::LinePlan;
 use crate::steps::Steps;
-use crate::sweep::{mark_from, push_marked};
+use crate::sweep::{mark_from, swept_nodes};
 use crate::users::Users;
 use std::alloc::Global;
 use std::marker::Model;
@@ -263,8 +263,9 @@ impl Bill {
         ensures nodes { IfOk result (λ nodes. AreAffected self.now.lines seeds.now nodes.items) }
         ensures children_first { IfOk result (λ nodes. AreChildrenFirst self.now.lines nodes.items) }
     {
-        let marks = self.marks_from(alloc, seeds)?;
-        marked_nodes(alloc, self.order.as_slice(), marks.as_slice())
+        let from = self.order.first_place(seeds);
+        let users = Users::as_they_are(self.users.as_slice());
+        swept_nodes(alloc, self.order.as_slice(), from, &users, seeds)
     }
 
     /// A mark for each node that is a seed or reaches one.
@@ -280,6 +281,7 @@ impl Bill {
         let mut marks = Vec::from_elem(alloc, false, self.labels.len())?;
         mark_from(
             self.order.as_slice(),
+            self.order.first_place(seeds),
             &Users::as_they_are(self.users.as_slice()),
             seeds,
             marks.as_mut_slice(),
@@ -319,20 +321,6 @@ pub(crate) fn make_way(order: &mut NodeOrder, users: &[LineList], parent: NodeId
     if !order.stands_before(child, parent) {
         order.move_behind(users, parent);
     }
-}
-
-/// The marked nodes in their order.
-pub(crate) fn marked_nodes(
-    alloc: Global,
-    order: &[NodeId],
-    marks: &[bool],
-) -> Result<Vec<NodeId>, OutOfMemory>
-    requires { (place : ℕ) → place < length order.now → slice_index order.now place < length marks.now }
-    ensures { IfOk result (λ nodes. nodes.items ≡ filter (has_mark true marks.now) order.now) }
-{
-    let mut nodes = Vec::with_capacity(alloc, order.len())?;
-    push_marked(order, marks, true, &mut nodes);
-    Ok(nodes)
 }
 
 /// The labels once more, with room for all that a bill may have.

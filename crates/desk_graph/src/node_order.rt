@@ -1,5 +1,6 @@
 ghost use Rattle.std.specs.Prelude.{◌≡◌, ℕ, ◌<◌, ◌≤◌, ◌^◌, [], ◌∷◌, ◌++◌, true, false, filter, length, slice_index, vec_len, vec_capacity, IfOk};
-ghost use Rattle.desk_graph.specs.Order.{HasOnce, IsMovedBehind, IsSwept, StandsBefore, has_mark};
+ghost use Rattle.desk_graph.specs.Order.{AreBehind, HasOnce, IsMovedBehind, IsSwept, StandsBefore, has_mark};
+ghost use Rattle.desk_graph.specs.Reaches.{has_node};
 
 use crate::line::NodeId;
 use crate::line_list::LineList;
@@ -99,6 +100,19 @@ impl NodeOrder {
         self.places[first as usize] < self.places[second as usize]
     }
 
+    /// The place before which none of the nodes stands: the least of their places, or how many nodes there are.
+    pub fn first_place(&self, nodes: &[NodeId]) -> usize
+        requires { (node : ℕ) → has_node nodes.now node ≡ true → node < length self.now }
+        ensures within { result ≤ length self.now }
+        ensures early { AreBehind result self.now nodes.now }
+    {
+        let mut first = self.nodes.len();
+        for node in nodes {
+            first = first.min(self.places[*node as usize] as usize);
+        }
+        first
+    }
+
     /// Moves the node and all from which lines lead to it behind all other nodes, each of the two parts in its old order.
     pub fn move_behind(&mut self, users: &[LineList], node: NodeId)
         requires node { node < length self.old }
@@ -108,6 +122,7 @@ impl NodeOrder {
     {
         mark_from(
             self.nodes.as_slice(),
+            0,
             &Users::as_they_are(users),
             &[node],
             self.marks.as_mut_slice(),

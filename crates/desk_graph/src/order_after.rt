@@ -1,4 +1,5 @@
-ghost use Rattle.std.specs.Prelude.{◌≡◌, ◌+◌, ◌<◌, ◌≤◌, true, false, length, option_copied, vec_len, vec_capacity, IfOk};
+ghost use Rattle.std.specs.Prelude.{◌≡◌, ◌+◌, ◌<◌, ◌≤◌, List, true, false, length, option_copied, vec_len, vec_capacity, IfOk};
+ghost use Rattle.desk_graph.specs.declared.line.BillLine.{BillLine};
 ghost use Rattle.desk_graph.specs.Order.{HasMadeWay, HasOnce, IsMovedBehind, IsSwept};
 ghost use Rattle.desk_graph.specs.Planned.{AreIn, HasMadeWayFor, with_next};
 
@@ -10,6 +11,17 @@ use crate::node_order::NodeOrder;
 use crate::sweep::{mark_from, push_marked};
 use crate::users::Users;
 use std::alloc::Global;
+
+/// Whether a change of a line leaves the order as it is: where there is none, and where the child stands before the parent already.
+pub fn leaves_order(order: &NodeOrder, line: Option<&LineChange>) -> bool
+    requires { AreIn order.now (option_copied line) }
+    ensures { (users : List (List BillLine)) → result ≡ true → HasMadeWayFor users (option_copied line.entry) order.now order.now }
+{
+    match line {
+        Some(change) => order.stands_before(change.child, change.parent),
+        None => true,
+    }
+}
 
 /// The order of the nodes in which the parent of a changed line made way for its child, with room for so many nodes more.
 pub fn order_after(
@@ -75,6 +87,7 @@ fn moved_behind(
     let mut marks = Vec::from_elem(alloc, false, order.len())?;
     mark_from(
         order,
+        0,
         &Users::as_they_are(users),
         &[node],
         marks.as_mut_slice(),

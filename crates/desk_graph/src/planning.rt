@@ -5,7 +5,7 @@ ghost use Rattle.desk_graph.specs.Graph.{IsByLabel, label_of, lines_of};
 ghost use Rattle.desk_graph.specs.Planned.{IsBillPlan, IsChangeOf, changed_lines, plan_answer, planned};
 ghost use Rattle.desk_graph.specs.Reaches.{AreAffected, AreChildrenFirst, has_node};
 
-use crate::bill::{Bill, is_taken, make_way, marked_nodes};
+use crate::bill::{Bill, is_taken, make_way};
 use crate::bill_plan::{BillPlan, LineChange};
 use crate::fault::{LineFault, NodeFault, PlanFault};
 use crate::label::Label;
@@ -13,9 +13,9 @@ use crate::line::{BillLine, NodeId};
 use crate::line_list::{LineList, has_line_to};
 use crate::memory::OutOfMemory;
 use crate::node_order::NODE_LIMIT;
-use crate::order_after::{order_after, push_next};
+use crate::order_after::{leaves_order, order_after, push_next};
 use crate::plan::LinePlan;
-use crate::sweep::swept_marks;
+use crate::sweep::swept_nodes;
 use crate::users::Users;
 use std::alloc::Global;
 
@@ -166,11 +166,14 @@ impl Bill {
     {
         let more = plan.labels.len();
         let line = plan.line.as_ref();
+        let users = Users::as_planned(self.users.as_slice(), line, more);
+        if more == 0 && leaves_order(&self.order, line) {
+            let from = self.order.first_place(seeds);
+            return swept_nodes(alloc, self.order.as_slice(), from, &users, seeds);
+        }
         let mut order = order_after(alloc, &self.order, self.users.as_slice(), line, more)?;
         push_next(&mut order, more);
-        let users = Users::as_planned(self.users.as_slice(), line, more);
-        let marks = swept_marks(alloc, order.as_slice(), &users, seeds)?;
-        marked_nodes(alloc, order.as_slice(), marks.as_slice())
+        swept_nodes(alloc, order.as_slice(), 0, &users, seeds)
     }
 
     /// How many nodes the bill has after the plan.

@@ -1,7 +1,7 @@
 ghost use Rattle.std.specs.Prelude.{◌≡◌, ◌==◌, ℕ, Bool, ◌+◌, ◌<◌, ◌≤◌, ◌||◌, ◌&&◌, true, [], ◌∷◌, ◌++◌, filter, count_by, length, slice_index_or, vec_len, vec_capacity, if◌then◌else◌, option_copied, IfOk};
 ghost use Rattle.std.specs.Option.{option_map_or};
 ghost use Rattle.desk_graph.specs.Graph.{has_line, lines_of};
-ghost use Rattle.desk_graph.specs.Order.{AreMarkedUp, HoldsBelow, IsSwept, has_mark, mark_of};
+ghost use Rattle.desk_graph.specs.Order.{AreBehind, AreMarkedUp, AreSweptUp, AreUnmarked, HoldsBelow, IsSwept, has_mark, mark_of};
 ghost use Rattle.desk_graph.specs.Reaches.{has_node};
 
 use crate::line::{BillLine, NodeId};
@@ -9,17 +9,21 @@ use crate::memory::OutOfMemory;
 use crate::users::Users;
 use std::alloc::Global;
 
-/// Marks, beside the marked nodes, each node from which lines lead to one: the order has children first, so one sweep over it does.
-pub fn mark_all_users(order: &[NodeId], users: &Users, marks: &mut [bool])
+/// Marks, beside the marked nodes, each node from which lines lead to one: the order has children first, so one sweep over it does. It
+/// begins at a place before which none is marked.
+pub fn mark_all_users(order: &[NodeId], from: usize, users: &Users, marks: &mut [bool])
     requires order { IsSwept users.now order.now }
     requires size { length marks.old ≡ length users.now }
+    requires within { from ≤ length order.now }
+    requires early { AreUnmarked from order.now marks.old }
     ensures size { length marks.new ≡ length marks.old }
     ensures kept { (node : ℕ) → mark_of marks.old node ≡ true → mark_of marks.new node ≡ true }
     ensures closed { (node user : ℕ) → mark_of marks.new node ≡ true → has_line (lines_of users.now node) user ≡ true → mark_of marks.new user ≡ true }
     ensures least { (holds : ℕ → Bool) → HoldsBelow holds marks.old users.now → (node : ℕ) → mark_of marks.new node ≡ true → holds node ≡ true }
+    ensures early { AreUnmarked from order.now marks.new }
 {
-    for node in order {
-        mark_users(*node, users, marks);
+    for place in from..order.len() {
+        mark_users(order[place], users, marks);
     }
 }
 
@@ -58,32 +62,49 @@ fn mark_nodes(lines: &[BillLine], marks: &mut [bool])
     }
 }
 
-/// Marks the seeds and each node from which lines lead to one, and no other node.
-pub fn mark_from(order: &[NodeId], users: &Users, seeds: &[NodeId], marks: &mut [bool])
+/// Marks the seeds and each node from which lines lead to one, and no other node. The sweep begins at a place before which no seed
+/// stands.
+pub fn mark_from(order: &[NodeId], from: usize, users: &Users, seeds: &[NodeId], marks: &mut [bool])
     requires order { IsSwept users.now order.now }
     requires size { length marks.old ≡ length users.now }
     requires seeds { (node : ℕ) → has_node seeds.now node ≡ true → node < length users.now }
-    ensures { AreMarkedUp users.now seeds.now marks.new }
+    requires within { from ≤ length order.now }
+    requires early { AreBehind from order.now seeds.now }
+    ensures up { AreMarkedUp users.now seeds.now marks.new }
+    ensures early { AreUnmarked from order.now marks.new }
 {
     marks.fill(false);
     mark_seeds(seeds, marks);
-    mark_all_users(order, users, marks);
+    mark_all_users(order, from, users, marks);
 }
 
-/// A mark for each node that is a seed or from which lines lead to one.
-pub fn swept_marks(
+/// The seeds and all nodes from which lines lead to one, in their order. The sweep begins at a place before which no seed stands.
+pub fn swept_nodes(
     alloc: Global,
     order: &[NodeId],
+    from: usize,
     users: &Users,
     seeds: &[NodeId],
-) -> Result<Vec<bool>, OutOfMemory>
+) -> Result<Vec<NodeId>, OutOfMemory>
     requires order { IsSwept users.now order.now }
     requires seeds { (node : ℕ) → has_node seeds.now node ≡ true → node < length users.now }
-    ensures { IfOk result (λ marks. AreMarkedUp users.now seeds.now marks.items) }
+    requires within { from ≤ length order.now }
+    requires early { AreBehind from order.now seeds.now }
+    ensures { IfOk result (λ nodes. AreSweptUp users.now order.now seeds.now nodes.items) }
 {
     let mut marks = Vec::from_elem(alloc, false, order.len())?;
-    mark_from(order, users, seeds, marks.as_mut_slice());
-    Ok(marks)
+    mark_from(order, from, users, seeds, marks.as_mut_slice());
+    marked_nodes(alloc, order.split_at(from).1, marks.as_slice())
+}
+
+/// The marked nodes in their order.
+fn marked_nodes(alloc: Global, order: &[NodeId], marks: &[bool]) -> Result<Vec<NodeId>, OutOfMemory>
+    requires { (place : ℕ) → place < length order.now → slice_index_or order.now place 0 < length marks.now }
+    ensures { IfOk result (λ nodes. nodes.items ≡ filter (has_mark true marks.now) order.now) }
+{
+    let mut nodes = Vec::with_capacity(alloc, order.len())?;
+    push_marked(order, marks, true, &mut nodes);
+    Ok(nodes)
 }
 
 /// Marks the seeds.

@@ -13,7 +13,7 @@ use Rattle.desk_graph.proofs.Reached.{affected-seed, affected-up, any_node-out, 
 use Rattle.desk_graph.proofs.Ends.{has_node_there}
 use Rattle.desk_rollup.specs.Gathered.{all_hops, all_loads}
 use Rattle.desk_rollup.specs.Numbers.{Rises, hop_numbers, substances}
-use Rattle.desk_rollup.specs.Places.{IsKnown, IsTold, Placed, known, place_in}
+use Rattle.desk_rollup.specs.Places.{IsKnown, IsTold, Placed, known, place_at}
 use Rattle.desk_rollup.specs.Plan.{AllFit, AreDistinct, nodes_of}
 use Rattle.desk_rollup.specs.Rolled.{IsRolled, amount, weight}
 use Rattle.desk_rollup.specs.Step.{IsStepOver}
@@ -192,26 +192,26 @@ module _ (g : Graph) (owns : List OwnValues) (kept : Kept) (of_owns placed : Pla
               ]
         ]
 
-    pub knows_weight : (new : List (Option ℕ)) → length new ≡ place → (child : ℕ) → is_line g.lines node child ≡ true → IsKnownWeight (place_in placed.slots child) kept.rolled new child
+    pub knows_weight : (new : List (Option ℕ)) → length new ≡ place → (child : ℕ) → is_line g.lines node child ≡ true → IsKnownWeight (place_at placed child) kept.rolled new child
     knows_weight new size child line =
-        by_place placed.nodes child (place_in placed.slots child) (sweep.places child) (λ o. IsKnownWeight o kept.rolled new child)
+        by_place placed.nodes child (place_at placed child) (sweep.places child) (λ o. IsKnownWeight o kept.rolled new child)
         (λ away. has_kept child (sweep.bill.children node child line) away) (λ at h is. let before = child_before child at line h is in omega arith)
 
-    pub knows : (new : List RolledValues) → length new ≡ place → (child : ℕ) → is_line g.lines node child ≡ true → IsKnown (place_in placed.slots child) kept.rolled new child
+    pub knows : (new : List RolledValues) → length new ≡ place → (child : ℕ) → is_line g.lines node child ≡ true → IsKnown (place_at placed child) kept.rolled new child
     knows new size child line =
-        by_place placed.nodes child (place_in placed.slots child) (sweep.places child) (λ o. IsKnown o kept.rolled new child)
+        by_place placed.nodes child (place_at placed child) (sweep.places child) (λ o. IsKnown o kept.rolled new child)
         (λ away. has_kept child (sweep.bill.children node child line) away) (λ at h is. let before = child_before child at line h is in omega arith)
 
     -- the weight that is found at the place
     pub weighs : (new : List (Option ℕ)) → new ≡ map (λ n. fitting (weight g.lines own n)) (take place placed.nodes) → (own node).weight < 2 ^ 128 →
-        weighed (λ child. known_weight (place_in placed.slots child) kept.rolled new child) (own node).weight (lines_of g.lines node) ≡ fitting (weight g.lines own node)
+        weighed (λ child. known_weight (place_at placed child) kept.rolled new child) (own node).weight (lines_of g.lines node) ≡ fitting (weight g.lines own node)
     weighs new is small =
-        let below : ℕ → Option ℕ = λ child. known_weight (place_in placed.slots child) kept.rolled new child in
+        let below : ℕ → Option ℕ = λ child. known_weight (place_at placed child) kept.rolled new child in
         ap (λ o. fold (λ p line. with_child p line.count (below line.node)) o (lines_of g.lines node)) (sym (fits_yes (own node).weight small))
         ∙ lines_weigh below (weight g.lines own) (lines_of g.lines node)
         (each_line (λ child. below child ≡ fitting (weight g.lines own child)) (lines_of g.lines node)
         (λ child line.
-        by_place placed.nodes child (place_in placed.slots child) (sweep.places child) (λ o. known_weight o kept.rolled new child ≡ fitting (weight g.lines own child))
+        by_place placed.nodes child (place_at placed child) (sweep.places child) (λ o. known_weight o kept.rolled new child ≡ fitting (weight g.lines own child))
         (λ away.
         let right = stays child away (sweep.bill.children node child line) in
         ap (λ w. Some w) right.weight ∙ sym (fits_yes (weight g.lines own child) (subst (λ w. w < 2 ^ 128) right.weight (sweep.fit child))))
@@ -226,13 +226,13 @@ module _ (g : Graph) (owns : List OwnValues) (kept : Kept) (of_owns placed : Pla
     -- the values that are found at the place
     pub rolls : AllFit g own → (new : List RolledValues) → length new ≡ place → ((at : ℕ) → at < place → IsRolled g.lines own (slice_index placed.nodes at) (rolled_at new at)) → (found : ℕ) → found ≡ weight g.lines own node →
         IsRolled g.lines own node
-        (let below = λ (child : ℕ). known (place_in placed.slots child) kept.rolled new child in
+        (let below = λ (child : ℕ). known (place_at placed child) kept.rolled new child in
         record { weight = found; hops = all_hops below (own node).marks (lines_of g.lines node); loads = all_loads below (own node).loads (lines_of g.lines node) })
     rolls fit new size before found is =
-        let below : ℕ → RolledValues = λ child. known (place_in placed.slots child) kept.rolled new child in
+        let below : ℕ → RolledValues = λ child. known (place_at placed child) kept.rolled new child in
         let of_node = lines_of g.lines node in
         let right : (child : ℕ) → is_line g.lines node child ≡ true → IsRolled g.lines own child (below child) = λ child line.
-        by_place placed.nodes child (place_in placed.slots child) (sweep.places child) (λ o. IsRolled g.lines own child (known o kept.rolled new child))
+        by_place placed.nodes child (place_at placed child) (sweep.places child) (λ o. IsRolled g.lines own child (known o kept.rolled new child))
         (λ away. stays child away (sweep.bill.children node child line))
         (λ spot h spot_is. subst (λ c. IsRolled g.lines own c (rolled_at new spot)) spot_is (before spot (child_before child spot line h spot_is))) in
         let each = each_line (λ child. IsRolled g.lines own child (below child)) of_node right in

@@ -8,7 +8,7 @@ use Rattle.std.proofs.lemmas.Cmp.{nat_list_cmp_total, tied_itself}
 use Rattle.desk_graph.specs.declared.line.BillLine.{BillLine}
 use Rattle.desk_graph.specs.Graph.{Graph, label_cmp, label_of}
 use Rattle.desk_graph.specs.Reaches.{has_node}
-use Rattle.desk_rollup.specs.Places.{Placed, place_in}
+use Rattle.desk_rollup.specs.Places.{Placed, place_at}
 use Rattle.desk_rollup.specs.Rolled.{weight}
 use Rattle.desk_rollup.specs.Sweep.{IsSweep, IsTooLargeOr, lesser_of}
 use Rattle.desk_rollup.specs.Values.{Kept, OwnValues, own_with}
@@ -122,13 +122,13 @@ module _ (g : Graph) (owns : List OwnValues) (kept : Kept) (of_owns placed : Pla
   -- the first among the affected nodes is the first of all
   pub first_of_all : (first : Option ℕ) → IsFirstAmong g weights placed.nodes (length placed.nodes) first → IsTooLargeOr g (own_with owns kept.owns) first
   first_of_all None so = λ other there.
-      by_place placed.nodes other (place_in placed.slots other) (sweep.places other) (λ _. weights other < 2 ^ 128)
+      by_place placed.nodes other (place_at placed other) (sweep.places other) (λ _. weights other < 2 ^ 128)
       (λ away. kept_fits other there away) (λ spot h is. subst (λ n. weights n < 2 ^ 128) is (so spot h))
   first_of_all (Some first) so = record {
     there = so.0;
     large = so.1;
     least = λ other there large.
-        by_place placed.nodes other (place_in placed.slots other) (sweep.places other) (λ _. is_lt (label_cmp (label_of g.labels other) (label_of g.labels first)) ≡ false)
+        by_place placed.nodes other (place_at placed other) (sweep.places other) (λ _. is_lt (label_cmp (label_of g.labels other) (label_of g.labels first)) ≡ false)
         (λ away. let low = kept_fits other there away in absurd (omega (arith, low, large)))
         (λ spot h is.
         subst (λ n. is_lt (label_cmp (label_of g.labels n) (label_of g.labels first)) ≡ false) is (so.2 spot h (subst (λ n. 2 ^ 128 ≤ weights n) (sym is) large)));

@@ -9,7 +9,7 @@ use Rattle.desk_graph.specs.declared.line.BillLine.{BillLine}
 use Rattle.desk_graph.specs.Graph.{Graph, lines_of}
 use Rattle.desk_graph.specs.Reaches.{Falls}
 use Rattle.desk_rollup.specs.Numbers.{RisesFrom, has, hop_numbers, mark_numbers, mark_number, once}
-use Rattle.desk_rollup.specs.Places.{IsKnown, Placed, known, place_in}
+use Rattle.desk_rollup.specs.Places.{IsKnown, Placed, known, place_at}
 use Rattle.desk_rollup.specs.Rolled.{IsRolled, gathered, mark_count, marks}
 use Rattle.desk_rollup.specs.Sweep.{AreRolledOf, IsSweep}
 use Rattle.desk_rollup.specs.Values.{Kept, OwnValues, RolledValues, hop_total, own_with, rolled_at}
@@ -79,14 +79,14 @@ module _ (g : Graph) (owns : List OwnValues) (kept : Kept) (of_owns placed : Pla
   own = own_with owns kept.owns
 
   -- the values of each node are at hand, and right
-  pub all_known : (node : ℕ) → node < length g.labels → IsKnown (place_in placed.slots node) kept.rolled new node
+  pub all_known : (node : ℕ) → node < length g.labels → IsKnown (place_at placed node) kept.rolled new node
   all_known node there =
-      by_place placed.nodes node (place_in placed.slots node) (sweep.places node) (λ o. IsKnown o kept.rolled new node)
+      by_place placed.nodes node (place_at placed node) (sweep.places node) (λ o. IsKnown o kept.rolled new node)
       (λ away. has_kept g owns kept of_owns placed lists sweep node there away) (λ spot h is. omega (arith, h, size))
 
-  pub all_right : (node : ℕ) → node < length g.labels → IsRolled g.lines own node (known (place_in placed.slots node) kept.rolled new node)
+  pub all_right : (node : ℕ) → node < length g.labels → IsRolled g.lines own node (known (place_at placed node) kept.rolled new node)
   all_right node there =
-      by_place placed.nodes node (place_in placed.slots node) (sweep.places node) (λ o. IsRolled g.lines own node (known o kept.rolled new node))
+      by_place placed.nodes node (place_at placed node) (sweep.places node) (λ o. IsRolled g.lines own node (known o kept.rolled new node))
       (λ away. stays g owns kept of_owns placed lists sweep node away there) (λ spot h is. subst (λ n. IsRolled g.lines own n (rolled_at new spot)) is (right spot h))
 
   abbrev counted : ℕ → ℕ
@@ -96,12 +96,12 @@ module _ (g : Graph) (owns : List OwnValues) (kept : Kept) (of_owns placed : Pla
   so_far node = sum_by counted (take node (range_with_len 0 (length g.lines)))
 
   pub count_more : (node : ℕ) → node < length g.labels →
-      so_far (node + 1) ≡ so_far node + cond (length (lines_of g.lines node) == 0) 0 (length (known (place_in placed.slots node) kept.rolled new node).hops)
+      so_far (node + 1) ≡ so_far node + cond (length (lines_of g.lines node) == 0) 0 (length (known (place_at placed node) kept.rolled new node).hops)
   count_more node there =
       let in_range : node < length g.lines = omega (arith, sweep.bill.sizes, there) in
       sum_by_more counted (range_with_len 0 (length g.lines)) node 0 (omega (arith, length-range_with_len 0 (length g.lines), in_range))
       ∙ ap (λ n. so_far node + counted n) (get_or-range_with_len 0 (length g.lines) node 0 in_range ∙ omega arith)
-      ∙ ap (λ n. so_far node + cond (length (lines_of g.lines node) == 0) 0 n) (sym (hop_count g.lines sweep.bill.ranked.0 sweep.bill.ranked.1 own node (known (place_in placed.slots node) kept.rolled new node) (all_right node there)))
+      ∙ ap (λ n. so_far node + cond (length (lines_of g.lines node) == 0) 0 n) (sym (hop_count g.lines sweep.bill.ranked.0 sweep.bill.ranked.1 own node (known (place_at placed node) kept.rolled new node) (all_right node there)))
 
   -- there are no more marks than hops that are kept and new together
   pub count_most : mark_count g.lines own ≤ hop_total kept.rolled + hop_total new
@@ -115,14 +115,14 @@ module _ (g : Graph) (owns : List OwnValues) (kept : Kept) (of_owns placed : Pla
         put_sum placed.nodes new 0 n,
       )
     where
-      most_at : (node : ℕ) → hops_of (known (place_in placed.slots node) kept.rolled new node) ≤ hops_of (rolled_at kept.rolled node) + put_at placed.nodes new node
+      most_at : (node : ℕ) → hops_of (known (place_at placed node) kept.rolled new node) ≤ hops_of (rolled_at kept.rolled node) + put_at placed.nodes new node
       most_at node =
-          by_place placed.nodes node (place_in placed.slots node) (sweep.places node) (λ o. hops_of (known o kept.rolled new node) ≤ hops_of (rolled_at kept.rolled node) + put_at placed.nodes new node)
+          by_place placed.nodes node (place_at placed node) (sweep.places node) (λ o. hops_of (known o kept.rolled new node) ≤ hops_of (rolled_at kept.rolled node) + put_at placed.nodes new node)
           (λ away. omega arith) (λ spot h is. omega (arith, put_there placed.nodes new spot node h size is))
 
       counted_most : (node : ℕ) → node < length g.labels → counted node ≤ hops_of (rolled_at kept.rolled node) + put_at placed.nodes new node
       counted_most node there =
-          let hops = hop_count g.lines sweep.bill.ranked.0 sweep.bill.ranked.1 own node (known (place_in placed.slots node) kept.rolled new node) (all_right node there) in
+          let hops = hop_count g.lines sweep.bill.ranked.0 sweep.bill.ranked.1 own node (known (place_at placed node) kept.rolled new node) (all_right node there) in
           elim (length (lines_of g.lines node) == 0) as (λ b. cond b 0 (length (marks g.lines own node)) ≤ hops_of (rolled_at kept.rolled node) + put_at placed.nodes new node) [
             | true ↦ omega arith
             | false ↦ omega (arith, hops, most_at node)

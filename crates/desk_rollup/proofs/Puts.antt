@@ -1,11 +1,15 @@
 -- What is written down node by node.
-use Rattle.std.proofs.Common.{◌≡◌, ℕ, zero, suc, ◌+◌, ◌^◌, ◌<◌, ◌≤◌, Bool, true, false, ◌==◌, List, [], ◌∷◌, ◌++◌, length, set, slice_index, slice_index_or, take, Option, Some, None, refl, sym, ap, ◌∙◌, subst, inl, inr, arith, add-one}
-use Rattle.std.proofs.lemmas.Bool.{both_ways, cases_eq, eq-eqb, ne_eqb}
+use Rattle.std.proofs.Common.{◌≡◌, ℕ, zero, suc, ◌+◌, ◌^◌, ◌<◌, ◌≤◌, Bool, true, false, cond, ◌==◌, List, [], ◌∷◌, ◌++◌, length, set, slice_index, slice_index_or, take, Option, Some, None, refl, sym, ap, ◌∙◌, subst, inl, inr, arith, add-one}
+use Rattle.std.specs.Prelude.{position}
+use Rattle.std.specs.List.{position_or_len}
+use Rattle.std.proofs.lemmas.Bool.{both_ways, cases_eq, cases_lt, eq-eqb, eqb-true, le-ltb, lt-ltb, ne_eqb}
+use Rattle.std.proofs.lemmas.Bool.Decides.{nat_tests}
 use Rattle.std.proofs.lemmas.List.{get_or-set_other, get_or-set_same, get_or_append_left, get_or_at, get_or_push, length_push, length-take-le, take_more}
-use Rattle.std.proofs.lemmas.List.Folds.{list_any-append}
-use Rattle.std.proofs.lemmas.List.Sums.{sum_by-cons}
+use Rattle.std.proofs.lemmas.List.Folds.{list_any-append, list_any_none}
+use Rattle.std.proofs.lemmas.List.Quantifiers.{position-Some}
+use Rattle.std.proofs.lemmas.List.Sums.{fails_before_first, sum_by-cons}
 use Rattle.desk_graph.specs.Reaches.{has_node}
-use Rattle.desk_rollup.specs.Places.{IsTold, place_in, place_told}
+use Rattle.desk_rollup.specs.Places.{ArePlaced, IsTold, Placed, place_in, place_told}
 use Rattle.desk_rollup.specs.Plan.{AreDistinct, nodes_of}
 use Rattle.desk_rollup.specs.Values.{DoFit, OwnValues, RolledValues, hop_total, no_own, no_values, own_at, own_with, rolled_at}
 use Rattle.desk_rollup.proofs.Frame.{own_other}
@@ -33,6 +37,24 @@ told_next nodes slots place low there told node =
           let slot : slice_index (set slots at (place + 1)) node ≡ slice_index slots node = get_or-set_other slots at node (place + 1) 0 other in
           subst (λ s. IsTold (take (place + 1) nodes) node (place_told s)) (sym slot)
           (subst (λ l. IsTold l node (place_in slots node)) (sym more) (told_more (take place nodes) at node (place_in slots node) (ne_eqb at node (λ e. other (sym e))) (told node)))
+    ]
+
+-- what is told of a node that is looked for
+pub told_among : (nodes : List ℕ) (node : ℕ) (place : Option ℕ) → position (λ other. other == node) nodes ≡ place → IsTold nodes node place
+told_among nodes node None none =
+    let past : length nodes ≤ position_or_len (λ other. other == node) nodes = grind (arith, nat_tests, none) in
+    list_any_none (λ other. other == node) nodes (λ k d within. fails_before_first (λ other. other == node) nodes k d (omega (arith, past, within)))
+told_among nodes node (Some place) found =
+    let at = position-Some (λ other. other == node) nodes place 0 found in
+    (at.0, eqb-true (slice_index nodes place) node at.1)
+
+-- what is told of each node, where the numbers that there are tell their places
+pub told_by : (placed : Placed) → ((node : ℕ) → node < length placed.slots → IsTold placed.nodes node (place_in placed.slots node)) → ArePlaced placed
+told_by placed numbers node =
+    let told = λ (low : Bool). IsTold placed.nodes node (cond low (place_in placed.slots node) (position (λ other. other == node) placed.nodes)) in
+    elim (cases_lt node (length placed.slots)) [
+      | inl low ↦ subst told (sym (lt-ltb node (length placed.slots) low)) (numbers node low)
+      | inr past ↦ subst told (sym (le-ltb node (length placed.slots) past)) (told_among placed.nodes node _ refl)
     ]
 
 -- own values that were put in are those that are kept then

@@ -1,17 +1,22 @@
-ghost use Rattle.std.specs.Prelude.{◌≡◌, ◌<◌, ◌≤◌, ℕ, true, length, IfOk};
+ghost use Rattle.std.specs.Prelude.{◌≡◌, ◌<◌, ◌≤◌, ◌==◌, ℕ, true, length, position, IfOk};
 ghost use Rattle.desk_graph.specs.Reaches.{has_node};
-ghost use Rattle.desk_rollup.specs.Places.{IsTold, place_in};
+ghost use Rattle.desk_rollup.specs.Places.{IsTold, place_at, place_in};
 
 use desk_graph::{NodeId, OutOfMemory};
 use std::alloc::Global;
 use std::marker::Model;
 
-/// Nodes in an order, with the place of each at hand. Contracts see the nodes, and a number that tells the place of each node.
+/// So few nodes are looked through where the place of one is asked for.
+const FEW: usize = 8;
+
+/// Nodes in an order, with the place of each at hand. Contracts see the nodes, and the numbers that tell the place of each.
 ///
-/// A bill has at most 24,576 nodes, so a place takes two bytes. These are written anew for each edit, however small it is.
+/// A bill has at most 24,576 nodes, so a place takes two bytes. These are written anew for each edit that moves more than a few nodes;
+/// most edits move few, and then writing a number for each node of the bill would be most of what they cost.
 #[derive(Drop)]
 pub struct Places {
     nodes: Vec<NodeId>,
+    /// One more than the place of each node of the bill, and 0 where it has none; or nothing, where the nodes are few.
     slots: Vec<u16>,
 }
 
@@ -35,6 +40,10 @@ impl Places {
         requires few { length nodes.items ≤ 24576 }
         ensures { IfOk result (λ places. places.nodes ≡ nodes.items) }
     {
+        if nodes.len() <= FEW {
+            let slots = Vec::new(alloc);
+            return Ok(Places { nodes, slots });
+        }
         let mut slots = Vec::from_elem(alloc, 0, count)?;
         set_slots(nodes.as_slice(), slots.as_mut_slice());
         Ok(Places { nodes, slots })
@@ -49,17 +58,24 @@ impl Places {
 
     /// The place of a node, if it has one.
     pub fn place_of(&self, node: NodeId) -> Option<usize>
-        ensures place { result ≡ place_in self.now.slots node }
+        ensures place { result ≡ place_at self.now node }
         ensures told { IsTold self.now.nodes node result }
     {
         if node as usize >= self.slots.len() {
-            return None;
+            return first_place(self.nodes.as_slice(), node);
         }
         match self.slots[node as usize] {
             0 => None,
             slot => Some(slot as usize - 1),
         }
     }
+}
+
+/// Where the node stands first, if it does.
+fn first_place(nodes: &[NodeId], node: NodeId) -> Option<usize>
+    ensures { result ≡ position (λ other. other == node) nodes.now }
+{
+    nodes.iter().position(|&other| other == node)
 }
 
 /// Writes down one more than the place of each node.

@@ -1,4 +1,4 @@
-ghost use Rattle.std.specs.Prelude.{◌≡◌, length};
+ghost use Rattle.std.specs.Prelude.{◌≡◌, true, [], length};
 ghost use Rattle.desk_rollup.specs.Values.{no_values};
 
 use crate::hop::Hop;
@@ -34,11 +34,26 @@ impl Rolled {
     pub(crate) fn none(alloc: Global) -> Rolled
         ensures { result ≡ no_values }
     {
+        Rolled::of_weight(alloc, 0)
+    }
+
+    /// A node that weighs so much, and has no mark and no load. It takes no memory.
+    pub(crate) fn of_weight(alloc: Global, weight: u128) -> Rolled
+        ensures { result ≡ record { weight = weight; hops = []; loads = [] } }
+    {
         Rolled {
-            weight: 0,
+            weight,
             hops: Vec::new(alloc),
             loads: Vec::new(alloc),
         }
+    }
+
+    /// Whether the node has no mark and no load.
+    pub(crate) fn has_none(&self) -> bool
+        ensures hops { result ≡ true → self.now.hops ≡ [] }
+        ensures loads { result ≡ true → self.now.loads ≡ [] }
+    {
+        self.hops.is_empty() && self.loads.is_empty()
     }
 
     /// How many hops the node has.

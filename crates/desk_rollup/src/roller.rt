@@ -1,7 +1,7 @@
-ghost use Rattle.std.specs.Prelude.{◌≡◌, ℕ, true, map, IfOk, OnOk};
+ghost use Rattle.std.specs.Prelude.{◌≡◌, ℕ, true, [], map, IfOk, OnOk};
 ghost use Rattle.desk_graph.specs.Graph.{has_line};
 ghost use Rattle.desk_rollup.specs.Gathered.{all_hops, all_loads, own_hop, with_each, with_lines};
-ghost use Rattle.desk_rollup.specs.Places.{IsKnown, known, place_in};
+ghost use Rattle.desk_rollup.specs.Places.{IsKnown, known, place_at};
 
 use crate::entry::Entry;
 use crate::gathering::Gathering;
@@ -30,7 +30,8 @@ impl Roller {
         }
     }
 
-    /// The values of a node, by its own and by those of its children.
+    /// The values of a node, by its own and by those of its children. Where neither it nor a child has a mark or a load, nothing is
+    /// gathered: that is so in most of a bill of which only the weights are asked for.
     pub fn roll(
         &mut self,
         alloc: Global,
@@ -39,10 +40,13 @@ impl Roller {
         lines: &[BillLine],
         values: &Values,
     ) -> Result<Rolled, OutOfMemory>
-        requires { (child : ℕ) → has_line lines.now child ≡ true → IsKnown (place_in values.now.places.now.slots child) values.now.kept.now values.now.new.now child }
-        ensures { IfOk result (λ rolled. let below = λ (child : ℕ). known (place_in values.now.places.now.slots child) values.now.kept.now values.now.new.now child in
+        requires { (child : ℕ) → has_line lines.now child ≡ true → IsKnown (place_at values.now.places.now child) values.now.kept.now values.now.new.now child }
+        ensures { IfOk result (λ rolled. let below = λ (child : ℕ). known (place_at values.now.places.now child) values.now.kept.now values.now.new.now child in
             rolled ≡ record { weight = weight; hops = all_hops below own.now.marks lines.now; loads = all_loads below own.now.loads lines.now }) }
     {
+        if own.marks.is_empty() && own.loads.is_empty() && have_none(lines, values) {
+            return Ok(Rolled::of_weight(alloc, weight));
+        }
         self.hops.clear();
         add_marks(own.marks.as_slice(), &mut self.hops)?;
         self.loads.clear();
@@ -54,6 +58,20 @@ impl Roller {
             loads: self.loads.copied(alloc)?,
         })
     }
+}
+
+/// Whether no child of the lines has a mark or a load.
+fn have_none(lines: &[BillLine], values: &Values) -> bool
+    requires { (child : ℕ) → has_line lines.now child ≡ true → IsKnown (place_at values.now.places.now child) values.now.kept.now values.now.new.now child }
+    ensures hops { result ≡ true → all_hops (λ child. known (place_at values.now.places.now child) values.now.kept.now values.now.new.now child) [] lines.now ≡ [] }
+    ensures loads { result ≡ true → all_loads (λ child. known (place_at values.now.places.now child) values.now.kept.now values.now.new.now child) [] lines.now ≡ [] }
+{
+    for line in lines {
+        if !values.of(line.node).has_none() {
+            return false;
+        }
+    }
+    true
 }
 
 /// Adds own marks.
@@ -86,11 +104,11 @@ fn add_lines<E: Entry, F: Entry>(
     first: &mut Gathering<E>,
     second: &mut Gathering<F>,
 ) -> Result<(), OutOfMemory>
-    requires { (child : ℕ) → has_line lines.now child ≡ true → IsKnown (place_in values.now.places.now.slots child) values.now.kept.now values.now.new.now child }
+    requires { (child : ℕ) → has_line lines.now child ≡ true → IsKnown (place_at values.now.places.now child) values.now.kept.now values.now.new.now child }
     ensures first { OnOk result (first.new ≡ with_lines E.number E.joined E.lifted E.listed
-        (λ child. known (place_in values.now.places.now.slots child) values.now.kept.now values.now.new.now child) lines.now first.old) }
+        (λ child. known (place_at values.now.places.now child) values.now.kept.now values.now.new.now child) lines.now first.old) }
     ensures second { OnOk result (second.new ≡ with_lines F.number F.joined F.lifted F.listed
-        (λ child. known (place_in values.now.places.now.slots child) values.now.kept.now values.now.new.now child) lines.now second.old) }
+        (λ child. known (place_at values.now.places.now child) values.now.kept.now values.now.new.now child) lines.now second.old) }
 {
     for line in lines {
         let child = values.of(line.node);

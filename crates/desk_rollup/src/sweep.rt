@@ -1,6 +1,6 @@
 ghost use Rattle.std.specs.Prelude.{◌≡◌, ◌==◌, ◌+◌, ◌<◌, ◌≤◌, length, map, nat_lt, if◌then◌else◌, IfErr, IfOk, IfSome};
 ghost use Rattle.desk_graph.specs.Graph.{lines_of};
-ghost use Rattle.desk_rollup.specs.Places.{IsKnown, known, place_in};
+ghost use Rattle.desk_rollup.specs.Places.{IsKnown, known, place_at};
 ghost use Rattle.desk_rollup.specs.Plan.{AllFit, IsAccepted, IsRefused};
 ghost use Rattle.desk_rollup.specs.Rolled.{mark_count, weight};
 ghost use Rattle.desk_rollup.specs.Sweep.{AreRolledOf, IsSweep, IsTooLargeOr, lesser_of};
@@ -180,10 +180,10 @@ impl<'a, B: BillView> Sweep<'a, B> {
     /// The sum together with the marks of a node, if it has lines.
     fn with_marks(&self, sum: usize, node: NodeId, values: &Values) -> usize
         requires there { node < length (B.graph self.now.bill.now).labels }
-        requires known { IsKnown (place_in values.now.places.now.slots node) values.now.kept.now values.now.new.now node }
+        requires known { IsKnown (place_at values.now.places.now node) values.now.kept.now values.now.new.now node }
         requires small { sum ≤ 4194304 }
         ensures { result ≡ sum + (if length (lines_of (B.graph self.now.bill.now).lines node) == 0 then 0
-            else length (known (place_in values.now.places.now.slots node) values.now.kept.now values.now.new.now node).hops) }
+            else length (known (place_at values.now.places.now node) values.now.kept.now values.now.new.now node).hops) }
     {
         if self.bill.line_count(node) == 0 {
             return sum;

@@ -1,5 +1,5 @@
 ghost use Rattle.std.specs.Prelude.{◌≡◌};
-ghost use Rattle.desk_rollup.specs.Places.{IsKnown, known, place_in};
+ghost use Rattle.desk_rollup.specs.Places.{IsKnown, known, place_at};
 
 use crate::places::Places;
 use crate::rolled::Rolled;
@@ -16,8 +16,8 @@ pub struct Values<'a, 'b> {
 impl<'a, 'b> Values<'a, 'b> {
     /// The values of a node.
     pub fn of(&self, node: NodeId) -> &Rolled
-        requires { IsKnown (place_in self.now.places.now.slots node) self.now.kept.now self.now.new.now node }
-        ensures { result.now ≡ known (place_in self.now.places.now.slots node) self.now.kept.now self.now.new.now node }
+        requires { IsKnown (place_at self.now.places.now node) self.now.kept.now self.now.new.now node }
+        ensures { result.now ≡ known (place_at self.now.places.now node) self.now.kept.now self.now.new.now node }
     {
         match self.places.place_of(node) {
             Some(place) => &self.new[place],

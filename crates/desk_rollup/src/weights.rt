@@ -1,6 +1,6 @@
 ghost use Rattle.std.specs.Prelude.{◌≡◌, ◌+◌, ◌*◌, ◌<◌, ◌^◌, ℕ, true};
 ghost use Rattle.desk_graph.specs.Graph.{has_line};
-ghost use Rattle.desk_rollup.specs.Places.{place_in};
+ghost use Rattle.desk_rollup.specs.Places.{place_at};
 ghost use Rattle.desk_rollup.specs.Weights.{IsKnownWeight, fitting, known_weight, weighed, with_child};
 
 use crate::places::Places;
@@ -15,8 +15,8 @@ pub fn weigh(
     kept: &[Rolled],
     new: &[Option<u128>],
 ) -> Option<u128>
-    requires { (child : ℕ) → has_line lines.now child ≡ true → IsKnownWeight (place_in places.now.slots child) kept.now new.now child }
-    ensures value { result ≡ weighed (λ child. known_weight (place_in places.now.slots child) kept.now new.now child) own lines.now }
+    requires { (child : ℕ) → has_line lines.now child ≡ true → IsKnownWeight (place_at places.now child) kept.now new.now child }
+    ensures value { result ≡ weighed (λ child. known_weight (place_at places.now child) kept.now new.now child) own lines.now }
     ensures own { own < 2 ^ 128 }
 {
     let mut sum = Some(own);
@@ -52,8 +52,8 @@ fn known_weight(
     new: &[Option<u128>],
     node: NodeId,
 ) -> Option<u128>
-    requires { IsKnownWeight (place_in places.now.slots node) kept.now new.now node }
-    ensures { result ≡ known_weight (place_in places.now.slots node) kept.now new.now node }
+    requires { IsKnownWeight (place_at places.now node) kept.now new.now node }
+    ensures { result ≡ known_weight (place_at places.now node) kept.now new.now node }
 {
     match places.place_of(node) {
         Some(place) => new[place],

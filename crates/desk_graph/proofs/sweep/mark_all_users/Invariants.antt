@@ -1,11 +1,12 @@
 use Rattle.std.proofs.Common.{◌≡◌, ℕ, ◌<◌, Bool, true, length, slice_index}
 use Rattle.desk_graph.specs.Graph.{has_line, lines_of}
-use Rattle.desk_graph.specs.Order.{HoldsBelow, mark_of}
+use Rattle.desk_graph.specs.Order.{AreUnmarked, HoldsBelow, mark_of}
 use Rattle.desk_graph.proofs.sweep.mark_all_users.Given as goal
 
-abbrev pub invariant-loop-node : goal.invariant-loop-node
-invariant-loop-node l =
+abbrev pub invariant-loop-place : goal.invariant-loop-place
+invariant-loop-place l =
     (length l.marks ≡ length l.fn.marks)
     × ((node : ℕ) → mark_of l.fn.marks node ≡ true → mark_of l.marks node ≡ true)
-    × ((place user : ℕ) → place < l.node-index → mark_of l.marks (slice_index l.order place) ≡ true → has_line (lines_of l.users (slice_index l.order place)) user ≡ true → mark_of l.marks user ≡ true)
+    × ((place user : ℕ) → place < l.place → mark_of l.marks (slice_index l.order place) ≡ true → has_line (lines_of l.users (slice_index l.order place)) user ≡ true → mark_of l.marks user ≡ true)
     × ((holds : ℕ → Bool) → HoldsBelow holds l.fn.marks l.users → (node : ℕ) → mark_of l.marks node ≡ true → holds node ≡ true)
+    × AreUnmarked l.from l.order l.marks

@@ -17,7 +17,7 @@ pub returns-clause-marks : goal.returns-clause-marks
 returns-clause-marks c = λ node.
     let bill = c.self.inside in
     let kept = c.self.invariant in
-    let up = rw (c.as_they_are.ensures, c.as_slice-2.ensures.value) at c.mark_from.ensures in
-    ap (λ m. mark_of m node) (take_at c.mark_from.new.marks _ _ (omega (arith, c.mark_from.ensures.size)))
+    let up = rw (c.as_they_are.ensures, c.as_slice-2.ensures.value) at c.mark_from.ensures.up in
+    ap (λ m. mark_of m node) (take_at c.mark_from.new.marks _ _ (omega (arith, c.mark_from.ensures.up.size)))
     ∙ marks_are bill.lines.items (rank bill.order) (bill_falls bill.labels.items bill.lines.items bill.users.items bill.order kept.ends kept.order) c.args.seeds.now bill.users.items c.mark_from.new.marks kept.ends.agree up node
     ∙ ap (λ g. is_affected g.lines c.args.seeds.now node) c.self.view_is

@@ -5,7 +5,7 @@ use Rattle.desk_graph.specs.declared.line.BillLine.{BillLine}
 use Rattle.desk_graph.specs.Graph.{has_line}
 use Rattle.desk_rollup.specs.declared.rolled.Rolled.{Rolled}
 use Rattle.desk_rollup.specs.Gathered.{all_hops, all_loads}
-use Rattle.desk_rollup.specs.Places.{IsKnown, known, place_in}
+use Rattle.desk_rollup.specs.Places.{IsKnown, known, place_at}
 use Rattle.desk_rollup.specs.Rolled.{IsRolled, weight}
 use Rattle.desk_rollup.specs.Values.{no_values, own_with, rolled_at}
 use Rattle.desk_rollup.specs.Weights.{fitting}
@@ -33,7 +33,7 @@ roll-requires g c =
     let lines = list_at bill s.owns.now s.kept.now s.of_owns.now s.places.now _ c.requires.sweep s.lists.now (λ l. l.now) place (record { ref_ptr = (0, 0); now = [] }) refl low in
     let size : length c.as_slice.result.now ≡ place = ap (λ l. length l) c.as_slice.ensures.value ∙ c.loop-place.invariant.0 in
     λ child e.
-    let P = λ (kept : List Rolled). IsKnown (place_in s.places.now.slots child) kept c.as_slice.result.now child in
+    let P = λ (kept : List Rolled). IsKnown (place_at s.places.now child) kept c.as_slice.result.now child in
     subst P (sym c.values.ensures.values)
     (knows bill s.owns.now s.kept.now s.of_owns.now s.places.now _ c.requires.sweep place low c.as_slice.result.now size child (subst (λ l. has_line l child ≡ true) lines e))
 
@@ -59,7 +59,7 @@ loop-place-preserved g c =
     ∙ ap (λ o. unwrap_or o 0) (get_or-map (λ n. fitting (weight bill.lines own n)) nodes place 0 None low ∙ fits_yes (weight bill.lines own node) (c.requires.fit node there)) in
     let own_is : c.own.result.now ≡ own node = c.own.ensures ∙ ap (λ l. own (slice_index l place)) c.as_slice-node-items.ensures in
     let values = λ (kept : List Rolled) (o : Rattle.desk_rollup.specs.Values.OwnValues) (l : List BillLine).
-    let below = λ (child : ℕ). known (place_in s.places.now.slots child) kept new child in
+    let below = λ (child : ℕ). known (place_at s.places.now child) kept new child in
     let made : Rattle.desk_rollup.specs.Values.RolledValues = record { weight = found; hops = all_hops below o.marks l; loads = all_loads below o.loads l } in made in
     let is = c.in_ok-new.ensures ∙ ap (λ k. values k c.own.result.now list) c.values.ensures.values ∙ ap (λ o. values s.kept.now.rolled o list) own_is ∙ ap (λ l. values s.kept.now.rolled (own node) l) lines in
     let right : IsRolled bill.lines own node c.in_ok-new.new =

@@ -1,7 +1,7 @@
 use Rattle.std.proofs.Common.{◌≡◌, ℕ, ◌<◌, ◌++◌, [], ◌∷◌, List, true, length, map, take, slice_index, slice_index_or, ◌^◌, sym, ap, ◌∙◌, subst, refl, arith}
 use Rattle.std.proofs.lemmas.List.{length-map, length-take-le, map_more}
 use Rattle.desk_graph.specs.Graph.{has_line}
-use Rattle.desk_rollup.specs.Places.{place_in}
+use Rattle.desk_rollup.specs.Places.{place_at}
 use Rattle.desk_rollup.specs.Rolled.{weight}
 use Rattle.desk_rollup.specs.Values.{own_with}
 use Rattle.desk_rollup.specs.Weights.{IsKnownWeight, fitting, known_weight, weighed}
@@ -30,7 +30,7 @@ weigh-weight-requires g c =
     let size : length c.as_slice.result.now ≡ place =
     ap (λ l. length l) (c.as_slice.ensures.value ∙ c.loop-place.invariant) ∙ length-map (take place nodes) (λ node. fitting (weight bill.lines (own_with s.owns.now s.kept.now.owns) node)) ∙ length-take-le place nodes (omega (arith, low)) in
     λ child e.
-    let P = λ (kept : List Rattle.desk_rollup.specs.declared.rolled.Rolled.Rolled). IsKnownWeight (place_in s.places.now.slots child) kept c.as_slice.result.now child in
+    let P = λ (kept : List Rattle.desk_rollup.specs.declared.rolled.Rolled.Rolled). IsKnownWeight (place_at s.places.now child) kept c.as_slice.result.now child in
     subst P (sym c.values.ensures.values)
     (knows_weight bill s.owns.now s.kept.now s.of_owns.now s.places.now _ c.requires place low c.as_slice.result.now size child (subst (λ l. has_line l child ≡ true) lines e))
 
@@ -53,9 +53,9 @@ loop-place-preserved g c =
     let new_is : new ≡ map weights (take place nodes) = c.as_slice.ensures.value ∙ c.loop-place.invariant in
     let weighed_is : c.weigh-weight.result ≡ weights node =
     c.weigh-weight.ensures.value
-    ∙ ap (λ k. weighed (λ child. known_weight (place_in s.places.now.slots child) k new child) c.own.inside.weight list.now) c.values.ensures.values
-    ∙ ap (λ w. weighed (λ child. known_weight (place_in s.places.now.slots child) kept new child) w list.now) own_is
-    ∙ ap (λ l. weighed (λ child. known_weight (place_in s.places.now.slots child) kept new child) (own_with s.owns.now s.kept.now.owns node).weight l) lines
+    ∙ ap (λ k. weighed (λ child. known_weight (place_at s.places.now child) k new child) c.own.inside.weight list.now) c.values.ensures.values
+    ∙ ap (λ w. weighed (λ child. known_weight (place_at s.places.now child) kept new child) w list.now) own_is
+    ∙ ap (λ l. weighed (λ child. known_weight (place_at s.places.now child) kept new child) (own_with s.owns.now s.kept.now.owns node).weight l) lines
     ∙ weighs bill s.owns.now s.kept.now s.of_owns.now s.places.now _ c.requires place low new new_is small in
     c.in_ok-push.ensures.items ∙ ap (λ l. l ++ c.weigh-weight.result ∷ []) c.loop-place.invariant ∙ ap (λ w. map weights (take place nodes) ++ w ∷ []) weighed_is
     ∙ sym (map_more weights nodes place 0 low)
