@@ -1,11 +1,20 @@
-ghost use Rattle.std.specs.Prelude.{◌≡◌, None, IfOk};
+ghost use Rattle.std.specs.Prelude.{◌≡◌, None, IfOk, IsTrue};
+ghost use Rattle.sqlite_std_file.specs.File.{file_is_usable};
 
 use crate::keeper::SqlKeeper;
 use desk_edge::{Change, KeepFault, Keeper, Key, Record};
-use sqlite::{Connection, Error, ErrorCode, File, FileStore};
+use sqlite::{Connection, Error, ErrorCode, File, FileStore, Files, Options, Start, Unknown};
 use sqlite_disk::Disk;
+use sqlite_std_file::OpenError;
 use std::alloc::Global;
+use std::hash::{BuildHasher, RandomState};
+use std::io::ErrorKind;
 use std::rt::HostRuntime;
+
+/// How many pages of the file are kept in memory, 4,096 bytes each. The room for them is taken as the file is opened, however small it is.
+///
+/// Records are read and written in the order of their keys, so few pages serve as well as many. The library's own choice is 2,000.
+const CACHE_PAGES: usize = 256;
 
 /// A store in a file that was found by its path.
 ///
@@ -26,15 +35,55 @@ impl FileKeeper<File> {
         let Ok(path) = std::str::from_utf8(path) else {
             return Err(KeepFault::Failed);
         };
-        match Connection::open(rt, path) {
-            Ok(connection) => match SqlKeeper::over(connection) {
-                Ok(keeper) => Ok(FileKeeper { keeper }),
-                Err(fault) => Err(fault),
-            },
-            Err(Error::SqliteFailure(ErrorCode::OutOfMemory)) => Err(KeepFault::OutOfMemory),
-            Err(_) => Err(KeepFault::Failed),
-        }
+        let keeper = SqlKeeper::over(connection_at(rt, path)?)?;
+        Ok(FileKeeper { keeper })
     }
+}
+
+/// A connection to the database file at the path.
+fn connection_at(rt: &HostRuntime, path: &str) -> Result<Connection<FileStore<File>>, KeepFault> {
+    let options = options(rt)?;
+    let files = files_at(rt, path)?;
+    match Connection::open_files(rt.alloc(), files, options) {
+        Ok(connection) => Ok(connection),
+        Err((error, _)) => Err(fault_of(error)),
+    }
+}
+
+/// What a fault of an opening is to a keeper.
+fn fault_of(error: Error) -> KeepFault {
+    match error {
+        Error::SqliteFailure(ErrorCode::OutOfMemory) => KeepFault::OutOfMemory,
+        _ => KeepFault::Failed,
+    }
+}
+
+/// The database file at the path and its log, made where they aren't there. As in the library, two sorts of names find no file.
+fn files_at(rt: &HostRuntime, path: &str) -> Result<Files<File>, KeepFault>
+    ensures log { IfOk result (λ files. IsTrue (file_is_usable ⟦<Unknown as Start>⟧ files.log)) }
+    ensures db { IfOk result (λ files. IsTrue (file_is_usable ⟦<Unknown as Start>⟧ files.db)) }
+{
+    if path == ":memory:" || path.starts_with("file:") {
+        return Err(KeepFault::Failed);
+    }
+    match sqlite_std_file::open(rt, path, Unknown) {
+        Ok(files) => Ok(files),
+        Err(OpenError::OutOfMemory) => Err(KeepFault::OutOfMemory),
+        Err(OpenError::Io(error)) if error.kind() == ErrorKind::OutOfMemory => {
+            Err(KeepFault::OutOfMemory)
+        }
+        Err(_) => Err(KeepFault::Failed),
+    }
+}
+
+/// How a file is opened: as the library does, with fewer pages in memory.
+fn options(rt: &HostRuntime) -> Result<Options, KeepFault> {
+    let Ok(state) = RandomState::new(rt) else {
+        return Err(KeepFault::Failed);
+    };
+    let mut options = Options::new(state.hash_one(&0u8));
+    options.cache_pages = CACHE_PAGES;
+    Ok(options)
 }
 
 impl<D: Disk + Drop> FileKeeper<D> {
