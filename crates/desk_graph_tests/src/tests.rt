@@ -2,19 +2,21 @@ ghost use Rattle.std.specs.Prelude.{◌≡◌, ◌<◌};
 ghost use Rattle.desk_graph.specs.Planned.{IsBillPlan};
 
 use desk_graph::{
-    Bill, BillLine, BillPlan, LineFault, NodeFault, NodeId, Path, PlanFault, PlannedBill, Steps,
+    Bill, BillLine, BillPlan, BillView, LineFault, NodeFault, NodeId, Path, PlanFault, PlannedBill,
+    Steps,
 };
+use desk_testing::expect_eq;
 use std::alloc::Global;
 use std::marker::Brand;
 use std::sync::ledger::{Blank, Ledger};
 use std::test::Fail;
 
-/// Adds a node with a label of the right length.
-fn add(bill: &mut Bill, alloc: Global, label: &[u8]) -> Result<NodeId, Fail> {
+/// Adds a node. A label of another length than labels have is refused.
+fn add(bill: &mut Bill, alloc: Global, label: &[u8]) -> Result<NodeId, NodeFault> {
     if label.is_empty() || label.len() > 40 {
-        return Err(Fail::new("no label"));
+        return Err(NodeFault::Full);
     }
-    Ok(bill.add_node(alloc, label)?)
+    bill.add_node(alloc, label)
 }
 
 /// Sets a line between nodes that are there.
@@ -32,67 +34,56 @@ fn set(
     bill.set_line(alloc, parent, child, count)
 }
 
-/// The chain of a line that would close a cycle.
-fn chain_of(answer: Result<(), LineFault>) -> Option<Path> {
-    match answer {
-        Err(LineFault::Closes { chain }) => Some(chain),
-        _ => None,
-    }
-}
-
-/// A bill with a node for each letter, and these lines from a parent to a child, so many times.
-fn bill_of(alloc: Global, labels: &str, lines: &[(NodeId, NodeId, u32)]) -> Result<Bill, Fail> {
-    let mut bill = Bill::start(alloc)?;
+/// Adds a node for each letter, and then these lines from a parent to a child, so many times.
+fn build(
+    bill: &mut Bill,
+    alloc: Global,
+    labels: &str,
+    lines: &[(NodeId, NodeId, u32)],
+) -> Result<(), Fail> {
     for label in labels.as_bytes() {
-        add(&mut bill, alloc, &[*label])?;
+        add(bill, alloc, &[*label])?;
     }
     for (parent, child, count) in lines {
-        set(&mut bill, alloc, *parent, *child, *count)?;
+        set(bill, alloc, *parent, *child, *count)?;
     }
-    Ok(bill)
-}
-
-/// The lines of a node, and those of its users.
-fn both_ends<L: Ledger>(
-    blank: Blank,
-    alloc: Global,
-    bill: &Bill,
-    id: NodeId,
-) -> Result<(Vec<BillLine>, Vec<BillLine>), Fail>
-    requires name { blank.name ≡ L.name }
-    requires parts { blank.parts ≡ L.parts }
-    requires some { 0 < L.parts }
-{
-    if id as usize >= bill.node_count() {
-        return Err(Fail::new("no node"));
-    }
-    let mut steps = Steps::<L>::start(blank);
-    let lines = Vec::from_slice(alloc, bill.lines(id, &mut steps))?;
-    let users = Vec::from_slice(alloc, bill.users(id, &mut steps))?;
-    Ok((lines, users))
-}
-
-/// The same, where the steps count for nothing.
-fn ends_of(alloc: Global, bill: &Bill, id: NodeId) -> Result<(Vec<BillLine>, Vec<BillLine>), Fail> {
-    both_ends::<Brand>(Blank::new(1), alloc, bill, id)
+    Ok(())
 }
 
 /// The affected nodes of one seed.
-fn affected(bill: &Bill, alloc: Global, seed: NodeId) -> Result<Vec<NodeId>, Fail> {
+fn affected<B: BillView>(bill: &B, alloc: Global, seed: NodeId) -> Result<Vec<NodeId>, Fail> {
     if seed as usize >= bill.node_count() {
         return Err(Fail::new("no node"));
     }
     Ok(bill.affected(alloc, &[seed])?)
 }
 
+/// Labels in the order in which they are added, and the answer to each.
+const LABELS: [(&str, Result<NodeId, NodeFault>); 4] = [
+    ("A", Ok(0)),
+    ("B", Ok(1)),
+    ("A", Err(NodeFault::Taken)),
+    ("AA", Ok(2)),
+];
+
+/// The place of the first label whose addition is answered otherwise.
+fn first_wrong_label(
+    bill: &mut Bill,
+    alloc: Global,
+    rows: &[(&str, Result<NodeId, NodeFault>)],
+) -> Option<usize> {
+    for (place, (label, answer)) in rows.iter().enumerate() {
+        if add(bill, alloc, label.as_bytes()) != *answer {
+            return Some(place);
+        }
+    }
+    None
+}
+
 #[test]
 fn a_label_is_taken_once(rt: HostRuntime) -> Result<(), Fail> {
     let mut bill = Bill::start(rt.alloc())?;
-    assert_eq!(rt; bill.add_node(rt.alloc(), b"A"), Ok(0));
-    assert_eq!(rt; bill.add_node(rt.alloc(), b"B"), Ok(1));
-    assert_eq!(rt; bill.add_node(rt.alloc(), b"A"), Err(NodeFault::Taken));
-    assert_eq!(rt; bill.add_node(rt.alloc(), b"AA"), Ok(2));
-    Ok(())
+    expect_eq(&first_wrong_label(&mut bill, rt.alloc(), &LABELS), &None)
 }
 
 /// The labels of a bill, its lines, the parent and the child of one that closes a cycle, and its chain.
@@ -115,188 +106,249 @@ const CYCLES: [Cycle; 3] = [
     ),
 ];
 
+/// The chain of a line, if it would close a cycle.
+fn chain_of(bill: &mut Bill, alloc: Global, parent: NodeId, child: NodeId) -> Option<Path> {
+    match set(bill, alloc, parent, child, 1) {
+        Err(LineFault::Closes { chain }) => Some(chain),
+        _ => None,
+    }
+}
+
+/// Builds a bill, and fails unless the line closes a cycle of this chain.
+fn tells_chain(bill: &mut Bill, alloc: Global, cycle: &Cycle) -> Result<(), Fail> {
+    let (labels, lines, (parent, child), told) = *cycle;
+    build(bill, alloc, labels, lines)?;
+    let chain = chain_of(bill, alloc, parent, child);
+    let found = chain.as_ref().map(|chain| chain.as_slice());
+    expect_eq(&(labels, found), &(labels, Some(told)))
+}
+
 #[test]
 fn a_line_that_closes_a_cycle_tells_its_chain_by_least_labels(rt: HostRuntime) -> Result<(), Fail> {
-    for (labels, lines, (parent, child), told) in CYCLES {
-        let mut bill = bill_of(rt.alloc(), labels, lines)?;
-        let chain = chain_of(set(&mut bill, rt.alloc(), parent, child, 1));
-        assert!(rt;
-            chain.is_some_and(|path| path.as_slice() == told),
-            "of {labels}"
-        );
+    for cycle in &CYCLES {
+        let mut bill = Bill::start(rt.alloc())?;
+        tells_chain(&mut bill, rt.alloc(), cycle)?;
     }
     Ok(())
 }
 
-/// Whether a node has just these lines, and these users.
-fn has_ends(
-    alloc: Global,
+/// Fails unless a node has just these lines, and these users.
+fn both_ends<L: Ledger>(
+    blank: Blank,
     bill: &Bill,
     id: NodeId,
     lines: &[BillLine],
     users: &[BillLine],
-) -> Result<bool, Fail> {
-    let found = ends_of(alloc, bill, id)?;
-    Ok(found.0.as_slice() == lines && found.1.as_slice() == users)
+) -> Result<(), Fail>
+    requires name { blank.name ≡ L.name }
+    requires parts { blank.parts ≡ L.parts }
+    requires some { 0 < L.parts }
+{
+    if id as usize >= bill.node_count() {
+        return Err(Fail::new("no node"));
+    }
+    let mut steps = Steps::<L>::start(blank);
+    let found = (bill.lines(id, &mut steps), bill.users(id, &mut steps));
+    expect_eq(&(id, found), &(id, (lines, users)))
 }
 
-#[test]
-fn a_line_stands_at_both_ends_until_it_is_dropped(rt: HostRuntime) -> Result<(), Fail> {
-    let alloc = rt.alloc();
-    let mut bill = bill_of(alloc, "BAT", &[(2, 0, 5), (2, 1, 7), (2, 0, 6)])?;
-    let (b, a) = (
-        BillLine { node: 0, count: 6 },
-        BillLine { node: 1, count: 7 },
-    );
-    assert!(rt; has_ends(alloc, &bill, 2, &[a, b], &[])?);
-    assert!(rt; has_ends(alloc, &bill, 0, &[], &[BillLine { node: 2, count: 6 }])?);
-    assert!(rt; drop_there(&mut bill, 2, 0) && !drop_there(&mut bill, 2, 0));
-    assert!(rt; has_ends(alloc, &bill, 2, &[a], &[])? && has_ends(alloc, &bill, 0, &[], &[])?);
-    Ok(())
+/// The same, where the steps count for nothing.
+fn has_ends(bill: &Bill, id: NodeId, lines: &[BillLine], users: &[BillLine]) -> Result<(), Fail> {
+    both_ends::<Brand>(Blank::new(1), bill, id, lines, users)
 }
 
-/// Drops a line between nodes that are there.
+/// Drops a line between nodes that are there, and tells whether there was one.
 fn drop_there(bill: &mut Bill, parent: NodeId, child: NodeId) -> bool {
     let nodes = bill.node_count();
     (parent as usize) < nodes && (child as usize) < nodes && bill.drop_line(parent, child)
 }
 
-/// Layers of two nodes, each of which uses both nodes of the layer below.
-fn layers(alloc: Global, many: u32) -> Result<Bill, Fail> {
-    let mut bill = Bill::start(alloc)?;
-    let mut below = [add(&mut bill, alloc, b"0a")?, add(&mut bill, alloc, b"0b")?];
+/// Fails unless each line stands at both ends, and one that is dropped at none.
+fn stands_at_both_ends(bill: &mut Bill) -> Result<(), Fail> {
+    let b = BillLine { node: 0, count: 6 };
+    let a = BillLine { node: 1, count: 7 };
+    has_ends(bill, 2, &[a, b], &[])?;
+    has_ends(bill, 0, &[], &[BillLine { node: 2, count: 6 }])?;
+    let dropped = (drop_there(bill, 2, 0), drop_there(bill, 2, 0));
+    expect_eq(&dropped, &(true, false))?;
+    has_ends(bill, 2, &[a], &[])?;
+    has_ends(bill, 0, &[], &[])
+}
+
+#[test]
+fn a_line_stands_at_both_ends_until_it_is_dropped(rt: HostRuntime) -> Result<(), Fail> {
+    let mut bill = Bill::start(rt.alloc())?;
+    let lines = [(2, 0, 5), (2, 1, 7), (2, 0, 6)];
+    build(&mut bill, rt.alloc(), "BAT", &lines)?;
+    stands_at_both_ends(&mut bill)
+}
+
+/// Adds a node of this layer.
+fn add_to_layer(bill: &mut Bill, alloc: Global, layer: u32, letter: &str) -> Result<NodeId, Fail> {
+    let label = format!(in alloc; "{layer}{letter}")?;
+    Ok(add(bill, alloc, label.as_bytes())?)
+}
+
+/// Adds layers of two nodes, each of which uses both nodes of the layer below.
+fn add_layers(bill: &mut Bill, alloc: Global, many: u32) -> Result<(), Fail> {
+    let mut below = [add(bill, alloc, b"0a")?, add(bill, alloc, b"0b")?];
     for layer in 1..many {
-        let a = format!(in alloc; "{layer}a")?;
-        let b = format!(in alloc; "{layer}b")?;
-        let here = [
-            add(&mut bill, alloc, a.as_bytes())?,
-            add(&mut bill, alloc, b.as_bytes())?,
-        ];
-        for parent in here {
-            set(&mut bill, alloc, parent, below[0], 1)?;
-            set(&mut bill, alloc, parent, below[1], 1)?;
+        let a = add_to_layer(bill, alloc, layer, "a")?;
+        let b = add_to_layer(bill, alloc, layer, "b")?;
+        for parent in [a, b] {
+            set(bill, alloc, parent, below[0], 1)?;
+            set(bill, alloc, parent, below[1], 1)?;
         }
-        below = here;
+        below = [a, b];
     }
-    Ok(bill)
+    Ok(())
+}
+
+/// Adds so many layers, and fails unless a node of the first affects all nodes up to the top one, each once, and a line from the
+/// first layer to the top one closes a cycle of a node a layer.
+fn goes_through_layers(bill: &mut Bill, alloc: Global, many: u32, top: NodeId) -> Result<(), Fail> {
+    add_layers(bill, alloc, many)?;
+    let above = affected(bill, alloc, 1)?.len();
+    let chain = chain_of(bill, alloc, 0, top).map(|path| path.as_slice().len());
+    expect_eq(&(above, chain), &(top as usize + 1, Some(many as usize)))
 }
 
 #[test]
 fn nodes_of_many_layers_are_affected_once(rt: HostRuntime) -> Result<(), Fail> {
     for (many, top) in [(40, 78), (1_000, 1_998)] {
-        let mut bill = layers(rt.alloc(), many)?;
-        let above = affected(&bill, rt.alloc(), 1)?;
-        assert_eq!(rt; above.len(), top + 1);
-        let chain = chain_of(set(&mut bill, rt.alloc(), 0, top as NodeId, 1));
-        assert!(rt; chain.is_some_and(|path| path.as_slice().len() == many as usize));
+        let mut bill = Bill::start(rt.alloc())?;
+        goes_through_layers(&mut bill, rt.alloc(), many, top)?;
     }
     Ok(())
 }
 
-/// The lines of a node after a plan.
-fn planned_lines<L: Ledger>(
+/// The lines of a node, and the nodes that it affects.
+type Told = (Vec<BillLine>, Vec<NodeId>);
+
+/// The lines of a node.
+fn lines_of<B: BillView, L: Ledger>(
     blank: Blank,
+    bill: &B,
     alloc: Global,
-    after: &PlannedBill,
     id: NodeId,
 ) -> Result<Vec<BillLine>, Fail>
     requires name { blank.name ≡ L.name }
     requires parts { blank.parts ≡ L.parts }
     requires some { 0 < L.parts }
 {
-    if id as usize >= after.node_count() {
+    if id as usize >= bill.node_count() {
         return Err(Fail::new("no node"));
     }
     let mut steps = Steps::<L>::start(blank);
-    Ok(Vec::from_slice(alloc, after.lines(id, &mut steps))?)
+    Ok(Vec::from_slice(alloc, bill.lines(id, &mut steps))?)
 }
 
-/// The same, where the steps count for nothing.
-fn lines_in(alloc: Global, after: &PlannedBill, id: NodeId) -> Result<Vec<BillLine>, Fail> {
-    planned_lines::<Brand>(Blank::new(1), alloc, after, id)
+/// What is told of a node. The steps count for nothing.
+fn told_of<B: BillView>(bill: &B, alloc: Global, id: NodeId) -> Result<Told, Fail> {
+    let lines = lines_of::<B, Brand>(Blank::new(1), bill, alloc, id)?;
+    Ok((lines, affected(bill, alloc, id)?))
 }
 
-/// The affected nodes of one seed after a plan.
-fn affected_in(after: &PlannedBill, alloc: Global, seed: NodeId) -> Result<Vec<NodeId>, Fail> {
-    if seed as usize >= after.node_count() {
-        return Err(Fail::new("no node"));
+/// What is told of each node.
+fn told<B: BillView>(bill: &B, alloc: Global) -> Result<Vec<Told>, Fail> {
+    let mut told = Vec::new(alloc);
+    for id in 0..bill.node_count() as NodeId {
+        told.push(told_of(bill, alloc, id)?)?;
     }
-    Ok(after.affected(alloc, &[seed])?)
+    Ok(told)
 }
 
 /// Whether a planned bill tells, of each node, what the bill tells once the plan is committed.
 fn tells_what_comes(bill: &mut Bill, alloc: Global, plan: BillPlan) -> Result<bool, Fail>
     requires { IsBillPlan bill.old plan }
 {
-    let mut told = Vec::new(alloc);
-    let after = PlannedBill::new(bill, &plan);
-    let nodes = after.node_count() as NodeId;
-    for id in 0..nodes {
-        told.push((
-            lines_in(alloc, &after, id)?,
-            affected_in(&after, alloc, id)?,
-        ))?;
-    }
+    let planned = told(&PlannedBill::new(bill, &plan), alloc)?;
     bill.commit(plan);
-    let mut alike = bill.node_count() == nodes as usize;
-    for (id, (lines, above)) in (0..nodes).zip(told.iter()) {
-        let (kept, _) = ends_of(alloc, bill, id)?;
-        let same = affected(bill, alloc, id)?;
-        alike &= kept.as_slice() == lines.as_slice() && same.as_slice() == above.as_slice();
-    }
-    Ok(alike)
+    Ok(planned == told(bill, alloc)?)
 }
 
-/// Whether a bill with a line, where it may be set, and one more node is told as it comes.
-fn set_is_told(bill: &Bill, alloc: Global, parent: NodeId, child: NodeId) -> Result<bool, Fail> {
-    let mut copy = bill.copied(alloc)?;
-    let nodes = copy.node_count();
+/// Whether a bill with a line, where it may be set, and one more node is told as it comes. The bill has what is planned then.
+fn set_is_told(
+    bill: &mut Bill,
+    alloc: Global,
+    parent: NodeId,
+    child: NodeId,
+) -> Result<bool, Fail> {
+    let nodes = bill.node_count();
     if parent as usize >= nodes || child as usize >= nodes {
         return Err(Fail::new("no node"));
     }
-    match copy.plan_set(alloc, parent, child, 7) {
+    match bill.plan_set(alloc, parent, child, 7) {
         Ok(mut plan) => {
-            copy.plan_node(&mut plan, b"N")?;
-            tells_what_comes(&mut copy, alloc, plan)
+            bill.plan_node(&mut plan, b"N")?;
+            tells_what_comes(bill, alloc, plan)
         }
         Err(LineFault::Closes { chain: _ }) => Ok(parent <= child),
         Err(fault) => Err(Fail::from(fault)),
     }
 }
 
-/// Whether a bill without a line is told as it comes.
-fn drop_is_told(bill: &Bill, alloc: Global, parent: NodeId, child: NodeId) -> Result<bool, Fail> {
-    let mut copy = bill.copied(alloc)?;
-    let nodes = copy.node_count();
+/// Whether a bill without a line is told as it comes. The bill has what is planned then.
+fn drop_is_told(
+    bill: &mut Bill,
+    alloc: Global,
+    parent: NodeId,
+    child: NodeId,
+) -> Result<bool, Fail> {
+    let nodes = bill.node_count();
     if parent as usize >= nodes || child as usize >= nodes {
         return Err(Fail::new("no node"));
     }
-    let plan = copy.plan_drop(alloc, parent, child)?;
-    tells_what_comes(&mut copy, alloc, plan)
+    let plan = bill.plan_drop(alloc, parent, child)?;
+    tells_what_comes(bill, alloc, plan)
 }
 
-#[test]
-fn a_planned_bill_tells_what_the_bill_tells_then(rt: HostRuntime) -> Result<(), Fail> {
-    let bill = layers(rt.alloc(), 3)?;
-    for parent in 0..6 {
-        for child in 0..6 {
-            let told = set_is_told(&bill, rt.alloc(), parent, child)?
-                && drop_is_told(&bill, rt.alloc(), parent, child)?;
-            assert!(rt; told, "{parent} to {child}");
+/// Fails unless copies of the bill are told as they come, with a line and without it.
+fn is_told(bill: &Bill, alloc: Global, parent: NodeId, child: NodeId) -> Result<(), Fail> {
+    let with = set_is_told(&mut bill.copied(alloc)?, alloc, parent, child)?;
+    let without = drop_is_told(&mut bill.copied(alloc)?, alloc, parent, child)?;
+    expect_eq(
+        &(parent, child, with, without),
+        &(parent, child, true, true),
+    )
+}
+
+/// Fails unless copies of the bill are told as they come, with each line between these many nodes and without it.
+fn each_is_told(bill: &Bill, alloc: Global, nodes: NodeId) -> Result<(), Fail> {
+    for parent in 0..nodes {
+        for child in 0..nodes {
+            is_told(bill, alloc, parent, child)?;
         }
     }
     Ok(())
 }
 
 #[test]
-fn planned_nodes_have_the_next_numbers(rt: HostRuntime) -> Result<(), Fail> {
-    let bill = layers(rt.alloc(), 3)?;
-    let mut plan = bill.plan_nothing(rt.alloc());
+fn a_planned_bill_tells_what_the_bill_tells_then(rt: HostRuntime) -> Result<(), Fail> {
+    let mut bill = Bill::start(rt.alloc())?;
+    add_layers(&mut bill, rt.alloc(), 3)?;
+    each_is_told(&bill, rt.alloc(), 6)
+}
+
+/// Fails unless a planned node has the next number, and a label that is planned or there is taken.
+fn has_next_number(bill: &Bill, plan: &mut BillPlan) -> Result<(), Fail>
+    requires { IsBillPlan bill.now plan.old }
+{
     let taken = PlanFault::Node {
         fault: NodeFault::Taken,
     };
-    assert_eq!(rt; bill.plan_node(&mut plan, b"N"), Ok(6));
-    assert_eq!(rt; bill.plan_node(&mut plan, b"N"), Err(taken));
-    assert_eq!(rt; bill.plan_node(&mut plan, b"1a"), Err(taken));
-    Ok(())
+    let first = bill.plan_node(plan, b"N")?;
+    let Err(again) = bill.plan_node(plan, b"N") else {
+        return Err(Fail::new("a planned label is planned again"));
+    };
+    let there = bill.plan_node(plan, b"1a");
+    expect_eq(&(first, again, there), &(6, taken, Err(taken)))
+}
+
+#[test]
+fn planned_nodes_have_the_next_numbers(rt: HostRuntime) -> Result<(), Fail> {
+    let mut bill = Bill::start(rt.alloc())?;
+    add_layers(&mut bill, rt.alloc(), 3)?;
+    let mut plan = bill.plan_nothing(rt.alloc());
+    has_next_number(&bill, &mut plan)
 }

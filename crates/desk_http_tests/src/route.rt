@@ -1,5 +1,6 @@
 use desk_http::{Ask, HttpFault, Method, Request, Routes, Span, Taken, route, take_request};
 use desk_scratch::Question;
+use desk_testing::expect_eq;
 use std::alloc::{AllocError, Global};
 use std::test::Fail;
 
@@ -171,23 +172,22 @@ const WITH_A_BAD_QUERY: &[Row] = &[
     (POST, b"/declare?a&b", "bad-query other"),
 ];
 
-/// The place of the first row whose target asks something else.
-fn first_other(alloc: Global, routes: &Routes, rows: &[Row]) -> Result<Option<usize>, AllocError> {
-    for (place, (method, target, words)) in rows.iter().enumerate() {
-        let told = answer(alloc, asked(alloc, routes, *method, target))?;
-        if told.as_str() != *words {
-            return Ok(Some(place));
-        }
-    }
-    Ok(None)
+/// Fails, and says what is asked, unless it is this.
+fn is_told(
+    alloc: Global,
+    target: &[u8],
+    asked: Result<Ask, HttpFault>,
+    words: &str,
+) -> Result<(), Fail> {
+    let told = answer(alloc, asked)?;
+    expect_eq(&(target, told.as_str()), &(target, words))
 }
 
 /// Fails at the first row of these lists whose target asks something else.
-fn ask_so(alloc: Global, lists: &[&[Row]]) -> Result<(), Fail> {
-    let routes = Routes::build(alloc)?;
-    for (list, rows) in lists.iter().enumerate() {
-        if let Some(place) = first_other(alloc, &routes, rows)? {
-            return Err(Fail::new(format_args!("row {place} of list {list}")));
+fn ask_so(alloc: Global, routes: &Routes, lists: &[&[Row]]) -> Result<(), Fail> {
+    for rows in lists {
+        for (method, target, words) in *rows {
+            is_told(alloc, target, asked(alloc, routes, *method, target), words)?;
         }
     }
     Ok(())
@@ -195,25 +195,22 @@ fn ask_so(alloc: Global, lists: &[&[Row]]) -> Result<(), Fail> {
 
 #[test]
 fn each_target_asks_so(rt: HostRuntime) -> Result<(), Fail> {
-    ask_so(
-        rt.alloc(),
-        &[ASKING, WITHOUT_A_ROUTE, BY_ANOTHER_METHOD, WITH_A_BAD_QUERY],
-    )
+    let routes = Routes::build(rt.alloc())?;
+    let lists = [ASKING, WITHOUT_A_ROUTE, BY_ANOTHER_METHOD, WITH_A_BAD_QUERY];
+    ask_so(rt.alloc(), &routes, &lists)
 }
 
-/// What is asked by the request that is taken from these bytes, in words.
-fn answer_to_sent(alloc: Global, sent: &[u8]) -> Result<String, Fail> {
+/// Fails unless this is asked by the request that is taken from these bytes.
+fn is_asked_by(alloc: Global, sent: &[u8], words: &str) -> Result<(), Fail> {
     let Taken::Whole(request) = take_request(sent) else {
         return Err(Fail::new("no request"));
     };
     let routes = Routes::build(alloc)?;
-    Ok(answer(alloc, route(alloc, &routes, sent, &request))?)
+    is_told(alloc, sent, route(alloc, &routes, sent, &request), words)
 }
 
 #[test]
 fn a_request_that_was_taken_asks_by_its_target(rt: HostRuntime) -> Result<(), Fail> {
     let sent = b"GET /rohs/P?day=2024-01-23 HTTP/1.1\r\n\r\nPOST /version HTTP/1.1\r\n\r\n";
-    let told = answer_to_sent(rt.alloc(), sent)?;
-    assert_eq!(rt; told.as_str(), "rohs P day 2024-01-23");
-    Ok(())
+    is_asked_by(rt.alloc(), sent, "rohs P day 2024-01-23")
 }

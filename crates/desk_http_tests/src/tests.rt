@@ -3,6 +3,7 @@ ghost use Rattle.desk_http.specs.Reply.{allow_of, fits_status, is_reply_status};
 
 use Wanted::{Other, Whole};
 use desk_http::{Fixed, Method, Request, Span, Taken, fixed_reply, take_request, write_reply};
+use desk_testing::{check, expect_eq};
 use desk_text::{Bytes, OutOfMemory};
 use http::StatusCode;
 use std::alloc::{AllocError, Global};
@@ -45,15 +46,14 @@ fn is_wanted(taken: Taken, wanted: Wanted) -> bool {
     }
 }
 
-/// The parts, each so many times.
-fn repeated(alloc: Global, parts: &[(&[u8], usize)]) -> Result<Vec<u8>, AllocError> {
-    let mut all = Vec::new(alloc);
+/// Appends the parts, each so many times.
+fn push_parts(sent: &mut Vec<u8>, parts: &[(&[u8], usize)]) -> Result<(), AllocError> {
     for (part, times) in parts {
         for _ in 0..*times {
-            all.extend_from_slice(part)?;
+            sent.extend_from_slice(part)?;
         }
     }
-    Ok(all)
+    Ok(())
 }
 
 #[rattlefmt::skip]
@@ -146,10 +146,9 @@ const CLOSINGS: &[Row] = &[
 /// Fails at the first row from which something else is taken.
 fn are_taken(alloc: Global, rows: &[Row]) -> Result<(), Fail> {
     for &(what, parts, wanted) in rows {
-        let sent = repeated(alloc, parts)?;
-        if !is_wanted(take_request(&sent), wanted) {
-            return Err(Fail::new(what));
-        }
+        let mut sent = Vec::new(alloc);
+        push_parts(&mut sent, parts)?;
+        check(is_wanted(take_request(&sent), wanted), what)?;
     }
     Ok(())
 }
@@ -175,32 +174,22 @@ const PLACES: &[Place] = &[
 
 /// What is taken where this byte stands between the two.
 fn taken_with(alloc: Global, before: &[u8], byte: u8, after: &[u8]) -> Result<Taken, AllocError> {
-    let sent = repeated(alloc, &[(before, 1), (&[byte], 1), (after, 1)])?;
+    let mut sent = Vec::new(alloc);
+    push_parts(&mut sent, &[(before, 1), (&[byte], 1), (after, 1)])?;
     Ok(take_request(&sent))
 }
 
-/// The first control byte with which something else is taken.
-fn first_taken_control(alloc: Global, place: &Place) -> Result<Option<u8>, AllocError> {
-    let (_, before, after, of_tab) = *place;
+/// Fails at the first control byte with which something else is taken at the place.
+fn refuses_controls(alloc: Global, place: &Place) -> Result<(), Fail> {
+    let (what, before, after, of_tab) = *place;
     for byte in 0..32 {
         let wanted = if byte == b'\t' {
             of_tab
         } else {
             Other(Taken::BadHead)
         };
-        if !is_wanted(taken_with(alloc, before, byte, after)?, wanted) {
-            return Ok(Some(byte));
-        }
-    }
-    Ok(None)
-}
-
-/// Fails at the first place where a control byte is taken.
-fn refuse_controls(alloc: Global, places: &[Place]) -> Result<(), Fail> {
-    for place in places {
-        if let Some(byte) = first_taken_control(alloc, place)? {
-            return Err(Fail::new(format_args!("byte {byte} in the {}", place.0)));
-        }
+        let holds = is_wanted(taken_with(alloc, before, byte, after)?, wanted);
+        expect_eq(&(what, byte, holds), &(what, byte, true))?;
     }
     Ok(())
 }
@@ -208,7 +197,10 @@ fn refuse_controls(alloc: Global, places: &[Place]) -> Result<(), Fail> {
 /// No control byte stands anywhere in a head but for a tab in a value.
 #[test]
 fn control_bytes_are_refused(rt: HostRuntime) -> Result<(), Fail> {
-    refuse_controls(rt.alloc(), PLACES)
+    for place in PLACES {
+        refuses_controls(rt.alloc(), place)?;
+    }
+    Ok(())
 }
 
 const EDIT_AND_VERSION: &[u8] = b"POST /edit HTTP/1.1\r\nContent-Length: 73\r\n\r\n\
@@ -245,23 +237,28 @@ fn take_all(held: &mut Vec<u8>, told: &mut Vec<u8>) -> Result<(), AllocError> {
     Ok(())
 }
 
-/// What is told of the requests where they come in two pieces, with what is left of them behind it.
-fn told_by_cut(alloc: Global, cut: usize) -> Result<Vec<u8>, AllocError> {
-    let mut held: Vec<u8> = Vec::new(alloc);
-    let mut told = Vec::new(alloc);
+/// Tells the requests where they come in two pieces, with what is left of them behind it.
+fn take_pieces(held: &mut Vec<u8>, told: &mut Vec<u8>, cut: usize) -> Result<(), AllocError> {
     let (first, second) = EDIT_AND_VERSION.split_at(cut.min(EDIT_AND_VERSION.len()));
-    held.extend_from_slice(first)?;
-    take_all(&mut held, &mut told)?;
-    held.extend_from_slice(second)?;
-    take_all(&mut held, &mut told)?;
-    told.extend_from_slice(&held)?;
-    Ok(told)
+    for piece in [first, second] {
+        held.extend_from_slice(piece)?;
+        take_all(held, told)?;
+    }
+    told.extend_from_slice(held)
+}
+
+/// Whether the two requests are told where they come in two pieces.
+fn is_told_by(alloc: Global, cut: usize) -> Result<bool, AllocError> {
+    let mut held = Vec::new(alloc);
+    let mut told = Vec::new(alloc);
+    take_pieces(&mut held, &mut told, cut)?;
+    Ok(told.as_slice() == TOLD)
 }
 
 /// The first cut by which something else is told.
 fn first_wrong_cut(alloc: Global) -> Result<Option<usize>, AllocError> {
     for cut in 0..=EDIT_AND_VERSION.len() {
-        if told_by_cut(alloc, cut)?.as_slice() != TOLD {
+        if !is_told_by(alloc, cut)? {
             return Ok(Some(cut));
         }
     }
@@ -270,8 +267,7 @@ fn first_wrong_cut(alloc: Global) -> Result<Option<usize>, AllocError> {
 
 #[test]
 fn every_cut_gives_the_same_requests(rt: HostRuntime) -> Result<(), Fail> {
-    assert_eq!(rt; first_wrong_cut(rt.alloc())?, None);
-    Ok(())
+    expect_eq(&first_wrong_cut(rt.alloc()), &Ok(None))
 }
 
 /// Three replies, one behind the other.
@@ -306,31 +302,32 @@ fn replies_are_written_so(rt: HostRuntime) -> Result<(), Fail> {
         Connection: close\r\n\r\n\
         HTTP/1.1 405 Method Not Allowed\r\nContent-Type: text/plain; charset=utf-8\r\nContent-Length: 13\r\n\
         Allow: POST\r\nConnection: close\r\n\r\nwrong-method\n";
-    assert_eq!(rt; out.as_slice(), wanted.as_bytes());
-    Ok(())
+    expect_eq(&out.as_slice(), &wanted.as_bytes())
 }
 
-/// How many bytes two replies with this body have, and whether they end with it.
-fn written_twice(alloc: Global, body: &[u8]) -> Result<(usize, bool), OutOfMemory> {
-    let mut out = Bytes::start(alloc);
-    append(StatusCode::OK, body, None, false, &mut out)?;
-    append(StatusCode::OK, body, None, false, &mut out)?;
-    Ok((out.len(), out.as_slice().ends_with(body)))
+/// Appends two replies with this body, and fails unless they have so many bytes and end with it.
+fn is_written_twice(out: &mut Bytes, body: &[u8], len: usize) -> Result<(), Fail> {
+    append(StatusCode::OK, body, None, false, out)?;
+    append(StatusCode::OK, body, None, false, out)?;
+    let found = (out.len(), out.as_slice().ends_with(body));
+    expect_eq(&found, &(len, true))
 }
 
 #[test]
 fn a_long_reply_is_written_behind_another(rt: HostRuntime) -> Result<(), Fail> {
     let body = vec![in rt.alloc(); b'x'; 70_000]?;
-    let written = written_twice(rt.alloc(), &body)?;
+    let mut out = Bytes::start(rt.alloc());
     // the head takes 83 bytes
-    assert_eq!(rt; written, (2 * 70_083, true));
-    Ok(())
+    is_written_twice(&mut out, &body, 2 * 70_083)
 }
 
 const CLOSE: &str = "Connection: close\r\n";
 
-/// The first line of a reply of each status, in the order in which `each_status` writes them, and the lines behind its length.
-const STATUSES: &[(&str, &str)] = &[
+/// The first line of a reply, and the lines behind its length.
+type StatusRow = (&'static str, &'static str);
+
+/// A reply of each status, in the order in which `each_status` writes them.
+const STATUSES: &[StatusRow] = &[
     ("200 OK", CLOSE),
     ("400 Bad Request", ""),
     ("404 Not Found", ""),
@@ -363,60 +360,72 @@ fn last_statuses(out: &mut Bytes) -> Result<(), OutOfMemory> {
     append(StatusCode::INSUFFICIENT_STORAGE, b"x\n", None, false, out)
 }
 
-/// A reply of each status.
-fn each_status(alloc: Global) -> Result<Bytes, OutOfMemory> {
-    let mut out = Bytes::start(alloc);
-    first_statuses(&mut out)?;
-    last_statuses(&mut out)?;
-    Ok(out)
+/// Appends a reply of each status.
+fn each_status(out: &mut Bytes) -> Result<(), OutOfMemory> {
+    first_statuses(out)?;
+    last_statuses(out)
 }
 
-/// The replies with these first lines, and these lines behind their length.
-fn replies_of(alloc: Global, rows: &[(&str, &str)]) -> Result<String, AllocError> {
-    let mut replies = String::new(alloc);
-    for (first, lines) in rows {
-        let reply = format!(in alloc;
-            "HTTP/1.1 {first}\r\nContent-Type: text/plain; charset=utf-8\r\nContent-Length: 2\r\n{lines}\r\nx\n"
-        )?;
-        replies.push_str(reply.as_str())?;
+/// Appends these texts.
+fn push_texts(out: &mut Bytes, texts: &[&str]) -> Result<(), OutOfMemory> {
+    for text in texts {
+        out.push_all(text.as_bytes())?;
     }
-    Ok(replies)
+    Ok(())
+}
+
+/// What stands between the first line of a reply and its length.
+const LENGTH: &str = "\r\nContent-Type: text/plain; charset=utf-8\r\nContent-Length: ";
+
+/// Appends the replies with these first lines, and these lines behind their length.
+fn push_statuses(out: &mut Bytes, rows: &[StatusRow]) -> Result<(), OutOfMemory> {
+    for &(first, lines) in rows {
+        push_texts(
+            out,
+            &["HTTP/1.1 ", first, LENGTH, "2\r\n", lines, "\r\nx\n"],
+        )?;
+    }
+    Ok(())
 }
 
 #[test]
 fn each_status_has_its_phrase(rt: HostRuntime) -> Result<(), Fail> {
-    let written = each_status(rt.alloc())?;
-    let wanted = replies_of(rt.alloc(), STATUSES)?;
-    assert_eq!(rt; written.as_slice(), wanted.as_bytes());
-    Ok(())
+    let mut written = Bytes::start(rt.alloc());
+    each_status(&mut written)?;
+    let mut wanted = Bytes::start(rt.alloc());
+    push_statuses(&mut wanted, STATUSES)?;
+    expect_eq(&written.as_slice(), &wanted.as_slice())
 }
 
-/// The first line, the length, a line and the word of each fixed reply, in the order in which `each_fixed` writes them.
-const FIXED: &[(&str, usize, &str, &str)] = &[
-    ("400 Bad Request", 9, "", "bad-head"),
-    ("411 Length Required", 16, "", "length-required"),
-    ("413 Payload Too Large", 14, "", "body-too-long"),
+/// The first line, the length, a line and the word of a fixed reply.
+type FixedRow = (&'static str, &'static str, &'static str, &'static str);
+
+/// The fixed replies, in the order in which `each_fixed` writes them.
+const FIXED: &[FixedRow] = &[
+    ("400 Bad Request", "9", "", "bad-head"),
+    ("411 Length Required", "16", "", "length-required"),
+    ("413 Payload Too Large", "14", "", "body-too-long"),
     (
         "431 Request Header Fields Too Large",
-        14,
+        "14",
         "",
         "head-too-long",
     ),
-    ("404 Not Found", 9, "", "no-route"),
+    ("404 Not Found", "9", "", "no-route"),
     (
         "405 Method Not Allowed",
-        13,
+        "13",
         "Allow: GET\r\n",
         "wrong-method",
     ),
     (
         "405 Method Not Allowed",
-        13,
+        "13",
         "Allow: POST\r\n",
         "wrong-method",
     ),
-    ("503 Service Unavailable", 12, "", "store-fault"),
-    ("507 Insufficient Storage", 7, "", "memory"),
+    ("503 Service Unavailable", "12", "", "store-fault"),
+    ("507 Insufficient Storage", "7", "", "memory"),
 ];
 
 /// Appends the fixed reply that stays, and the one that closes.
@@ -427,14 +436,8 @@ fn append_fixed(reply: Fixed, out: &mut Bytes) -> Result<(), OutOfMemory>
     out.push_all(fixed_reply(reply, true))
 }
 
-/// The fixed replies, each once as it stays and once as it closes.
-fn each_fixed(alloc: Global) -> Result<Bytes, OutOfMemory> {
-    let mut out = Bytes::start(alloc);
-    append_all_fixed(&mut out)?;
-    Ok(out)
-}
-
-fn append_all_fixed(out: &mut Bytes) -> Result<(), OutOfMemory> {
+/// Appends the fixed replies, each once as it stays and once as it closes.
+fn each_fixed(out: &mut Bytes) -> Result<(), OutOfMemory> {
     append_fixed(Fixed::BadHead, out)?;
     append_fixed(Fixed::LengthRequired, out)?;
     append_fixed(Fixed::BodyTooLong, out)?;
@@ -446,24 +449,35 @@ fn append_all_fixed(out: &mut Bytes) -> Result<(), OutOfMemory> {
     append_fixed(Fixed::Memory, out)
 }
 
-/// The fixed replies of these rows, each with and without the line that closes.
-fn fixed_of(alloc: Global, rows: &[(&str, usize, &str, &str)]) -> Result<String, AllocError> {
-    let mut replies = String::new(alloc);
-    for (first, length, allow, word) in rows {
+/// Appends the fixed replies of these rows, each without and with the line that closes.
+fn push_fixed(out: &mut Bytes, rows: &[FixedRow]) -> Result<(), OutOfMemory> {
+    for &(first, length, allow, word) in rows {
         for close in ["", CLOSE] {
-            let reply = format!(in alloc;
-                "HTTP/1.1 {first}\r\nContent-Type: text/plain; charset=utf-8\r\nContent-Length: {length}\r\n{allow}{close}\r\n{word}\n"
+            push_texts(
+                out,
+                &[
+                    "HTTP/1.1 ",
+                    first,
+                    LENGTH,
+                    length,
+                    "\r\n",
+                    allow,
+                    close,
+                    "\r\n",
+                    word,
+                    "\n",
+                ],
             )?;
-            replies.push_str(reply.as_str())?;
         }
     }
-    Ok(replies)
+    Ok(())
 }
 
 #[test]
 fn fixed_replies_are_so(rt: HostRuntime) -> Result<(), Fail> {
-    let written = each_fixed(rt.alloc())?;
-    let wanted = fixed_of(rt.alloc(), FIXED)?;
-    assert_eq!(rt; written.as_slice(), wanted.as_bytes());
-    Ok(())
+    let mut written = Bytes::start(rt.alloc());
+    each_fixed(&mut written)?;
+    let mut wanted = Bytes::start(rt.alloc());
+    push_fixed(&mut wanted, FIXED)?;
+    expect_eq(&written.as_slice(), &wanted.as_slice())
 }

@@ -4,6 +4,7 @@ ghost use Rattle.desk_rollup.specs.Laws.{ChangesOne, IsLight};
 
 use desk_graph::{Bill, BillPlan, NodeId, PlannedBill, Steps};
 use desk_rollup::{Hop, Load, Mark, Own, RollFault, RollPlan, Rolled, Rollups};
+use desk_testing::expect_eq;
 use std::alloc::Global;
 use std::marker::{Brand, Model};
 use std::sync::ledger::{Blank, Ledger};
@@ -193,16 +194,20 @@ fn start(alloc: Global) -> Result<Desk, Fail> {
     })
 }
 
-/// A bill with a node for each letter, and these lines from a parent to a child, so many times.
-fn desk_of(alloc: Global, labels: &str, lines: &[(NodeId, NodeId, u32)]) -> Result<Desk, Fail> {
-    let mut desk = start(alloc)?;
+/// Adds a node for each letter, and sets these lines from a parent to a child, so many times.
+fn build(
+    desk: &mut Desk,
+    alloc: Global,
+    labels: &str,
+    lines: &[(NodeId, NodeId, u32)],
+) -> Result<(), Fail> {
     for label in labels.as_bytes() {
-        add(&mut desk, alloc, &[*label])?;
+        add(desk, alloc, &[*label])?;
     }
     for (parent, child, count) in lines {
-        set(&mut desk, alloc, *parent, *child, *count, 0)?;
+        set(desk, alloc, *parent, *child, *count, 0)?;
     }
-    Ok(desk)
+    Ok(())
 }
 
 /// P has A twice and B three times, these have C, and C has M.
@@ -211,83 +216,117 @@ const DIAMOND: [(NodeId, NodeId, u32); 5] = [(0, 1, 2), (0, 2, 3), (1, 3, 1), (2
 /// P has Z and B, and these have M.
 const TWO_WAYS: [(NodeId, NodeId, u32); 4] = [(0, 1, 1), (0, 2, 1), (1, 3, 1), (2, 3, 1)];
 
-/// Whether the first node weighs this and has one mark, to which these nodes lead.
+/// Fails unless these nodes lead from the first one to the mark.
+fn leads_to(desk: &Desk, alloc: Global, mark: Mark, nodes: &[NodeId]) -> Result<(), Fail> {
+    let chain = chain_of(desk, alloc, 0, mark)?;
+    expect_eq(&chain.as_slice(), &nodes)
+}
+
+/// Fails unless the first node weighs this and has one mark, to which these nodes lead.
 fn has_at_top(
     desk: &Desk,
     alloc: Global,
     weight: u128,
     mark: Mark,
     nodes: &[NodeId],
-) -> Result<bool, Fail> {
+) -> Result<(), Fail> {
     let top = values_of(desk, 0)?;
-    let chain = chain_of(desk, alloc, 0, mark)?;
     let hop = Hop {
         mark,
         next: nodes.get(1).copied(),
     };
-    Ok(top.weight == weight && top.hops.as_slice() == [hop].as_slice() && chain.as_slice() == nodes)
+    expect_eq(
+        &(top.weight, top.hops.as_slice()),
+        &(weight, [hop].as_slice()),
+    )?;
+    leads_to(desk, alloc, mark, nodes)
+}
+
+/// Fails unless a mark at the end of the diamond is led to over one side, and over the other once the line to that side is dropped.
+fn takes_another_way(desk: &mut Desk, alloc: Global) -> Result<(), Fail> {
+    build(desk, alloc, "PABCM", &DIAMOND)?;
+    let mark = Mark { node: 4, what: 1 };
+    expect_eq(&give(desk, alloc, 4, 1_000_000, &[mark])?, &Ok(5))?;
+    has_at_top(desk, alloc, 5_000_000, mark, &[0, 1, 3, 4])?;
+    expect_eq(&drop_line(desk, alloc, 0, 1)?, &1)?;
+    has_at_top(desk, alloc, 3_000_000, mark, &[0, 2, 3, 4])
 }
 
 #[test]
 fn a_mark_keeps_one_way_and_takes_another_where_its_line_is_dropped(
     rt: HostRuntime,
 ) -> Result<(), Fail> {
-    let alloc = rt.alloc();
-    let mut desk = desk_of(alloc, "PABCM", &DIAMOND)?;
-    let mark = Mark { node: 4, what: 1 };
-    assert_eq!(rt; give(&mut desk, alloc, 4, 1_000_000, &[mark])?, Ok(5));
-    assert!(rt; has_at_top(&desk, alloc, 5_000_000, mark, &[0, 1, 3, 4])?);
-    assert_eq!(rt; drop_line(&mut desk, alloc, 0, 1)?, 1);
-    assert!(rt; has_at_top(&desk, alloc, 3_000_000, mark, &[0, 2, 3, 4])?);
-    Ok(())
+    let mut desk = start(rt.alloc())?;
+    takes_another_way(&mut desk, rt.alloc())
+}
+
+/// Fails unless a weight of 2 to the 127 at the end of the diamond is too large at the first node.
+fn is_too_large(desk: &mut Desk, alloc: Global) -> Result<(), Fail> {
+    build(desk, alloc, "PABCM", &DIAMOND)?;
+    let told = give(desk, alloc, 4, 1 << 127, &[])?;
+    expect_eq(&told, &Err(RollFault::WeightTooLarge { node: 0 }))
 }
 
 #[test]
 fn a_weight_of_2_to_the_127_counted_twice_is_too_large(rt: HostRuntime) -> Result<(), Fail> {
-    let mut desk = desk_of(rt.alloc(), "PABCM", &DIAMOND)?;
-    let told = give(&mut desk, rt.alloc(), 4, 1 << 127, &[])?;
-    assert_eq!(rt; told, Err(RollFault::WeightTooLarge { node: 0 }));
-    Ok(())
+    let mut desk = start(rt.alloc())?;
+    is_too_large(&mut desk, rt.alloc())
+}
+
+/// Fails unless of three nodes that weigh too much, each a user of the one before, the second is told, which has the least label.
+fn tells_the_least_label(desk: &mut Desk, alloc: Global) -> Result<(), Fail> {
+    build(desk, alloc, "MBAZ", &[(1, 0, 2), (2, 1, 1), (3, 2, 1)])?;
+    let told = give(desk, alloc, 0, 1 << 127, &[])?;
+    expect_eq(&told, &Err(RollFault::WeightTooLarge { node: 2 }))
+}
+
+#[test]
+fn of_nodes_that_weigh_too_much_the_one_with_the_least_label_is_told(
+    rt: HostRuntime,
+) -> Result<(), Fail> {
+    let mut desk = start(rt.alloc())?;
+    tells_the_least_label(&mut desk, rt.alloc())
+}
+
+/// Fails unless a mark of the last node is led to over the child whose label is B.
+fn takes_the_least_label(desk: &mut Desk, alloc: Global) -> Result<(), Fail> {
+    build(desk, alloc, "PZBM", &TWO_WAYS)?;
+    let mark = Mark { node: 3, what: 1 };
+    expect_eq(&give(desk, alloc, 3, 1, &[mark])?, &Ok(4))?;
+    has_at_top(desk, alloc, 2, mark, &[0, 2, 3])
 }
 
 #[test]
 fn the_next_of_a_mark_is_the_child_with_the_least_label(rt: HostRuntime) -> Result<(), Fail> {
-    let alloc = rt.alloc();
-    let mut desk = desk_of(alloc, "PZBM", &TWO_WAYS)?;
-    let mark = Mark { node: 3, what: 1 };
-    assert_eq!(rt; give(&mut desk, alloc, 3, 1, &[mark])?, Ok(4));
-    assert!(rt; has_at_top(&desk, alloc, 2, mark, &[0, 2, 3])?);
-    Ok(())
+    let mut desk = start(rt.alloc())?;
+    takes_the_least_label(&mut desk, rt.alloc())
 }
 
-/// Forty layers of two nodes and two nodes below them, each of which has both nodes of the next layer but for the last.
-fn layers(alloc: Global) -> Result<Desk, Fail> {
-    let mut desk = start(alloc)?;
+/// Adds forty layers of two nodes and two nodes below them, each of which has both nodes of the next layer but for the last.
+fn add_layers(desk: &mut Desk, alloc: Global) -> Result<(), Fail> {
     for node in 0..82_u8 {
-        add(&mut desk, alloc, &[node])?;
+        add(desk, alloc, &[node])?;
     }
     for line in 0..156_u32 {
         let layer = line / 4;
-        set(
-            &mut desk,
-            alloc,
-            2 * layer + line % 2,
-            2 * layer + 2 + line / 2 % 2,
-            1,
-            0,
-        )?;
+        let (parent, child) = (2 * layer + line % 2, 2 * layer + 2 + line / 2 % 2);
+        set(desk, alloc, parent, child, 1, 0)?;
     }
-    Ok(desk)
+    Ok(())
+}
+
+/// Fails unless a line to a weight below the last layer moves all nodes above, and the first weighs as much as there are ways.
+fn moves_all(desk: &mut Desk, alloc: Global) -> Result<(), Fail> {
+    add_layers(desk, alloc)?;
+    expect_eq(&give(desk, alloc, 80, 1, &[])?, &Ok(1))?;
+    expect_eq(&set(desk, alloc, 78, 80, 1, 0)?, &79)?;
+    expect_eq(&values_of(desk, 0)?.weight, &(1 << 38))
 }
 
 #[test]
 fn a_line_at_the_bottom_of_40_layers_moves_all(rt: HostRuntime) -> Result<(), Fail> {
-    let mut desk = layers(rt.alloc())?;
-    let bottom = give(&mut desk, rt.alloc(), 80, 1, &[])?;
-    assert_eq!(rt; bottom, Ok(1));
-    assert_eq!(rt; set(&mut desk, rt.alloc(), 78, 80, 1, 0)?, 79);
-    assert_eq!(rt; values_of(&desk, 0)?.weight, 1 << 38);
-    Ok(())
+    let mut desk = start(rt.alloc())?;
+    moves_all(&mut desk, rt.alloc())
 }
 
 /// How many nodes the plain bill has.
@@ -428,21 +467,37 @@ fn edit_both(
     Ok(())
 }
 
+/// The number of the next edit.
+fn number_behind(number: u64) -> u64 {
+    let number = number ^ number << 13;
+    let number = number ^ number >> 7;
+    number ^ number << 17
+}
+
+/// The first of a thousand edits that leaves something else than comes out from scratch.
+fn first_wrong_edit(desk: &mut Desk, alloc: Global) -> Result<Option<u32>, Fail> {
+    let mut nodes = [NOTHING; COUNT];
+    let mut number = 88_172_645_463_325_252;
+    for edit in 0..1_000 {
+        number = number_behind(number);
+        edit_both(desk, alloc, &mut nodes, number)?;
+        if !is_as_from_scratch(desk, &nodes)? {
+            return Ok(Some(edit));
+        }
+    }
+    Ok(None)
+}
+
+/// Adds the nodes of the plain bill, and fails unless each of a thousand edits leaves what comes out from scratch.
+fn are_as_from_scratch(desk: &mut Desk, alloc: Global) -> Result<(), Fail> {
+    for node in 0..COUNT {
+        add(desk, alloc, &[rank(node)])?;
+    }
+    expect_eq(&first_wrong_edit(desk, alloc)?, &None)
+}
+
 #[test]
 fn after_each_of_a_thousand_edits_all_is_as_from_scratch(rt: HostRuntime) -> Result<(), Fail> {
-    let alloc = rt.alloc();
-    let mut desk = start(alloc)?;
-    for node in 0..COUNT {
-        add(&mut desk, alloc, &[rank(node)])?;
-    }
-    let mut nodes = [NOTHING; COUNT];
-    let mut number = 88_172_645_463_325_252_u64;
-    for edit in 0..1_000 {
-        number ^= number << 13;
-        number ^= number >> 7;
-        number ^= number << 17;
-        edit_both(&mut desk, alloc, &mut nodes, number)?;
-        assert!(rt; is_as_from_scratch(&desk, &nodes)?, "edit {edit}");
-    }
-    Ok(())
+    let mut desk = start(rt.alloc())?;
+    are_as_from_scratch(&mut desk, rt.alloc())
 }

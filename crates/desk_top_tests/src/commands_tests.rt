@@ -1,17 +1,16 @@
 //! The commands that write or fill a store whole, and the sample.
 
-use crate::session_steps::{check, empty_shelf, is_told, outcome, outcome_over, stream_of};
+use crate::session_steps::{
+    empty_shelf, is_answered, is_told, outcome, outcome_with_faults, stream_of,
+};
 use crate::session_tests::GATEWAY;
 use crate::store_tests::shelf_of;
-use desk_edge::{MapShelf, MemoryLink};
-use desk_text::Bytes;
+use desk_edge::MapShelf;
+use desk_testing::{check, expect_eq};
 use std::alloc::Global;
 use std::sync::Wait;
 use std::test::Fail;
 use std::thread::Threads;
-
-/// More bytes than a command of a test writes.
-const ROOM: usize = 100_000;
 
 /// What a command writes for this input over the shelf's stores, where it ends with status 0.
 fn written<R: Wait + Sync + Threads>(
@@ -28,13 +27,15 @@ fn written<R: Wait + Sync + Threads>(
     Ok(text)
 }
 
-/// Fails unless the lines fill a store named `z` once, which is exported as the same lines.
+/// Fails unless the lines are those of a new store, and fill a store named `z` once, which is exported as the same lines.
 fn fill_once<R: Wait + Sync + Threads>(
     rt: &R,
     alloc: Global,
     lines: &[u8],
     shelf: &mut MapShelf,
 ) -> Result<(), Fail> {
+    let first = b"1\tbbp\t1\tButyl benzyl phthalate (BBP)\t85-68-7\n";
+    check(lines.starts_with(first), "another first line")?;
     let import = ["import", "--store=z"];
     let filled = is_told(
         rt,
@@ -62,28 +63,19 @@ fn fill_once<R: Wait + Sync + Threads>(
 }
 
 /// Fails unless the export of a new store fills another store, once, which is exported as the same bytes.
-fn is_filled_once<R: Wait + Sync + Threads>(rt: &R, alloc: Global) -> Result<(), Fail> {
-    let mut shelf = empty_shelf(alloc);
-    let lines = written(rt, alloc, &["export", "--store", "y"], b"", &mut shelf)?;
-    let first = b"1\tbbp\t1\tButyl benzyl phthalate (BBP)\t85-68-7\n";
-    check(lines.starts_with(first), "another first line")?;
-    fill_once(rt, alloc, lines.as_slice(), &mut shelf)
+fn is_filled_once<R: Wait + Sync + Threads>(
+    rt: &R,
+    alloc: Global,
+    shelf: &mut MapShelf,
+) -> Result<(), Fail> {
+    let lines = written(rt, alloc, &["export", "--store", "y"], b"", shelf)?;
+    fill_once(rt, alloc, lines.as_slice(), shelf)
 }
 
 #[test]
 fn what_a_new_store_exports_fills_another_store_once(rt: HostRuntime) -> Result<(), Fail> {
-    is_filled_once(&rt, rt.alloc())
-}
-
-/// The lines that a store named `a` is exported as once a session over it took the stream.
-fn lines_of<R: Wait + Sync + Threads>(
-    rt: &R,
-    alloc: Global,
-    stream: &[u8],
-    shelf: &mut MapShelf,
-) -> Result<Vec<u8>, Fail> {
-    written(rt, alloc, &["session", "--store", "a"], stream, shelf)?;
-    written(rt, alloc, &["export", "--store", "a"], b"", shelf)
+    let mut shelf = empty_shelf(rt.alloc());
+    is_filled_once(&rt, rt.alloc(), &mut shelf)
 }
 
 /// Fails unless a store named `b` that these lines fill is exported as the lines, and audited as the ordinary desk.
@@ -103,31 +95,47 @@ fn copy_is_audited<R: Wait + Sync + Threads>(
     check(same, "the copy has another summary")
 }
 
-/// Whether sessions over the stores named `a` and `b` answer the stream alike.
+/// Fails unless sessions over the stores named `a` and `b` answer the stream alike.
 fn are_served_alike<R: Wait + Sync + Threads>(
     rt: &R,
     alloc: Global,
     stream: &[u8],
     shelf: &mut MapShelf,
-) -> Result<bool, Fail> {
+) -> Result<(), Fail> {
     let first = written(rt, alloc, &["session", "--store", "a"], stream, shelf)?;
-    let second = written(rt, alloc, &["session", "--store", "b"], stream, shelf)?;
-    Ok(first == second)
+    let words = ["session", "--store", "b"];
+    let told = (0, first.as_slice());
+    let alike = is_told(rt, alloc, &words, stream, 1000, shelf, told)?;
+    check(alike, "the copy is served otherwise")
 }
 
-/// Fails unless a copy of an ordinary desk is exported, audited and served as the desk itself.
-fn is_copied<R: Wait + Sync + Threads>(rt: &R, alloc: Global) -> Result<(), Fail> {
-    let (stream, _) = stream_of(alloc, GATEWAY)?;
-    let mut shelf = empty_shelf(alloc);
-    let lines = lines_of(rt, alloc, stream.as_bytes(), &mut shelf)?;
-    copy_is_audited(rt, alloc, lines.as_slice(), &mut shelf)?;
-    let alike = are_served_alike(rt, alloc, stream.as_bytes(), &mut shelf)?;
-    check(alike, "the copy is served otherwise")
+/// Fails unless a copy of the store named `a` is exported and audited as the ordinary desk.
+fn is_copied<R: Wait + Sync + Threads>(
+    rt: &R,
+    alloc: Global,
+    shelf: &mut MapShelf,
+) -> Result<(), Fail> {
+    let lines = written(rt, alloc, &["export", "--store", "a"], b"", shelf)?;
+    copy_is_audited(rt, alloc, lines.as_slice(), shelf)
+}
+
+/// Fails unless a copy of an ordinary desk, which takes the stream, is exported, audited and served as the desk itself.
+fn answers_as_the_desk<R: Wait + Sync + Threads>(
+    rt: &R,
+    alloc: Global,
+    stream: &[u8],
+    shelf: &mut MapShelf,
+) -> Result<(), Fail> {
+    written(rt, alloc, &["session", "--store", "a"], stream, shelf)?;
+    is_copied(rt, alloc, shelf)?;
+    are_served_alike(rt, alloc, stream, shelf)
 }
 
 #[test]
 fn a_copy_of_a_desk_answers_as_the_desk(rt: HostRuntime) -> Result<(), Fail> {
-    is_copied(&rt, rt.alloc())
+    let (stream, _) = stream_of(rt.alloc(), GATEWAY)?;
+    let mut shelf = empty_shelf(rt.alloc());
+    answers_as_the_desk(&rt, rt.alloc(), stream.as_bytes(), &mut shelf)
 }
 
 /// The summary of the smallest sample.
@@ -177,9 +185,8 @@ fn are_told<R: Wait + Sync + Threads>(
 ) -> Result<(), Fail> {
     for (place, &(words, input, status, text)) in commands.iter().enumerate() {
         let (input, told) = (input.as_bytes(), (status, text.as_bytes()));
-        for piece in [1, 7, 100_000] {
-            let mut shelf = empty_shelf(alloc);
-            if !is_told(rt, alloc, words, input, piece, &mut shelf, told)? {
+        for piece in &[1, 7, 100_000] {
+            if !is_answered(rt, alloc, words, input, *piece, told)? {
                 return Err(Fail::new(format_args!("command {place} by {piece}")));
             }
         }
@@ -251,8 +258,7 @@ fn first_without_4<R: Wait + Sync + Threads>(
 
 #[test]
 fn a_store_that_fails_ends_each_command_with_status_4(rt: HostRuntime) -> Result<(), Fail> {
-    assert_eq!(rt; first_without_4(&rt, rt.alloc(), OVER_A_STORE)?, None);
-    Ok(())
+    expect_eq(&first_without_4(&rt, rt.alloc(), OVER_A_STORE)?, &None)
 }
 
 /// What each command over a store says of one that is damaged.
@@ -266,6 +272,17 @@ const OF_DAMAGE: &[(&[&str], u8, &str)] = &[
     (&["import", "--store", "desk"], 6, "refused not-empty\n"),
 ];
 
+/// Whether the command ends with the status and writes just this line over a damaged store.
+fn is_told_of_damage<R: Wait + Sync + Threads>(
+    rt: &R,
+    alloc: Global,
+    words: &[&str],
+    told: (u8, &[u8]),
+) -> Result<bool, Fail> {
+    let mut shelf = shelf_of(alloc, &[(6, "P", "1\t3")], &[])?;
+    is_told(rt, alloc, words, b"", 1, &mut shelf, told)
+}
+
 /// Fails at the first command that says something else of a damaged store.
 fn are_told_of_damage<R: Wait + Sync + Threads>(
     rt: &R,
@@ -273,9 +290,7 @@ fn are_told_of_damage<R: Wait + Sync + Threads>(
     commands: &[(&[&str], u8, &'static str)],
 ) -> Result<(), Fail> {
     for &(words, status, line) in commands {
-        let mut shelf = shelf_of(alloc, &[(6, "P", "1\t3")], &[])?;
-        let told = (status, line.as_bytes());
-        let is_right = is_told(rt, alloc, words, b"", 1, &mut shelf, told)?;
+        let is_right = is_told_of_damage(rt, alloc, words, (status, line.as_bytes()))?;
         check(is_right, line)?;
     }
     Ok(())
@@ -310,17 +325,16 @@ const CUT: &[(&[&str], u64, &str)] = &[
     (&["import", "--store", "desk"], 1, ""),
 ];
 
-/// The status of a command whose console fails at the call of this number, and what it writes.
-fn cut_at<R: Wait + Sync + Threads>(
+/// Whether a command whose console fails at the call of this number ends with status 3, and wrote just this.
+fn is_cut<R: Wait + Sync + Threads>(
     rt: &R,
     alloc: Global,
     words: &[&str],
     call: u64,
-) -> Result<(u8, Vec<u8>), Fail> {
-    let failing = Vec::from_array(alloc, [call])?;
-    let console = MemoryLink::new(alloc, Bytes::start(alloc), 1, ROOM, failing)?;
-    let mut shelf = empty_shelf(alloc);
-    outcome_over(rt, alloc, words, console, &mut shelf)
+    text: &str,
+) -> Result<bool, Fail> {
+    let (status, written) = outcome_with_faults(rt, alloc, words, b"", 1, &[call])?;
+    Ok(status == 3 && written.as_slice() == text.as_bytes())
 }
 
 /// The place of the first command that doesn't end with status 3, or wrote something else.
@@ -330,8 +344,7 @@ fn first_not_cut<R: Wait + Sync + Threads>(
     commands: &[(&[&str], u64, &str)],
 ) -> Result<Option<usize>, Fail> {
     for (place, &(words, call, text)) in commands.iter().enumerate() {
-        let (status, written) = cut_at(rt, alloc, words, call)?;
-        if status != 3 || written.as_slice() != text.as_bytes() {
+        if !is_cut(rt, alloc, words, call, text)? {
             return Ok(Some(place));
         }
     }
@@ -340,6 +353,5 @@ fn first_not_cut<R: Wait + Sync + Threads>(
 
 #[test]
 fn a_failing_console_ends_each_command_with_status_3(rt: HostRuntime) -> Result<(), Fail> {
-    assert_eq!(rt; first_not_cut(&rt, rt.alloc(), CUT)?, None);
-    Ok(())
+    expect_eq(&first_not_cut(&rt, rt.alloc(), CUT)?, &None)
 }

@@ -23,8 +23,8 @@ pub(crate) struct Turn {
     pub said: &'static str,
 }
 
-/// The request of a turn, as it stands in a stream.
-pub(crate) fn push_request(stream: &mut String, turn: &Turn) -> Result<(), Fail> {
+/// Appends the request of a turn, as it stands in a stream.
+fn push_request(stream: &mut String, turn: &Turn) -> Result<(), Fail> {
     let mut words = turn.ask.splitn(3, ' ');
     let method = words.next().unwrap_or("");
     let target = words.next().unwrap_or("");
@@ -37,14 +37,27 @@ pub(crate) fn push_request(stream: &mut String, turn: &Turn) -> Result<(), Fail>
     Ok(())
 }
 
-/// The reply of a turn, as it stands in what is written.
-pub(crate) fn push_reply(written: &mut String, turn: &Turn) -> Result<(), Fail> {
-    let (status, said) = (turn.status, turn.said);
+/// Appends a reply with these further lines in its head, as it stands in what is written.
+pub(crate) fn push_reply(
+    written: &mut String,
+    status: &str,
+    lines: &str,
+    said: &str,
+) -> Result<(), Fail> {
     let length = said.len();
     write!(
         written,
-        "HTTP/1.1 {status}\r\nContent-Type: text/plain; charset=utf-8\r\nContent-Length: {length}\r\n\r\n{said}"
+        "HTTP/1.1 {status}\r\nContent-Type: text/plain; charset=utf-8\r\nContent-Length: {length}\r\n{lines}\r\n{said}"
     )?;
+    Ok(())
+}
+
+/// Appends the requests of these turns, and their replies.
+fn push_turns(stream: &mut String, replies: &mut String, turns: &[Turn]) -> Result<(), Fail> {
+    for turn in turns {
+        push_request(stream, turn)?;
+        push_reply(replies, turn.status, "", turn.said)?;
+    }
     Ok(())
 }
 
@@ -52,21 +65,27 @@ pub(crate) fn push_reply(written: &mut String, turn: &Turn) -> Result<(), Fail> 
 pub(crate) fn stream_of(alloc: Global, turns: &[Turn]) -> Result<(String, String), Fail> {
     let mut stream = String::new(alloc);
     let mut replies = String::new(alloc);
-    for turn in turns {
-        push_request(&mut stream, turn)?;
-        push_reply(&mut replies, turn)?;
-    }
+    push_turns(&mut stream, &mut replies, turns)?;
     Ok((stream, replies))
-}
-
-/// A failure that says what is wrong, unless it holds.
-pub(crate) fn check(holds: bool, what: &'static str) -> Result<(), Fail> {
-    if holds { Ok(()) } else { Err(Fail::new(what)) }
 }
 
 /// A shelf without a store, which opens each that is asked for.
 pub(crate) fn empty_shelf(alloc: Global) -> MapShelf {
     MapShelf::new(alloc, Vec::new(alloc), Vec::new(alloc))
+}
+
+/// A console that gives this input by pieces of this length, or of one byte for 0, has room for so many bytes, and fails at the calls
+/// of these numbers.
+pub(crate) fn console_of(
+    alloc: Global,
+    input: &[u8],
+    piece: usize,
+    room: usize,
+    failing: &[u64],
+) -> Result<MemoryLink, Fail> {
+    let failing = failing.to_vec(alloc)?;
+    let input = Bytes::from(input.to_vec(alloc)?);
+    Ok(MemoryLink::new(alloc, input, piece.max(1), room, failing)?)
 }
 
 /// The status of a command, and what it writes, where the input comes by pieces of this length, or of one byte for 0.
@@ -78,9 +97,22 @@ pub(crate) fn outcome<R: Wait + Sync + Threads>(
     piece: usize,
     shelf: &mut MapShelf,
 ) -> Result<(u8, Vec<u8>), Fail> {
-    let input = Bytes::from(stream.to_vec(alloc)?);
-    let console = MemoryLink::new(alloc, input, piece.max(1), ROOM, Vec::new(alloc))?;
+    let console = console_of(alloc, stream, piece, ROOM, &[])?;
     outcome_over(rt, alloc, words, console, shelf)
+}
+
+/// The same over a shelf without a store, where the console fails at the calls of these numbers.
+pub(crate) fn outcome_with_faults<R: Wait + Sync + Threads>(
+    rt: &R,
+    alloc: Global,
+    words: &[&str],
+    stream: &[u8],
+    piece: usize,
+    failing: &[u64],
+) -> Result<(u8, Vec<u8>), Fail> {
+    let console = console_of(alloc, stream, piece, ROOM, failing)?;
+    let mut shelf = empty_shelf(alloc);
+    outcome_over(rt, alloc, words, console, &mut shelf)
 }
 
 /// Whether the command ends with the status and writes just this text, where the input comes by pieces of this length.
@@ -97,6 +129,19 @@ pub(crate) fn is_told<R: Wait + Sync + Threads>(
     Ok(status == told.0 && written.as_slice() == told.1)
 }
 
+/// The same over a shelf without a store.
+pub(crate) fn is_answered<R: Wait + Sync + Threads>(
+    rt: &R,
+    alloc: Global,
+    words: &[&str],
+    stream: &[u8],
+    piece: usize,
+    told: (u8, &[u8]),
+) -> Result<bool, Fail> {
+    let mut shelf = empty_shelf(alloc);
+    is_told(rt, alloc, words, stream, piece, &mut shelf, told)
+}
+
 /// The status of a command. It has no clause, and is written for any console and shelf, so that the proof of a test doesn't
 /// carry what a command does.
 pub(crate) fn exit_status_of<R: Wait + Sync + Threads, L: Link, S: Shelf>(
@@ -109,6 +154,15 @@ pub(crate) fn exit_status_of<R: Wait + Sync + Threads, L: Link, S: Shelf>(
     run(rt, alloc, words, console, shelf)
 }
 
+/// The words of a command line.
+fn words_of(alloc: Global, words: &[&str]) -> Result<Vec<String>, Fail> {
+    let mut list = Vec::new(alloc);
+    for word in words {
+        list.push(word.to_string(alloc)?)?;
+    }
+    Ok(list)
+}
+
 /// The status of a command over this console, and what it writes.
 pub(crate) fn outcome_over<R: Wait + Sync + Threads>(
     rt: &R,
@@ -117,10 +171,7 @@ pub(crate) fn outcome_over<R: Wait + Sync + Threads>(
     mut console: MemoryLink,
     shelf: &mut MapShelf,
 ) -> Result<(u8, Vec<u8>), Fail> {
-    let mut list = Vec::new(alloc);
-    for word in words {
-        list.push(word.to_string(alloc)?)?;
-    }
+    let list = words_of(alloc, words)?;
     let status = exit_status_of(rt, alloc, &list, &mut console, shelf);
     Ok((status, console.written().to_vec(alloc)?))
 }
@@ -134,23 +185,29 @@ fn common_length(first: &[u8], second: &[u8]) -> usize {
         .count()
 }
 
-/// Fails unless a session without a store ends with status 0 and writes just these replies, and says up to which byte they were.
+/// Fails unless a session ended with status 0 and wrote just these replies, and says up to which byte they were.
+fn are_replies(piece: usize, status: u8, written: &[u8], replies: &[u8]) -> Result<(), Fail> {
+    if status == 0 && written == replies {
+        return Ok(());
+    }
+    let right = common_length(written, replies);
+    Err(Fail::new(format_args!(
+        "by {piece}: status {status}, and the replies are right up to byte {right}"
+    )))
+}
+
+/// Fails unless a session without a store gives just these replies to the stream, however it is cut.
 fn is_replied<R: Wait + Sync + Threads>(
     rt: &R,
     alloc: Global,
     stream: &[u8],
-    piece: usize,
     replies: &[u8],
 ) -> Result<(), Fail> {
-    let mut shelf = empty_shelf(alloc);
-    let (status, written) = outcome(rt, alloc, &["session"], stream, piece, &mut shelf)?;
-    if status == 0 && written.as_slice() == replies {
-        return Ok(());
+    for piece in &[1, 7, 100_000] {
+        let (status, written) = outcome_with_faults(rt, alloc, &["session"], stream, *piece, &[])?;
+        are_replies(*piece, status, written.as_slice(), replies)?;
     }
-    let right = common_length(written.as_slice(), replies);
-    Err(Fail::new(format_args!(
-        "by {piece}: status {status}, and the replies are right up to byte {right}"
-    )))
+    Ok(())
 }
 
 /// Fails unless each request of a session without a store gets its reply, however the stream is cut.
@@ -160,8 +217,5 @@ pub(crate) fn answers_each<R: Wait + Sync + Threads>(
     turns: &[Turn],
 ) -> Result<(), Fail> {
     let (stream, replies) = stream_of(alloc, turns)?;
-    for piece in [1, 7, 100_000] {
-        is_replied(rt, alloc, stream.as_bytes(), piece, replies.as_bytes())?;
-    }
-    Ok(())
+    is_replied(rt, alloc, stream.as_bytes(), replies.as_bytes())
 }

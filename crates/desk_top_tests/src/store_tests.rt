@@ -1,8 +1,8 @@
 //! Sessions over a store: what is kept, and what a store that fails or is damaged ends with.
 
-use crate::session_steps::{Turn, check, is_told, stream_of};
+use crate::session_steps::{Turn, is_told, stream_of};
 use desk_edge::{Change, Keeper, MapKeeper, MapShelf, Record};
-use desk_text::Bytes;
+use desk_testing::{bytes, check};
 use std::alloc::Global;
 use std::sync::Wait;
 use std::test::Fail;
@@ -61,35 +61,42 @@ fn is_served<R: Wait + Sync + Threads>(
     check(is_right, what)
 }
 
-/// Puts records, as kinds, codes and bodies, into the keeper.
-fn put_all(
-    alloc: Global,
-    keeper: &mut MapKeeper,
-    records: &[(u8, &str, &str)],
-) -> Result<(), Fail> {
+/// A kind, a code and a body of a record.
+type Row = (u8, &'static str, &'static str);
+
+/// The change that puts this record.
+fn put(alloc: Global, row: &Row) -> Result<Change, Fail> {
+    let (kind, code, body) = *row;
+    let code = bytes(alloc, code)?;
+    let body = bytes(alloc, body)?;
+    Ok(Change::Put(Record { kind, code, body }))
+}
+
+/// Puts records into the keeper, or calls it not at all where there are none.
+fn put_all<K: Keeper>(alloc: Global, keeper: &mut K, rows: &[Row]) -> Result<(), Fail> {
+    if rows.is_empty() {
+        return Ok(());
+    }
     let mut batch = Vec::new(alloc);
-    for (kind, code, body) in records {
-        let code = Bytes::from(code.as_bytes().to_vec(alloc)?);
-        let body = Bytes::from(body.as_bytes().to_vec(alloc)?);
-        let kind = *kind;
-        batch.push(Change::Put(Record { kind, code, body }))?;
+    for row in rows {
+        batch.push(put(alloc, row)?)?;
     }
     keeper.commit(alloc, batch.as_slice())?;
     Ok(())
 }
 
-/// A shelf with one store, of these records as kinds, codes and bodies, whose calls of these numbers fail.
-pub(crate) fn shelf_of(
-    alloc: Global,
-    records: &[(u8, &str, &str)],
-    failing: &[u64],
-) -> Result<MapShelf, Fail> {
+/// A keeper of these records, whose calls of these numbers fail.
+fn keeper_of(alloc: Global, rows: &[Row], failing: &[u64]) -> Result<MapKeeper, Fail> {
     let mut keeper = MapKeeper::new(Vec::new(alloc), failing.to_vec(alloc)?);
-    if !records.is_empty() {
-        put_all(alloc, &mut keeper, records)?;
-    }
-    let mut stores = Vec::new(alloc);
-    stores.push((Bytes::from("desk".as_bytes().to_vec(alloc)?), keeper))?;
+    put_all(alloc, &mut keeper, rows)?;
+    Ok(keeper)
+}
+
+/// A shelf with one store, of these records, whose calls of these numbers fail.
+pub(crate) fn shelf_of(alloc: Global, rows: &[Row], failing: &[u64]) -> Result<MapShelf, Fail> {
+    let name = bytes(alloc, "desk")?;
+    let keeper = keeper_of(alloc, rows, failing)?;
+    let stores = Vec::from_array(alloc, [(name, keeper)])?;
     Ok(MapShelf::new(alloc, stores, Vec::new(alloc)))
 }
 
@@ -109,22 +116,14 @@ fn a_session_goes_on_with_the_desk_of_its_store(rt: HostRuntime) -> Result<(), F
 fn is_refused<R: Wait + Sync + Threads>(
     rt: &R,
     alloc: Global,
-    mut shelf: MapShelf,
+    shelf: &mut MapShelf,
     status: u8,
     line: &str,
     what: &'static str,
 ) -> Result<(), Fail> {
     let (stream, _) = stream_of(alloc, FIRST)?;
     let told = (status, line.as_bytes());
-    let is_right = is_told(
-        rt,
-        alloc,
-        &WORDS,
-        stream.as_bytes(),
-        100_000,
-        &mut shelf,
-        told,
-    )?;
+    let is_right = is_told(rt, alloc, &WORDS, stream.as_bytes(), 100_000, shelf, told)?;
     check(is_right, what)
 }
 
@@ -135,14 +134,21 @@ fn fails_at<R: Wait + Sync + Threads>(
     call: u64,
     what: &'static str,
 ) -> Result<(), Fail> {
-    let shelf = shelf_of(alloc, &[], &[call])?;
-    is_refused(rt, alloc, shelf, 4, "desk: store\n", what)
+    let mut shelf = shelf_of(alloc, &[], &[call])?;
+    is_refused(rt, alloc, &mut shelf, 4, "desk: store\n", what)
 }
 
 /// Fails unless a session ends with status 4 where the shelf refuses its store.
 fn fails_without_a_store<R: Wait + Sync + Threads>(rt: &R, alloc: Global) -> Result<(), Fail> {
-    let shelf = MapShelf::new(alloc, Vec::new(alloc), Vec::from_array(alloc, [1])?);
-    is_refused(rt, alloc, shelf, 4, "desk: store\n", "the store is refused")
+    let mut shelf = MapShelf::new(alloc, Vec::new(alloc), Vec::from_array(alloc, [1])?);
+    is_refused(
+        rt,
+        alloc,
+        &mut shelf,
+        4,
+        "desk: store\n",
+        "the store is refused",
+    )
 }
 
 #[test]
@@ -153,7 +159,7 @@ fn a_store_that_cannot_be_opened_ends_with_status_4(rt: HostRuntime) -> Result<(
 }
 
 /// One record of a store that is damaged, and the line that tells it.
-const DAMAGED: &[((u8, &str, &str), &str)] = &[
+const DAMAGED: &[(Row, &str)] = &[
     ((11, "X", "1"), "desk: damaged 11 X\n"),
     ((4, "P", "01\tassembly\tPump"), "desk: damaged 4 P\n"),
     ((6, "P", "1\t3"), "desk: damaged 6 P\n"),
@@ -163,11 +169,11 @@ const DAMAGED: &[((u8, &str, &str), &str)] = &[
 fn are_told_damaged<R: Wait + Sync + Threads>(
     rt: &R,
     alloc: Global,
-    rows: &[((u8, &str, &str), &'static str)],
+    rows: &[(Row, &'static str)],
 ) -> Result<(), Fail> {
     for &(record, line) in rows {
-        let shelf = shelf_of(alloc, &[record], &[])?;
-        is_refused(rt, alloc, shelf, 5, line, line)?;
+        let mut shelf = shelf_of(alloc, &[record], &[])?;
+        is_refused(rt, alloc, &mut shelf, 5, line, line)?;
     }
     Ok(())
 }

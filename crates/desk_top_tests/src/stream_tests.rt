@@ -1,38 +1,15 @@
 //! Sessions over streams that no good client sends, and over a console that fails.
 
-use crate::session_steps::{check, empty_shelf, exit_status_of, is_told, outcome, stream_of};
+use crate::session_steps::{is_answered, outcome_with_faults, push_reply, stream_of};
 use crate::session_tests::GATEWAY;
-use desk_edge::MemoryLink;
-use desk_text::Bytes;
+use desk_testing::{check, expect_eq};
 use std::alloc::Global;
 use std::fmt::Write;
 use std::sync::Wait;
 use std::test::Fail;
 use std::thread::Threads;
 
-/// A reply with these further lines in its head.
-fn push_reply(written: &mut String, status: &str, lines: &str, said: &str) -> Result<(), Fail> {
-    let length = said.len();
-    write!(
-        written,
-        "HTTP/1.1 {status}\r\nContent-Type: text/plain; charset=utf-8\r\nContent-Length: {length}\r\n{lines}\r\n{said}"
-    )?;
-    Ok(())
-}
-
-/// Whether a session over these bytes, by pieces of this length, ends with the status and writes just this.
-fn ends_so<R: Wait + Sync + Threads>(
-    rt: &R,
-    alloc: Global,
-    stream: &[u8],
-    piece: usize,
-    ended: u8,
-    replies: &str,
-) -> Result<bool, Fail> {
-    let mut shelf = empty_shelf(alloc);
-    let told = (ended, replies.as_bytes());
-    is_told(rt, alloc, &["session"], stream, piece, &mut shelf, told)
-}
+const SESSION: &[&str] = &["session"];
 
 /// A stream, and of the one reply to it the status, further lines and the body.
 type Row = (&'static [u8], &'static str, &'static str, &'static str);
@@ -130,9 +107,10 @@ fn is_refused<R: Wait + Sync + Threads>(rt: &R, alloc: Global, row: &Row) -> Res
     let (stream, status, lines, said) = *row;
     let mut reply = String::new(alloc);
     push_reply(&mut reply, status, lines, said)?;
+    let told = (0, reply.as_bytes());
     Ok(
-        ends_so(rt, alloc, stream, 1, 0, reply.as_str())?
-            && ends_so(rt, alloc, stream, 100_000, 0, reply.as_str())?,
+        is_answered(rt, alloc, SESSION, stream, 1, told)?
+            && is_answered(rt, alloc, SESSION, stream, 100_000, told)?,
     )
 }
 
@@ -152,22 +130,43 @@ fn first_unrefused<R: Wait + Sync + Threads>(
 
 #[test]
 fn a_hostile_request_gets_its_refusal(rt: HostRuntime) -> Result<(), Fail> {
-    assert_eq!(rt; first_unrefused(&rt, rt.alloc(), ROWS)?, None);
+    expect_eq(&first_unrefused(&rt, rt.alloc(), ROWS)?, &None)
+}
+
+/// Appends the text so many times.
+fn push_times(stream: &mut String, text: &str, count: usize) -> Result<(), Fail> {
+    for _ in 0..count {
+        stream.push_str(text)?;
+    }
     Ok(())
 }
 
-/// The head of a request with a body of so many bytes, and so many times this byte behind it.
-fn posted(alloc: Global, path: &str, length: usize, byte: u8, count: usize) -> Result<Bytes, Fail> {
-    let mut head = String::new(alloc);
+/// Appends the head of a request with a body of so many bytes, and each of these texts so many times.
+fn push_posted(
+    stream: &mut String,
+    path: &str,
+    length: usize,
+    body: &[(&str, usize)],
+) -> Result<(), Fail> {
     write!(
-        &mut head,
+        stream,
         "POST {path} HTTP/1.1\r\nContent-Length: {length}\r\n\r\n"
     )?;
-    let mut stream = Bytes::start(alloc);
-    stream.push_all(head.as_bytes())?;
-    for _ in 0..count {
-        stream.push_all(&[byte])?;
+    for (text, count) in body {
+        push_times(stream, text, *count)?;
     }
+    Ok(())
+}
+
+/// The head of a request with a body of so many bytes, and each of these texts so many times behind it.
+fn posted(
+    alloc: Global,
+    path: &str,
+    length: usize,
+    body: &[(&str, usize)],
+) -> Result<String, Fail> {
+    let mut stream = String::new(alloc);
+    push_posted(&mut stream, path, length, body)?;
     Ok(stream)
 }
 
@@ -180,131 +179,116 @@ fn is_bad<R: Wait + Sync + Threads>(
 ) -> Result<(), Fail> {
     let mut reply = String::new(alloc);
     push_reply(&mut reply, "400 Bad Request", "", said)?;
-    let is_right = ends_so(rt, alloc, stream, 100_000, 0, reply.as_str())?;
+    let told = (0, reply.as_bytes());
+    let is_right = is_answered(rt, alloc, SESSION, stream, 100_000, told)?;
     check(is_right, said)
 }
 
 /// Fails unless a body that lacks its last byte is cut.
 fn is_cut<R: Wait + Sync + Threads>(rt: &R, alloc: Global) -> Result<(), Fail> {
-    let cut = posted(alloc, "/edit", 65_536, b'[', 65_535)?;
-    let is_right = ends_so(rt, alloc, cut.as_slice(), 100_000, 6, "")?;
+    let cut = posted(alloc, "/edit", 65_536, &[("[", 65_535)])?;
+    let is_right = is_answered(rt, alloc, SESSION, cut.as_bytes(), 100_000, (6, b""))?;
     check(is_right, "a body that lacks its last byte")
 }
 
 #[test]
 fn the_longest_body_is_read_to_its_last_byte(rt: HostRuntime) -> Result<(), Fail> {
     is_cut(&rt, rt.alloc())?;
-    let commas = posted(rt.alloc(), "/declare", 65_536, b',', 65_536)?;
+    let commas = posted(rt.alloc(), "/declare", 65_536, &[(",", 65_536)])?;
     is_bad(
         &rt,
         rt.alloc(),
-        commas.as_slice(),
+        commas.as_bytes(),
         "bad-declaration no-head\n",
     )
 }
 
-/// A request with a list in a list, two hundred deep.
-fn deep(alloc: Global) -> Result<Bytes, Fail> {
-    let mut deep = posted(alloc, "/edit", 400, b'[', 200)?;
-    for _ in 0..200 {
-        deep.push_all(b"]")?;
-    }
-    Ok(deep)
-}
-
 #[test]
 fn a_deep_value_is_no_edit(rt: HostRuntime) -> Result<(), Fail> {
-    let deep = deep(rt.alloc())?;
-    is_bad(&rt, rt.alloc(), deep.as_slice(), "bad-edit not-json\n")
+    // A list in a list, two hundred deep.
+    let deep = posted(rt.alloc(), "/edit", 400, &[("[", 200), ("]", 200)])?;
+    is_bad(&rt, rt.alloc(), deep.as_bytes(), "bad-edit not-json\n")
 }
 
-/// A thousand requests for the version, and their replies.
-fn thousand(alloc: Global) -> Result<(Bytes, String), Fail> {
-    let mut stream = Bytes::start(alloc);
-    let mut replies = String::new(alloc);
-    for _ in 0..1_000 {
-        stream.push_all(b"GET /version HTTP/1.1\r\n\r\n")?;
-        push_reply(&mut replies, "200 OK", "", "version 0\n")?;
+/// Appends so many requests for the version, and their replies.
+fn push_versions(stream: &mut String, replies: &mut String, count: u16) -> Result<(), Fail> {
+    for _ in 0..count {
+        stream.push_str("GET /version HTTP/1.1\r\n\r\n")?;
+        push_reply(replies, "200 OK", "", "version 0\n")?;
     }
+    Ok(())
+}
+
+/// So many requests for the version, and their replies.
+fn versions(alloc: Global, count: u16) -> Result<(String, String), Fail> {
+    let mut stream = String::new(alloc);
+    let mut replies = String::new(alloc);
+    push_versions(&mut stream, &mut replies, count)?;
     Ok((stream, replies))
 }
 
-/// Whether a thousand requests at once get a thousand replies.
-fn are_thousand<R: Wait + Sync + Threads>(rt: &R, alloc: Global) -> Result<bool, Fail> {
-    let (stream, replies) = thousand(alloc)?;
-    ends_so(rt, alloc, stream.as_slice(), 100_000, 0, replies.as_str())
+/// Fails unless a thousand requests at once get a thousand replies.
+fn are_thousand<R: Wait + Sync + Threads>(rt: &R, alloc: Global) -> Result<(), Fail> {
+    let (stream, replies) = versions(alloc, 1_000)?;
+    let told = (0, replies.as_bytes());
+    let are_all = is_answered(rt, alloc, SESSION, stream.as_bytes(), 100_000, told)?;
+    check(are_all, "other replies")
 }
 
 #[test]
 fn a_thousand_requests_at_once_get_a_thousand_replies(rt: HostRuntime) -> Result<(), Fail> {
-    let are_all = are_thousand(&rt, rt.alloc())?;
-    check(are_all, "other replies")
+    are_thousand(&rt, rt.alloc())
 }
 
-/// What a session writes for the edits and the questions of an ordinary desk, four times over, by pieces of this length.
-fn hundred_mixed<R: Wait + Sync + Threads>(
+/// Fails unless the replies to these requests begin with the given ones, and are the same however the stream is cut.
+fn are_mixed_alike<R: Wait + Sync + Threads>(
     rt: &R,
     alloc: Global,
-    piece: usize,
-) -> Result<(u8, Vec<u8>), Fail> {
-    let (requests, _) = stream_of(alloc, GATEWAY)?;
-    let mut stream = String::new(alloc);
-    for _ in 0..4 {
-        stream.push_str(requests.as_str())?;
-    }
-    let mut shelf = empty_shelf(alloc);
-    outcome(
-        rt,
-        alloc,
-        &["session"],
-        stream.as_bytes(),
-        piece,
-        &mut shelf,
-    )
+    stream: &[u8],
+    replies: &[u8],
+) -> Result<(), Fail> {
+    let (status, by_bytes) = outcome_with_faults(rt, alloc, SESSION, stream, 1, &[])?;
+    let begins = by_bytes.starts_with(replies);
+    check(status == 0 && begins, "another beginning")?;
+    let told = (0, by_bytes.as_slice());
+    let are_alike = is_answered(rt, alloc, SESSION, stream, 100_000, told)?;
+    check(are_alike, "other replies where they are cut")
 }
 
-/// Fails unless the replies to a hundred mixed requests begin with those of an ordinary desk, and are the same however they are cut.
-fn are_mixed_alike<R: Wait + Sync + Threads>(rt: &R, alloc: Global) -> Result<(), Fail> {
-    let (_, replies) = stream_of(alloc, GATEWAY)?;
-    let by_bytes = hundred_mixed(rt, alloc, 1)?;
-    let begins = by_bytes.1.starts_with(replies.as_bytes());
-    check(by_bytes.0 == 0 && begins, "another beginning")?;
-    let at_once = hundred_mixed(rt, alloc, 100_000)?;
-    check(at_once == by_bytes, "other replies where they are cut")
+/// The edits and the questions of an ordinary desk, four times over, and the replies to them the first time.
+fn hundred_mixed(alloc: Global) -> Result<(String, String), Fail> {
+    let (requests, replies) = stream_of(alloc, GATEWAY)?;
+    let mut stream = String::new(alloc);
+    push_times(&mut stream, requests.as_str(), 4)?;
+    Ok((stream, replies))
 }
 
 #[test]
 fn a_hundred_mixed_requests_are_answered_alike_however_they_are_cut(
     rt: HostRuntime,
 ) -> Result<(), Fail> {
-    are_mixed_alike(&rt, rt.alloc())
+    let (stream, replies) = hundred_mixed(rt.alloc())?;
+    are_mixed_alike(&rt, rt.alloc(), stream.as_bytes(), replies.as_bytes())
 }
 
-/// Two requests for the version, and their replies.
-fn two_versions(alloc: Global) -> Result<(Bytes, String), Fail> {
-    let mut stream = Bytes::start(alloc);
-    let mut replies = String::new(alloc);
-    for _ in 0..2 {
-        stream.push_all(b"GET /version HTTP/1.1\r\n\r\n")?;
-        push_reply(&mut replies, "200 OK", "", "version 0\n")?;
-    }
-    Ok((stream, replies))
-}
-
-/// The status of a session whose console fails at a call, and whether what was written is a beginning of the replies.
-fn failing_at<R: Wait + Sync + Threads>(
+/// Whether a session for two versions ends with this status where its console fails at a call, and wrote a beginning of the replies.
+fn is_unheard<R: Wait + Sync + Threads>(
     rt: &R,
     alloc: Global,
     piece: usize,
     call: u64,
-) -> Result<(u8, bool), Fail> {
-    let (stream, replies) = two_versions(alloc)?;
-    let failing = Vec::from_array(alloc, [call])?;
-    let mut console = MemoryLink::new(alloc, stream, piece.max(1), 100_000, failing)?;
-    let words = Vec::from_array(alloc, ["session".to_string(alloc)?])?;
-    let mut shelf = empty_shelf(alloc);
-    let status = exit_status_of(rt, alloc, &words, &mut console, &mut shelf);
-    Ok((status, replies.as_bytes().starts_with(console.written())))
+    ended: u8,
+) -> Result<bool, Fail> {
+    let (stream, replies) = versions(alloc, 2)?;
+    let (status, written) = outcome_with_faults(
+        rt,
+        alloc,
+        SESSION,
+        stream.as_bytes(),
+        piece,
+        &[call],
+    )?;
+    Ok(status == ended && replies.as_bytes().starts_with(written.as_slice()))
 }
 
 /// The first call up to one past so many whose failure ends a session otherwise: with status 3 and a beginning of the replies, and
@@ -317,7 +301,7 @@ fn first_unheard<R: Wait + Sync + Threads>(
 ) -> Result<Option<u64>, Fail> {
     for call in 1..=calls.saturating_add(1) {
         let status = if call <= calls { 3 } else { 0 };
-        if failing_at(rt, alloc, piece, call)? != (status, true) {
+        if !is_unheard(rt, alloc, piece, call, status)? {
             return Ok(Some(call));
         }
     }
@@ -329,6 +313,5 @@ fn a_failing_call_of_the_console_ends_with_status_3(rt: HostRuntime) -> Result<(
     // One read, one write, and the read that finds the end; by single bytes, 50 reads and two writes before it.
     let at_once = first_unheard(&rt, rt.alloc(), 100_000, 3)?;
     let by_bytes = first_unheard(&rt, rt.alloc(), 1, 53)?;
-    assert_eq!(rt; (at_once, by_bytes), (None, None));
-    Ok(())
+    expect_eq(&(at_once, by_bytes), &(None, None))
 }

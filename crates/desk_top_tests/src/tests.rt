@@ -1,43 +1,15 @@
-use crate::session_steps::{check, outcome_over};
-use desk_edge::{Link, MapShelf, MemoryLink, Shelf};
-use desk_text::Bytes;
+use crate::session_steps::{
+    console_of, empty_shelf, is_answered, outcome_over, outcome_with_faults,
+};
+use desk_edge::{Link, Shelf};
+use desk_testing::{check, expect_eq};
 use desk_top::{WordsFault, launch, words};
 use std::alloc::Global;
 use std::env::{Env, FillError};
+use std::fmt::Write;
 use std::sync::Wait;
 use std::test::Fail;
 use std::thread::Threads;
-
-// More bytes than any answer of a test has.
-const ROOM: usize = 1_000_000;
-
-/// The status for these words and this input, and what was written, where the input comes by pieces of this length.
-fn outcome<R: Wait + Sync + Threads>(
-    rt: &R,
-    alloc: Global,
-    words: &[&str],
-    input: &[u8],
-    piece: usize,
-    failing: &[u64],
-) -> Result<(u8, Vec<u8>), Fail> {
-    let input = Bytes::from(input.to_vec(alloc)?);
-    let console = MemoryLink::new(alloc, input, piece.max(1), ROOM, failing.to_vec(alloc)?)?;
-    let mut shelf = MapShelf::new(alloc, Vec::new(alloc), Vec::new(alloc));
-    outcome_over(rt, alloc, words, console, &mut shelf)
-}
-
-/// Whether the words and this input are answered by this status and just this text.
-fn is_answered<R: Wait + Sync + Threads>(
-    rt: &R,
-    alloc: Global,
-    words: &[&str],
-    input: &[u8],
-    piece: usize,
-    answer: (u8, &str),
-) -> Result<bool, Fail> {
-    let (status, text) = outcome(rt, alloc, words, input, piece, &[])?;
-    Ok(status == answer.0 && text.as_slice() == answer.1.as_bytes())
-}
 
 /// Words, their input, and the status and the text that it is answered by.
 type Case = (&'static [&'static str], &'static [u8], u8, &'static str);
@@ -49,8 +21,8 @@ fn are_answered<R: Wait + Sync + Threads>(
     cases: &[Case],
 ) -> Result<(), Fail> {
     for (place, &(words, input, status, text)) in cases.iter().enumerate() {
-        for piece in [1, 7, 64, 100_000] {
-            if !is_answered(rt, alloc, words, input, piece, (status, text))? {
+        for piece in &[1, 7, 64, 100_000] {
+            if !is_answered(rt, alloc, words, input, *piece, (status, text.as_bytes()))? {
                 return Err(Fail::new(format_args!("case {place} by {piece}")));
             }
         }
@@ -186,16 +158,17 @@ fn check_tells_the_rule_that_refuses_a_declaration(rt: HostRuntime) -> Result<()
     are_answered(&rt, rt.alloc(), REFUSED)
 }
 
-/// Fails at the first length at which the head with line ends behind it isn't answered so.
+/// Fails at the first length at which the input with line ends behind it isn't answered so.
 fn are_padded<R: Wait + Sync + Threads>(
     rt: &R,
     alloc: Global,
+    input: &mut Vec<u8>,
     rows: &[(usize, u8, &str)],
 ) -> Result<(), Fail> {
-    let mut input = HEAD.to_vec(alloc)?;
     for &(length, status, line) in rows {
         input.resize(length, b'\n')?;
-        if !is_answered(rt, alloc, CHECK, input.as_slice(), 100_000, (status, line))? {
+        let told = (status, line.as_bytes());
+        if !is_answered(rt, alloc, CHECK, input.as_slice(), 100_000, told)? {
             return Err(Fail::new(format_args!("of {length} bytes")));
         }
     }
@@ -204,9 +177,11 @@ fn are_padded<R: Wait + Sync + Threads>(
 
 #[test]
 fn check_reads_65536_bytes_and_no_more(rt: HostRuntime) -> Result<(), Fail> {
+    let mut input = HEAD.to_vec(rt.alloc())?;
     are_padded(
         &rt,
         rt.alloc(),
+        &mut input,
         &[
             (65_536, 0, ANSWER),
             (65_537, 6, TOO_LONG),
@@ -222,8 +197,8 @@ fn is_no_command<R: Wait + Sync + Threads>(
     alloc: Global,
     words: &[&str],
 ) -> Result<bool, Fail> {
-    let is_told = is_answered(rt, alloc, words, HEAD, 64, (2, "desk: words\n"))?;
-    let (unheard, nothing) = outcome(rt, alloc, words, HEAD, 64, &[1])?;
+    let is_told = is_answered(rt, alloc, words, HEAD, 64, (2, b"desk: words\n"))?;
+    let (unheard, nothing) = outcome_with_faults(rt, alloc, words, HEAD, 64, &[1])?;
     Ok(is_told && unheard == 2 && nothing.is_empty())
 }
 
@@ -280,7 +255,7 @@ fn ends_well_at<R: Wait + Sync + Threads>(
     call: u64,
 ) -> Result<bool, Fail> {
     let (input, piece, reads, meant, text) = *row;
-    let (status, written) = outcome(rt, alloc, CHECK, input, piece, &[call])?;
+    let (status, written) = outcome_with_faults(rt, alloc, CHECK, input, piece, &[call])?;
     let is_read = call <= reads;
     let is_heard = !is_read && call - reads > 1;
     let is_fault = is_read || (meant == 0 && !is_heard);
@@ -326,9 +301,8 @@ fn is_cut_short<R: Wait + Sync + Threads>(
     case: &Case,
 ) -> Result<bool, Fail> {
     let (words, input, status, written) = *case;
-    let input = Bytes::from(input.to_vec(alloc)?);
-    let console = MemoryLink::new(alloc, input, 64, 4, Vec::new(alloc))?;
-    let mut shelf = MapShelf::new(alloc, Vec::new(alloc), Vec::new(alloc));
+    let console = console_of(alloc, input, 64, 4, &[])?;
+    let mut shelf = empty_shelf(alloc);
     let (ended, text) = outcome_over(rt, alloc, words, console, &mut shelf)?;
     Ok(ended == status && text.as_slice() == written.as_bytes())
 }
@@ -388,13 +362,21 @@ impl Env for ThreeWords {
     }
 }
 
-/// The words of an environment whose last word has this byte, or that they are no text.
-fn words_read(alloc: Global, last: u8) -> Result<String, Fail> {
-    match words(&(ThreeWords { last }, alloc)) {
-        Ok(read) => Ok(format!(in alloc; "{read:?}")?),
-        Err(WordsFault::NotText) => Ok("no text".to_string(alloc)?),
-        Err(WordsFault::OutOfMemory) => Err(Fail::new("no memory for the words")),
+/// Fails unless the words of an environment are read where they are text.
+fn are_read(alloc: Global) -> Result<(), Fail> {
+    let read = words(&(ThreeWords { last: b'x' }, alloc))
+        .ok()
+        .ok_or("the words of a text")?;
+    match read.as_slice() {
+        [first, second] => expect_eq(&(first.as_str(), second.as_str()), &("w", "x")),
+        _ => Err(Fail::new("more or fewer words of a text")),
     }
+}
+
+/// Fails unless the words of an environment aren't read where one is no text.
+fn are_unread(alloc: Global) -> Result<(), Fail> {
+    let fault = words(&(ThreeWords { last: 0xff }, alloc)).err();
+    expect_eq(&fault, &Some(WordsFault::NotText))
 }
 
 /// The status of the program. It has no clause, as `exit_status_of` has none.
@@ -416,8 +398,8 @@ fn is_launched<R: Wait + Sync + Threads>(
     status: u8,
     line: &'static str,
 ) -> Result<(), Fail> {
-    let mut console = MemoryLink::new(alloc, Bytes::start(alloc), 1, 64, Vec::new(alloc))?;
-    let mut shelf = MapShelf::new(alloc, Vec::new(alloc), Vec::new(alloc));
+    let mut console = console_of(alloc, b"", 1, 64, &[])?;
+    let mut shelf = empty_shelf(alloc);
     let ended = launched(rt, alloc, words, &mut console, &mut shelf);
     check(
         ended == status && console.written() == line.as_bytes(),
@@ -425,18 +407,11 @@ fn is_launched<R: Wait + Sync + Threads>(
     )
 }
 
-/// Fails unless the words of an environment are read where they are text, and not where one isn't.
-fn are_read(alloc: Global) -> Result<(), Fail> {
-    let read = words_read(alloc, b'x')?;
-    check(read.as_str() == "[\"w\", \"x\"]", "the words of a text")?;
-    let unread = words_read(alloc, 0xff)?;
-    check(unread.as_str() == "no text", "the words of no text")
-}
-
 #[test]
 fn words_that_are_no_text_are_no_command_line(rt: HostRuntime) -> Result<(), Fail> {
     let (rt, alloc) = (&rt, rt.alloc());
     are_read(alloc)?;
+    are_unread(alloc)?;
     is_launched(rt, alloc, Err(WordsFault::NotText), 2, "desk: words\n")?;
     is_launched(rt, alloc, Err(WordsFault::OutOfMemory), 8, "desk: memory\n")?;
     is_launched(rt, alloc, Ok(Vec::new(alloc)), 2, "desk: words\n")
@@ -478,6 +453,18 @@ rule dibp share {dibp}
     Ok(text)
 }
 
+/// Whether the paste is answered so, where its declaration comes by pieces of this length.
+fn is_judged<R: Wait + Sync + Threads>(
+    rt: &R,
+    alloc: Global,
+    paste: &Paste,
+    piece: usize,
+) -> Result<bool, Fail> {
+    let text = paste_answer(alloc, paste)?;
+    let words = ["check", paste.day, paste.kind];
+    is_answered(rt, alloc, &words, paste.input, piece, (0, text.as_bytes()))
+}
+
 /// Fails at the first paste that isn't answered so, by pieces of one byte and as a whole.
 fn are_judged<R: Wait + Sync + Threads>(
     rt: &R,
@@ -485,10 +472,8 @@ fn are_judged<R: Wait + Sync + Threads>(
     pastes: &[Paste],
 ) -> Result<(), Fail> {
     for (place, paste) in pastes.iter().enumerate() {
-        let text = paste_answer(alloc, paste)?;
-        for piece in [1, 100_000] {
-            let words = ["check", paste.day, paste.kind];
-            if !is_answered(rt, alloc, &words, paste.input, piece, (0, text.as_str()))? {
+        for piece in &[1, 100_000] {
+            if !is_judged(rt, alloc, paste, *piece)? {
                 return Err(Fail::new(format_args!("paste {place} by {piece}")));
             }
         }
@@ -623,28 +608,33 @@ const ORDERS: &[&[u8]] = &[
     b"D,1,ACME,7,2024-01-23\nM,A,Brass,9000\nS,A,lead,4\nM,B,Tin,7\nS,A,cadmium,3\n",
 ];
 
-/// The place of the first input that is refused, or answered otherwise than the first one.
-fn first_unlike<R: Wait + Sync + Threads>(
+/// Fails at the first input that isn't answered by status 0 and this text.
+fn are_answered_alike<R: Wait + Sync + Threads>(
     rt: &R,
     alloc: Global,
     inputs: &[&[u8]],
-) -> Result<Option<usize>, Fail> {
-    let mut first = Vec::new(alloc);
+    text: &[u8],
+) -> Result<(), Fail> {
     for (place, input) in inputs.iter().enumerate() {
-        let (status, text) = outcome(rt, alloc, CHECK, input, 100_000, &[])?;
-        if place == 0 {
-            first = text.clone()?;
-        }
-        if status != 0 || text != first {
-            return Ok(Some(place));
+        if !is_answered(rt, alloc, CHECK, input, 100_000, (0, text))? {
+            return Err(Fail::new(format_args!("input {place}")));
         }
     }
-    Ok(None)
+    Ok(())
 }
 
 #[test]
 fn the_order_of_the_rows_changes_nothing(rt: HostRuntime) -> Result<(), Fail> {
-    assert_eq!(rt; first_unlike(&rt, rt.alloc(), ORDERS)?, None);
+    let (_, text) = outcome_with_faults(&rt, rt.alloc(), CHECK, ORDERS[0], 100_000, &[])?;
+    are_answered_alike(&rt, rt.alloc(), ORDERS, text.as_slice())
+}
+
+/// Appends a declaration of so many materials.
+fn push_materials(input: &mut String, count: u32) -> Result<(), Fail> {
+    input.push_str("D,1,ACME,7,2024-01-23\n")?;
+    for number in 0..count {
+        write!(input, "M,M{number},Steel,1000\n")?;
+    }
     Ok(())
 }
 
@@ -654,12 +644,9 @@ fn answer_to_materials<R: Wait + Sync + Threads>(
     alloc: Global,
     count: u32,
 ) -> Result<(u8, usize), Fail> {
-    let mut input = b"D,1,ACME,7,2024-01-23\n".to_vec(alloc)?;
-    for number in 0..count {
-        let row = format!(in alloc; "M,M{number},Steel,1000\n")?;
-        input.extend_from_slice(row.as_bytes())?;
-    }
-    let (status, text) = outcome(rt, alloc, CHECK, input.as_slice(), 100_000, &[])?;
+    let mut input = String::new(alloc);
+    push_materials(&mut input, count)?;
+    let (status, text) = outcome_with_faults(rt, alloc, CHECK, input.as_bytes(), 100_000, &[])?;
     Ok((status, text.len()))
 }
 
@@ -669,6 +656,5 @@ fn check_takes_256_materials(rt: HostRuntime) -> Result<(), Fail> {
     let too_many = answer_to_materials(&rt, rt.alloc(), 257)?;
     // 52 bytes of the first line, 447 of each block, 914 of the codes in them, 10 of the last line; and the
     // line that tells record 258.
-    assert_eq!(rt; (most, too_many), ((0, 115_408), (6, 41)));
-    Ok(())
+    expect_eq(&(most, too_many), &((0, 115_408), (6, 41)))
 }

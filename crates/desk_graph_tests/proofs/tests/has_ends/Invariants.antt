@@ -1,4 +1,4 @@
-use Rattle.desk_graph_tests.proofs.tests.ends_of.Given as goal
+use Rattle.desk_graph_tests.proofs.tests.has_ends.Given as goal
 
 abbrev pub ghosts-both_ends : goal.ghosts-both_ends
 ghosts-both_ends a = record { name = a.blank.name; parts = a.blank.parts }
