@@ -1,10 +1,11 @@
 -- What a sweep over the affected nodes finds at each of them.
-use Rattle.std.proofs.Common.{◌≡◌, ℕ, zero, suc, ◌+◌, ◌*◌, ◌^◌, ◌<◌, ◌≤◌, true, false, cond, ◌==◌, List, [], ◌∷◌, map, take, fold, length, nat_lt, slice_index, slice_index_or, sum_by, Option, Some, None, refl, sym, ap, ◌∙◌, subst, inl, inr, arith}
+use Rattle.std.proofs.Common.{◌≡◌, ℕ, zero, suc, ◌+◌, ◌*◌, ◌^◌, ◌<◌, ◌≤◌, true, false, cond, ◌==◌, List, [], ◌∷◌, drop, map, take, fold, length, nat_lt, slice_index, slice_index_or, sum_by, Option, Some, None, option_map, refl, sym, ap, ◌∙◌, subst, inl, inr, arith}
 use Rattle.std.specs.List.{AllByRecursion}
 use Rattle.std.proofs.lemmas.Bool.{both_ways, cases_Bool, cases_lt, eq-eqb, eqb-true, false_from_ne_true, le-ltb, lt-ltb, ltb-true, ne_eqb, or_cases, or_parts}
 use Rattle.std.proofs.lemmas.List.{length-map, length-take-le, get_or-map, get_or-take}
 use Rattle.std.proofs.Math.Nat.{suc-mul}
-use Rattle.std.proofs.lemmas.List.Sums.{sum_by-cons}
+use Rattle.std.proofs.Math.Seq.{split_at}
+use Rattle.std.proofs.lemmas.List.Sums.{fold-append, sum_by-cons}
 use Rattle.desk_graph.specs.declared.line.BillLine.{BillLine}
 use Rattle.desk_graph.specs.Bill.{IsBill}
 use Rattle.desk_graph.specs.Graph.{Graph, is_line, lines_of}
@@ -14,7 +15,7 @@ use Rattle.desk_graph.proofs.Ends.{has_node_there}
 use Rattle.desk_rollup.specs.Gathered.{all_hops, all_loads}
 use Rattle.desk_rollup.specs.Numbers.{Rises, hop_numbers, substances}
 use Rattle.desk_rollup.specs.Places.{IsKnown, IsTold, Placed, known, place_at}
-use Rattle.desk_rollup.specs.Plan.{AllFit, AreDistinct, nodes_of}
+use Rattle.desk_rollup.specs.Plan.{AreDistinct, nodes_of}
 use Rattle.desk_rollup.specs.Rolled.{IsRolled, amount, weight}
 use Rattle.desk_rollup.specs.Step.{IsStepOver}
 use Rattle.desk_rollup.specs.Sweep.{IsSweep}
@@ -79,6 +80,27 @@ fits_yes n h = ap (λ b. cond b (Some n) None) (lt-ltb n (2 ^ 128) h)
 pub fits_no : (n : ℕ) → 2 ^ 128 ≤ n → fitting n ≡ None
 fits_no n h = ap (λ b. cond b (Some n) None) (le-ltb n (2 ^ 128) h)
 
+some_inside : {X : Type 0} (one other : X) → ◌≡◌ {A = Option X} (Some one) (Some other) → one ≡ other
+some_inside one other e = cc
+
+some_is_none : {X : Type 0} (one : X) → ◌≡◌ {A = Option X} (Some one) None → ⊥
+some_is_none one e = cc
+
+-- what is made of a weight that fits
+pub fitted : {X : Type 0} (f : ℕ → X) (n : ℕ) (x : X) → option_map f (fitting n) ≡ Some x → (n < 2 ^ 128) × (x ≡ f n)
+fitted f n x e =
+    elim (cases_lt n (2 ^ 128)) [
+      | inl low ↦ (low, some_inside x (f n) (sym e ∙ ap (option_map f) (fits_yes n low)))
+      | inr large ↦ absurd (some_is_none x (sym e ∙ ap (option_map f) (fits_no n large)))
+    ]
+
+pub unfitted : {X : Type 0} (f : ℕ → X) (n : ℕ) → option_map f (fitting n) ≡ None → 2 ^ 128 ≤ n
+unfitted f n e =
+    elim (cases_lt n (2 ^ 128)) [
+      | inl low ↦ absurd (some_is_none (f n) (sym (ap (option_map f) (fits_yes n low)) ∙ e))
+      | inr large ↦ large
+    ]
+
 at_least : (count child : ℕ) → (count ≡ 0 → ⊥) → child ≤ count * child
 at_least zero child h = absurd (h refl)
 at_least (suc count) child h = omega (arith, suc-mul count child)
@@ -110,6 +132,23 @@ lines_weigh below weights (line ∷ of_node) each sum =
     ap (λ o. fold (λ p l. with_child p l.count (below l.node)) o of_node) (ap (with_child (fitting sum) line.count) each.0 ∙ one_child sum line.count (weights line.node))
     ∙ lines_weigh below weights of_node each.1 (sum + line.count * weights line.node)
     ∙ ap fitting (omega (arith, sum_by-cons (λ l. l.count * weights l.node) line of_node))
+
+-- what is too large stays so with further children
+none_stays : (below : ℕ → Option ℕ) (of_node : List BillLine) → fold (λ sum line. with_child sum line.count (below line.node)) None of_node ≡ None
+none_stays below [] = refl
+none_stays below (line ∷ of_node) = none_stays below of_node
+
+pub too_large_at : (below : ℕ → Option ℕ) (own : ℕ) (of_node : List BillLine) (at : ℕ) (none : BillLine) → at < length of_node → (sum : ℕ) → Some sum ≡ weighed below own (take at of_node) →
+    with_child (Some sum) (slice_index_or of_node at none).count (below (slice_index_or of_node at none).node) ≡ None → weighed below own of_node ≡ None
+too_large_at below own of_node at none low sum is large =
+    let line = slice_index_or of_node at none in
+    let add : Option ℕ → BillLine → Option ℕ = λ o l. with_child o l.count (below l.node) in
+    let rest = drop (suc at) of_node in
+    ap (fold add (Some own)) (split_at of_node at none low)
+    ∙ fold-append add (Some own) (take at of_node) (line ∷ rest)
+    ∙ ap (λ o. fold add (add o line) rest) (sym is)
+    ∙ ap (λ o. fold add o rest) large
+    ∙ none_stays below rest
 
 -- what is known of a place or of a node without one
 pub by_place : (nodes : List ℕ) (node : ℕ) (place : Option ℕ) → IsTold nodes node place → (P : Option ℕ → Type 0) → (has_node nodes node ≡ false → P None) → ((at : ℕ) → at < length nodes → slice_index nodes at ≡ node → P (Some at)) → P place
@@ -223,18 +262,43 @@ module _ (g : Graph) (owns : List OwnValues) (kept : Kept) (of_owns placed : Pla
         (own node).weight
         ∙ ap fitting (sym (rolled-step g.lines rank sweep.bill.ranked.1 (λ n. (own n).weight) node))
 
-    -- the values that are found at the place
-    pub rolls : AllFit g own → (new : List RolledValues) → length new ≡ place → ((at : ℕ) → at < place → IsRolled g.lines own (slice_index placed.nodes at) (rolled_at new at)) → (found : ℕ) → found ≡ weight g.lines own node →
-        IsRolled g.lines own node
-        (let below = λ (child : ℕ). known (place_at placed child) kept.rolled new child in
-        record { weight = found; hops = all_hops below (own node).marks (lines_of g.lines node); loads = all_loads below (own node).loads (lines_of g.lines node) })
-    rolls fit new size before found is =
-        let below : ℕ → RolledValues = λ child. known (place_at placed child) kept.rolled new child in
-        let of_node = lines_of g.lines node in
-        let right : (child : ℕ) → is_line g.lines node child ≡ true → IsRolled g.lines own child (below child) = λ child line.
+    -- what the new values and those that are kept tell of the children
+    rolled_below : (new : List RolledValues) → ((at : ℕ) → at < place → IsRolled g.lines own (slice_index placed.nodes at) (rolled_at new at)) →
+        (child : ℕ) → is_line g.lines node child ≡ true → IsRolled g.lines own child (known (place_at placed child) kept.rolled new child)
+    rolled_below new before child line =
         by_place placed.nodes child (place_at placed child) (sweep.places child) (λ o. IsRolled g.lines own child (known o kept.rolled new child))
         (λ away. stays child away (sweep.bill.children node child line))
-        (λ spot h spot_is. subst (λ c. IsRolled g.lines own c (rolled_at new spot)) spot_is (before spot (child_before child spot line h spot_is))) in
+        (λ spot h spot_is. subst (λ c. IsRolled g.lines own c (rolled_at new spot)) spot_is (before spot (child_before child spot line h spot_is)))
+
+    -- the weight that is found at the place by values
+    pub weighs_values : (new : List RolledValues) → ((at : ℕ) → at < place → IsRolled g.lines own (slice_index placed.nodes at) (rolled_at new at)) →
+        ((at : ℕ) → at < place → weight g.lines own (slice_index placed.nodes at) < 2 ^ 128) → (own node).weight < 2 ^ 128 →
+        weighed (λ child. Some (known (place_at placed child) kept.rolled new child).weight) (own node).weight (lines_of g.lines node) ≡ fitting (weight g.lines own node)
+    weighs_values new before light small =
+        let below : ℕ → Option ℕ = λ child. Some (known (place_at placed child) kept.rolled new child).weight in
+        let low : (child : ℕ) → is_line g.lines node child ≡ true → weight g.lines own child < 2 ^ 128 = λ child line.
+        by_place placed.nodes child (place_at placed child) (sweep.places child) (λ _. weight g.lines own child < 2 ^ 128)
+        (λ away. let P : ℕ → Type 0 = λ w. w < 2 ^ 128 in subst P (stays child away (sweep.bill.children node child line)).weight (sweep.fit child))
+        (λ spot h is. subst (λ n. weight g.lines own n < 2 ^ 128) is (light spot (child_before child spot line h is))) in
+        ap (λ o. fold (λ p line. with_child p line.count (below line.node)) o (lines_of g.lines node)) (sym (fits_yes (own node).weight small))
+        ∙ lines_weigh below (weight g.lines own) (lines_of g.lines node)
+        (each_line (λ child. below child ≡ fitting (weight g.lines own child)) (lines_of g.lines node)
+        (λ child line. ap (λ w. Some w) (rolled_below new before child line).weight ∙ sym (fits_yes (weight g.lines own child) (low child line))))
+        (own node).weight
+        ∙ ap fitting (sym (rolled-step g.lines rank sweep.bill.ranked.1 (λ n. (own n).weight) node))
+
+    abbrev made : List RolledValues → ℕ → RolledValues
+    made new found =
+        let below = λ (child : ℕ). known (place_at placed child) kept.rolled new child in
+        record { weight = found; hops = all_hops below (own node).marks (lines_of g.lines node); loads = all_loads below (own node).loads (lines_of g.lines node) }
+
+    -- the values that are found at the place
+    rolls : weight g.lines own node < 2 ^ 128 → (new : List RolledValues) → ((at : ℕ) → at < place → IsRolled g.lines own (slice_index placed.nodes at) (rolled_at new at)) →
+        IsRolled g.lines own node (made new (weight g.lines own node))
+    rolls fit new before =
+        let below : ℕ → RolledValues = λ child. known (place_at placed child) kept.rolled new child in
+        let of_node = lines_of g.lines node in
+        let right : (child : ℕ) → is_line g.lines node child ≡ true → IsRolled g.lines own child (below child) = rolled_below new before in
         let each = each_line (λ child. IsRolled g.lines own child (below child)) of_node right in
         let step = gathered_step below (own node) of_node
         (each_as (λ line. IsRolled g.lines own line.node (below line.node)) (λ line. Rises (hop_numbers (below line.node).hops)) (λ line r. r.hops_rise) of_node each)
@@ -244,6 +308,22 @@ module _ (g : Graph) (owns : List OwnValues) (kept : Kept) (of_owns placed : Pla
         (each_as (λ line. IsRolled g.lines own line.node (below line.node)) (λ line. line.count * carried (below line.node).loads what ≡ line.count * amount g.lines own line.node what)
         (λ line r. ap (λ v. line.count * v) (carried_is g.lines rank sweep.bill.ranked.1 own line.node (below line.node) r what)) of_node each) in
         let there = inside node (has_at placed.nodes place low) in
-        omega (arith, same, rolled-step g.lines rank sweep.bill.ranked.1 (λ n. amount_of (own n).loads what) node, sweep.can.lighter node what there, fit node there)) in
+        omega (arith, same, rolled-step g.lines rank sweep.bill.ranked.1 (λ n. amount_of (own n).loads what) node, sweep.can.lighter node what there, fit)) in
         let rolled = step_rolled g.lines rank sweep.bill.ranked.1 own below node _ right step in
-        subst (λ w. IsRolled g.lines own node (record { weight = w; hops = all_hops below (own node).marks of_node; loads = all_loads below (own node).loads of_node })) (rolled.weight ∙ sym is) rolled
+        subst (λ w. IsRolled g.lines own node (made new w)) rolled.weight rolled
+
+    -- where values are found at the place, they are right, and the weight isn't too large
+    pub found_values : (new : List RolledValues) → ((at : ℕ) → at < place → IsRolled g.lines own (slice_index placed.nodes at) (rolled_at new at)) →
+        ((at : ℕ) → at < place → weight g.lines own (slice_index placed.nodes at) < 2 ^ 128) → (own node).weight < 2 ^ 128 → (values : RolledValues) →
+        option_map (made new) (weighed (λ child. Some (known (place_at placed child) kept.rolled new child).weight) (own node).weight (lines_of g.lines node)) ≡ Some values →
+        (weight g.lines own node < 2 ^ 128) × IsRolled g.lines own node values
+    found_values new before light small values e =
+        let found = fitted (made new) (weight g.lines own node) values (sym (ap (option_map (made new)) (weighs_values new before light small)) ∙ e) in
+        (found.0, subst (IsRolled g.lines own node) (sym found.1) (rolls found.0 new before))
+
+    -- where none are found, the weight is too large
+    pub found_none : (new : List RolledValues) → ((at : ℕ) → at < place → IsRolled g.lines own (slice_index placed.nodes at) (rolled_at new at)) →
+        ((at : ℕ) → at < place → weight g.lines own (slice_index placed.nodes at) < 2 ^ 128) → (own node).weight < 2 ^ 128 →
+        option_map (made new) (weighed (λ child. Some (known (place_at placed child) kept.rolled new child).weight) (own node).weight (lines_of g.lines node)) ≡ None → 2 ^ 128 ≤ weight g.lines own node
+    found_none new before light small e =
+        unfitted (made new) (weight g.lines own node) (sym (ap (option_map (made new)) (weighs_values new before light small)) ∙ e)

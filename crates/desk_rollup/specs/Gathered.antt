@@ -1,5 +1,5 @@
 -- The lists of a node, gathered from its own entries and from those of its children.
-use Rattle.std.specs.Prelude.{ℕ, ◌+◌, ◌*◌, ◌-◌, ◌^◌, List, [], ◌∷◌, Some, None, fold, map, min}
+use Rattle.std.specs.Prelude.{◌≡◌, ℕ, ◌+◌, ◌*◌, ◌-◌, ◌^◌, List, [], ◌∷◌, Some, None, fold, map, min}
 use Rattle.desk_graph.specs.declared.line.BillLine.{BillLine}
 use Rattle.desk_rollup.specs.declared.mark.Mark.{Mark}
 use Rattle.desk_rollup.specs.declared.hop.Hop.{Hop}
@@ -41,3 +41,7 @@ lifted_load line load = record { what = load.what; amount = min (load.amount * l
 abbrev pub all_loads : (ℕ → RolledValues) → List Load → List BillLine → List Load
 all_loads below loads of_node =
     with_lines (λ load. load.what) joined_loads lifted_load (λ values. values.loads) below of_node (with_each (λ load. load.what) joined_loads loads [])
+
+-- where no child of the lines has a hop or a load, a node without any of its own has none
+abbrev pub HaveNone : (ℕ → RolledValues) → List BillLine → Type 0
+HaveNone below of_node = (all_hops below [] of_node ≡ []) × (all_loads below [] of_node ≡ [])

@@ -1,4 +1,4 @@
-ghost use Rattle.std.specs.Prelude.{◌≡◌, ◌==◌, ◌+◌, ◌<◌, ◌≤◌, length, map, nat_lt, if◌then◌else◌, IfErr, IfOk, IfSome};
+ghost use Rattle.std.specs.Prelude.{◌≡◌, ◌==◌, ◌+◌, ◌<◌, ◌≤◌, length, map, nat_lt, if◌then◌else◌, IfErr, IfNone, IfOk, IfSome};
 ghost use Rattle.desk_graph.specs.Graph.{lines_of};
 ghost use Rattle.desk_rollup.specs.Places.{IsKnown, known, place_at};
 ghost use Rattle.desk_rollup.specs.Plan.{AllFit, IsAccepted, IsRefused};
@@ -53,15 +53,26 @@ impl<'a, B: BillView> Sweep<'a, B> {
         ensures accepted { IfOk result (λ rolled. IsAccepted (B.graph self.now.bill.now) (own_with self.now.owns.now self.now.kept.now.owns)) }
         ensures refused { IfErr result (λ fault. IsRefused (B.graph self.now.bill.now) (own_with self.now.owns.now self.now.kept.now.owns) fault) }
     {
-        let weights = self.weights(alloc)?;
-        if let Some(node) = self.first_too_large(weights.as_slice()) {
-            return Err(RollFault::WeightTooLarge { node });
-        }
-        let rolled = self.rolled(alloc, weights.as_slice())?;
+        let Some(rolled) = self.rolled(alloc)? else {
+            return Err(self.too_large(alloc)?);
+        };
         if self.are_marks_too_many(rolled.as_slice()) {
             return Err(RollFault::MarksFull);
         }
         Ok(rolled)
+    }
+
+    /// Which weight is too large, where one is. All weights are made once more, as no node above such a one has values.
+    fn too_large(&self, alloc: Global) -> Result<RollFault, OutOfMemory>
+        requires sweep { IsSweep (B.graph self.now.bill.now) self.now.owns.now self.now.kept.now self.now.of_owns.now self.now.places.now (map (λ list. list.now) self.now.lists.now) }
+        requires large { ¬ (AllFit (B.graph self.now.bill.now) (own_with self.now.owns.now self.now.kept.now.owns)) }
+        ensures { IfOk result (λ fault. IsRefused (B.graph self.now.bill.now) (own_with self.now.owns.now self.now.kept.now.owns) fault) }
+    {
+        let weights = self.weights(alloc)?;
+        match self.first_too_large(weights.as_slice()) {
+            Some(node) => Ok(RollFault::WeightTooLarge { node }),
+            None => unreachable!(),
+        }
     }
 
     /// The weight of each affected node, unless it is 2^128 or more.
@@ -84,13 +95,13 @@ impl<'a, B: BillView> Sweep<'a, B> {
         Ok(weights)
     }
 
-    /// The values of each affected node, where no weight is too large.
-    fn rolled(&self, alloc: Global, weights: &[Option<u128>]) -> Result<Vec<Rolled>, OutOfMemory>
-        requires sweep { IsSweep (B.graph self.now.bill.now) self.now.owns.now self.now.kept.now self.now.of_owns.now self.now.places.now (map (λ list. list.now) self.now.lists.now) }
-        requires weights { weights.now ≡ map (λ node. fitting (weight (B.graph self.now.bill.now).lines (own_with self.now.owns.now self.now.kept.now.owns) node)) self.now.places.now.nodes }
-        requires fit { AllFit (B.graph self.now.bill.now) (own_with self.now.owns.now self.now.kept.now.owns) }
-        ensures size { IfOk result (λ rolled. length rolled.items ≡ length self.now.places.now.nodes) }
-        ensures right { IfOk result (λ rolled. AreRolledOf (B.graph self.now.bill.now) self.now.owns.now self.now.kept.now self.now.places.now.nodes rolled.items) }
+    /// The values of each affected node, unless a weight is too large.
+    fn rolled(&self, alloc: Global) -> Result<Option<Vec<Rolled>>, OutOfMemory>
+        requires { IsSweep (B.graph self.now.bill.now) self.now.owns.now self.now.kept.now self.now.of_owns.now self.now.places.now (map (λ list. list.now) self.now.lists.now) }
+        ensures size { IfOk result (λ found. IfSome found (λ rolled. length rolled.items ≡ length self.now.places.now.nodes)) }
+        ensures right { IfOk result (λ found. IfSome found (λ rolled. AreRolledOf (B.graph self.now.bill.now) self.now.owns.now self.now.kept.now self.now.places.now.nodes rolled.items)) }
+        ensures fit { IfOk result (λ found. IfSome found (λ _. AllFit (B.graph self.now.bill.now) (own_with self.now.owns.now self.now.kept.now.owns))) }
+        ensures large { IfOk result (λ found. IfNone found (¬ (AllFit (B.graph self.now.bill.now) (own_with self.now.owns.now self.now.kept.now.owns)))) }
     {
         let mut roller = Roller::new(alloc);
         let mut rolled = Vec::with_capacity(alloc, self.lists.len())?;
@@ -100,11 +111,12 @@ impl<'a, B: BillView> Sweep<'a, B> {
                 kept: self.kept.values(),
                 new: rolled.as_slice(),
             };
-            let weight = weights[place].unwrap_or(0);
-            let new = roller.roll(alloc, weight, self.own(*node), self.lists[place], &values)?;
+            let Some(new) = roller.roll(alloc, self.own(*node), self.lists[place], &values)? else {
+                return Ok(None);
+            };
             rolled.push(new)?;
         }
-        Ok(rolled)
+        Ok(Some(rolled))
     }
 
     /// Of the nodes whose weight is too large the one with the least label.

@@ -38,7 +38,7 @@ fn with_line(sum: Option<u128>, count: u32, child: Option<u128>) -> Option<u128>
 }
 
 /// The sum together with so many of a weight, unless it is 2^128 or more.
-fn with_more(sum: u128, count: u32, weight: u128) -> Option<u128>
+pub fn with_more(sum: u128, count: u32, weight: u128) -> Option<u128>
     ensures { result ≡ fitting (sum + count * weight) }
 {
     let more = u128::from(count).checked_mul(weight)?;
