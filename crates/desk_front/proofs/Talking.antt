@@ -286,14 +286,16 @@ converses start left last_met counted ms replies added said sound met x e =
       kept = conversation_kept start finish ms replies added x;
     }
 
--- what answers by turns converses
-pub conversation_of : {A : Type 0} (R : A → Message → List ℕ → A → Type 0) (standing : A → Standing) → ((a b : A) (m : Message) (said : List ℕ) → R a m said b → Turns (standing a) m said (standing b))
-    → (old new : A) (ms : List Message) (said : List ℕ) → Replies R old ms said new
+-- what answers by turns converses, where each turn is right as long as this holds, and keeps it
+pub conversation_of : {A : Type 0} (R : A → Message → List ℕ → A → Type 0) (standing : A → Standing) (P : A → Type 0)
+    → ((a b : A) (m : Message) (said : List ℕ) → R a m said b → P a → P b × Turns (standing a) m said (standing b))
+    → (old new : A) (ms : List Message) (said : List ℕ) → Replies R old ms said new → P old
     → (replies : List Reply) × (added : List Edit) × Conversation (standing old) ms replies added (standing new) × (said ≡ all_bytes ms replies)
-conversation_of R standing turns old new [] said x = ([], [], (refl, ap standing x.1), x.0)
-conversation_of R standing turns old new (m ∷ ms) said x =
-    let first = turns old x.0 m x.1 x.3 in
-    let others = conversation_of R standing turns x.0 new ms x.2 x.4 in (
+conversation_of R standing P turns old new [] said x ready = ([], [], (refl, ap standing x.1), x.0)
+conversation_of R standing P turns old new (m ∷ ms) said x ready =
+    let turn = turns old x.0 m x.1 x.3 ready in
+    let first = turn.1 in
+    let others = conversation_of R standing P turns x.0 new ms x.2 x.4 turn.0 in (
       first.0 ∷ others.0,
       first.1 ++ others.1,
       (standing x.0, first.1, others.1, first.2, others.2, refl),

@@ -1,5 +1,6 @@
 pub mod Asked
 pub mod Held
+pub mod Last
 pub mod Replies
 pub mod Served
 pub mod Service

@@ -6,6 +6,7 @@ mod answerer;
 mod connection;
 mod first;
 mod held;
+mod last_reply;
 mod outbox;
 mod round;
 mod served;

@@ -19,12 +19,14 @@ const LINE: &str = r#"{"edit":"line","ticket":"t2","parent":"A","child":"B","cou
 /// A talk over an empty desk.
 const MIXED: &[Row] = &[
     ("GET /version", "", "200 OK", "version 0\n"),
+    ("GET /version", "", "200 OK", "version 0\n"),
     (
         "POST /edit",
         PART_A,
         "200 OK",
         "version 1\nseen 0\naccepted 1\n",
     ),
+    ("GET /version", "", "200 OK", "version 1\n"),
     // A repeated edit gets its kept number.
     (
         "POST /edit",
@@ -62,6 +64,19 @@ const MIXED: &[Row] = &[
         "",
         "404 Not Found",
         "version 1\nno-such-code B\n",
+    ),
+    // The same is asked again, and then a target that is as long.
+    (
+        "GET /part/B",
+        "",
+        "404 Not Found",
+        "version 1\nno-such-code B\n",
+    ),
+    (
+        "GET /part/C",
+        "",
+        "404 Not Found",
+        "version 1\nno-such-code C\n",
     ),
     (
         "GET /rohs/A?day=2024-07-22",
@@ -112,7 +127,7 @@ fn served<R: Wait + Sync, K: Keeper + Drop, L: Link>(
 }
 
 /// How many calls of its link the mixed stream takes in pieces of 40 bytes.
-const CALLS: u64 = 38;
+const CALLS: u64 = 47;
 
 /// How the mixed stream is served where the link's call of this number fails, what is written then, and the replies.
 fn failing_at<R: Wait + Sync>(
