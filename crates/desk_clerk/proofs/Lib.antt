@@ -1,5 +1,6 @@
 pub mod Few
 pub mod FirstRecords
+pub mod Making
 pub mod OneDesk
 pub mod Opened
 pub mod PutIn

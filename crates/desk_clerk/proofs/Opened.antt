@@ -1,6 +1,6 @@
 -- What a store is opened as, from what was read of it.
 use Rattle.std.proofs.Common.{◌≡◌, ℕ, ◌+◌, ◌==◌, Bool, true, false, List, [], ◌∷◌, length, refl, sym, ap, ◌∙◌, is_some, Some, None, inl, inr, arith}
-use Rattle.std.proofs.lemmas.Bool.{cases_Bool, eqb-true, false≢true}
+use Rattle.std.proofs.lemmas.Bool.{cases_Bool, false≢true}
 use Rattle.std.proofs.lemmas.Cmp.{tied_itself}
 use Rattle.desk_edge.specs.Content.{Content, IsSame, key_cmp, key_of}
 use Rattle.desk_edge.specs.declared.key.Key.{Key}
@@ -22,9 +22,13 @@ none_some e = cc
 pub some_there : {X : Type 0} (records : List X) (n : ℕ) (b : Bool) → n ≡ length records → b ≡ (n == 0) → b ≡ false → records ≡ [] → ⊥
 some_there records n b len is not e = absurd (false≢true (sym not ∙ is ∙ ap (λ m. m == 0) (len ∙ ap (λ r. length r) e)))
 
-pub none_there : (records : List Record) (n : ℕ) (b : Bool) → n ≡ length records → b ≡ (n == 0) → b ≡ true → records ≡ []
-none_there [] n b len is e = refl
-none_there (kept ∷ records) n b len is e = absurd (omega (arith, len, eqb-true n 0 (sym is ∙ e)))
+-- whether a record was read, by their number
+pub some_read : (records : List Record) (n : ℕ) → n ≡ length records → (n ≡ 0 → ⊥) → records ≡ [] → ⊥
+some_read records n len some e = some (len ∙ ap (λ r. length r) e)
+
+pub none_read : (records : List Record) (n : ℕ) → n ≡ length records → n ≡ 0 → records ≡ []
+none_read [] n len none = refl
+none_read (kept ∷ records) n len none = absurd (omega (arith, len, none))
 
 -- the records that were read are the store's own
 pub is_read : (old new : Content) (records : List Record) → IsSame old new → AreFirst (record_limit + 1) new records → AreRead old records

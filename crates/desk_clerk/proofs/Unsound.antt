@@ -17,10 +17,10 @@ use Rattle.desk_tables.specs.Gathered.{gathered}
 use Rattle.desk_tables.specs.Soundness.{NamesBreach}
 use Rattle.desk_tables.specs.declared.sound_fault.SoundFault.{SoundFault}
 use Rattle.desk_tables.specs.declared.sound_fault.SoundFault.TheVariants as sound_fault
-use Rattle.desk_records.specs.Records.{record_of, tables_content}
+use Rattle.desk_records.specs.Records.{tables_content}
 use Rattle.desk_records.proofs.InForm.{all_in_form}
 use Rattle.desk_clerk.specs.Faults.{sound_as_open}
-use Rattle.desk_clerk.specs.Opening.{content_in}
+use Rattle.desk_clerk.specs.Opening.{AreTablesOf, content_in}
 use Rattle.desk_clerk.specs.declared.open_fault.OpenFault.TheVariants as open_fault
 use Rattle.desk_clerk.proofs.OneDesk.{one_desk}
 use Rattle.desk_clerk.proofs.PutIn.{AreInForm, gathered_content, gathered_form}
@@ -104,20 +104,19 @@ all_rows t forms =
     (each_of_map IsRowInForm Shipment t.shipments forms.shipments))
     (each_of_map IsRowInForm Ticket t.tickets forms.tickets)
 
--- the rows of the tables that were gathered are in form
-pub gathered_rows : (rows : List Row) (lists : Lists) → AllByRecursion IsRowInForm rows → lists ≡ gathered rows → AllByRecursion IsRowInForm (rows_of lists)
-gathered_rows rows lists forms e = subst (λ t. AllByRecursion IsRowInForm (rows_of t)) (sym e) (all_rows (gathered rows) (gathered_form rows forms))
+-- the rows of the tables are in form
+pub gathered_rows : (records : List Record) (lists : Lists) → AreTablesOf records lists → AllByRecursion IsRowInForm (rows_of lists)
+gathered_rows records lists are = subst (λ t. AllByRecursion IsRowInForm (rows_of t)) (sym are.are_gathered) (all_rows (gathered are.rows) (gathered_form are.rows are.forms))
 
--- the tables that were gathered of the rows of these records keep just these
-pub gathered_same : (records : List Record) (rows : List Row) (lists : Lists) → IsByKey key_of key_cmp records → records ≡ map record_of rows → AllByRecursion IsRowInForm rows → lists ≡ gathered rows
-    → IsSame (content_in records) (tables_content lists)
-gathered_same records rows lists by_key is forms e = subst (λ t. IsSame (content_in records) (tables_content t)) (sym e) (gathered_content records rows by_key is forms)
+-- the tables keep these records and no others
+pub gathered_same : (records : List Record) (lists : Lists) → IsByKey key_of key_cmp records → AreTablesOf records lists → IsSame (content_in records) (tables_content lists)
+gathered_same records lists by_key are = subst (λ t. IsSame (content_in records) (tables_content t)) (sym are.are_gathered) (gathered_content records are.rows by_key are.are_written are.forms)
 
 -- and where sound tables keep just these, they are the same
-pub gathered_sound : (records : List Record) (rows : List Row) (lists : Lists) → IsByKey key_of key_cmp records → records ≡ map record_of rows → AllByRecursion IsRowInForm rows → lists ≡ gathered rows → IsOrdered lists
-    → (t : Lists) → Sound t → IsSame (content_in records) (tables_content t) → Sound lists
-gathered_sound records rows lists by_key is forms e ordered t sound same =
-    let alike = gathered_same records rows lists by_key is forms e in
+pub gathered_sound : (records : List Record) (lists : Lists) → IsByKey key_of key_cmp records → AreTablesOf records lists → IsOrdered lists → (t : Lists) → Sound t
+    → IsSame (content_in records) (tables_content t) → Sound lists
+gathered_sound records lists by_key are ordered t sound same =
+    let alike = gathered_same records lists by_key are in
     subst Sound
-    (one_desk t lists sound.consistent.ordered ordered (form_of t (all_in_form t sound)) (subst AreInForm (sym e) (gathered_form rows forms)) (λ k. alike k ∙ sym (same k)))
+    (one_desk t lists sound.consistent.ordered ordered (form_of t (all_in_form t sound)) (subst AreInForm (sym are.are_gathered) (gathered_form are.rows are.forms)) (λ k. alike k ∙ sym (same k)))
     sound

@@ -3,3 +3,4 @@ pub mod Faults
 pub mod Laws
 pub mod Opening
 pub mod Reading
+pub mod Stored

@@ -1,5 +1,5 @@
 -- What a store is opened as, and by which key a damaged one is told.
-use Rattle.std.specs.Prelude.{◌≡◌, ◌⊎◌, ℕ, ◌+◌, ◌≤◌, true, List, length, None, is_some, option_map}
+use Rattle.std.specs.Prelude.{◌≡◌, ◌⊎◌, ℕ, ◌+◌, ◌≤◌, true, List, length, map, None, is_some, option_map}
 use Rattle.std.specs.List.{AllByRecursion, Any}
 use Rattle.desk_edge.specs.Content.{Content, IsSame, key_cmp, key_of}
 use Rattle.desk_edge.specs.declared.key.Key.{Key}
@@ -12,8 +12,9 @@ use Rattle.desk_model.specs.Start.{start}
 use Rattle.desk_model.specs.declared.limits.TheConstants.{SUBSTANCE_LIMIT, MEMBER_LIMIT, MATERIAL_LIMIT, PART_LIMIT, LINE_LIMIT}
 use Rattle.desk_model.specs.declared.limits.TheConstants.{PRODUCT_LIMIT, EXEMPTION_LIMIT, CANDIDATE_LIMIT, SHIPMENT_LIMIT, TICKET_LIMIT}
 use Rattle.desk_model.specs.declared.row.Row.{Row}
-use Rattle.desk_records.specs.Records.{IsRecordOf, tables_content}
+use Rattle.desk_records.specs.Records.{IsRecordOf, record_of, tables_content}
 use Rattle.desk_rows.specs.Rows.{IsByKey, row_of}
+use Rattle.desk_tables.specs.Gathered.{gathered}
 
 -- nothing is kept under any key
 abbrev pub IsEmpty : Content → Type 0
@@ -22,6 +23,13 @@ IsEmpty content = (key : Key) → content key ≡ None
 -- what a store of these records keeps under each key
 abbrev pub content_in : List Record → Content
 content_in records key = option_map (λ kept. kept.body) (row_of key_of key_cmp key records)
+
+-- the tables are those of the rows that have these records, put in one after the other
+pub record AreTablesOf (records : List Record) (lists : Lists) : Type 0 where
+  pub rows : List Row
+  pub are_written : records ≡ map record_of rows
+  pub forms : AllByRecursion IsRowInForm rows
+  pub are_gathered : lists ≡ gathered rows
 
 -- an empty store is opened as the start tables, and any other as the tables whose records it keeps
 abbrev pub IsOpenedAs : Content → Lists → Type 0

@@ -9,8 +9,7 @@ ghost use Rattle.desk_model.specs.Start.{start};
 ghost use Rattle.desk_records.specs.Records.{tables_content};
 
 use crate::open_fault::OpenFault;
-use crate::reading::read_records;
-use crate::stored::tables_of;
+use crate::reading::read_stored;
 use desk_edge::{Change, Keeper, Record};
 use desk_model::limits::{
     CANDIDATE_LIMIT, EXEMPTION_LIMIT, LINE_LIMIT, MATERIAL_LIMIT, MEMBER_LIMIT, PART_LIMIT,
@@ -48,11 +47,11 @@ pub(crate) fn open_tables<K: Keeper>(alloc: Global, keeper: &mut K) -> Result<Ta
     ensures steady { result ≢ Err OpenFault.KeeperFault → K.faults keeper.new ≡ K.faults keeper.old }
     ensures failed { IsErrOf result OpenFault.KeeperFault → Rose (K.faults keeper.old) (K.faults keeper.new) }
 {
-    let records = read_records(alloc, keeper, RECORD_LIMIT + 1)?;
-    if records.is_empty() {
+    let (number, stored) = read_stored(alloc, keeper, RECORD_LIMIT + 1)?;
+    if number == 0 {
         put_start(alloc, keeper)
     } else {
-        tables_of(alloc, records)
+        stored.into_tables(alloc)
     }
 }
 

@@ -1,39 +1,42 @@
-ghost use Rattle.std.specs.Prelude.{◌≡◌, ◌≢◌, ◌≤◌, Err, IfOk, IsErrOf, vec_len};
-ghost use Rattle.desk_edge.specs.Content.{IsSame, key_cmp, key_of};
+ghost use Rattle.std.specs.Prelude.{◌≡◌, ◌≢◌, ◌≤◌, List, length, Err, IfOk, IsErrOf};
+ghost use Rattle.desk_edge.specs.Content.{IsSame, key_of};
 ghost use Rattle.desk_edge.specs.Faults.{Rose};
-ghost use Rattle.desk_rows.specs.Rows.{IsByKey};
-ghost use Rattle.desk_clerk.specs.Reading.{AreFirst};
+ghost use Rattle.desk_edge.specs.declared.record.Record.{Record as Kept};
+ghost use Rattle.desk_clerk.specs.Reading.{WereRead};
+ghost use Rattle.desk_clerk.specs.Stored.{IsMadeOf};
 
+use crate::stored::Stored;
 use desk_edge::{KeepFault, Keeper, Key, Record};
 use desk_text::OutOfMemory;
 use std::alloc::Global;
 
-/// The first records of the keeper, in order of their keys: all that it keeps, or as many as `most`.
-pub(crate) fn read_records<K: Keeper>(
+/// Reads the first records of the keeper, in order of their keys: all that it keeps, or as many as `most`. It answers how many they
+/// are, and what was made of them. One record at a time is held.
+pub(crate) fn read_stored<K: Keeper>(
     alloc: Global,
     keeper: &mut K,
     most: usize,
-) -> Result<Vec<Record>, KeepFault>
-    ensures by_key { IfOk result (λ records. IsByKey key_of key_cmp records.items) }
-    ensures within { IfOk result (λ records. vec_len records ≤ most) }
-    ensures first { IfOk result (λ records. K.Tells keeper.new → AreFirst most (K.content keeper.new) records.items) }
+) -> Result<(usize, Stored), KeepFault>
+    ensures read { IfOk result (λ read. (records : List Kept) × (read.0 ≡ length records) × IsMadeOf records read.1
+        × WereRead most (K.Tells keeper.new) (K.content keeper.new) records) }
     ensures told { K.Tells keeper.new → K.Tells keeper.old }
     ensures stays { K.Tells keeper.new → IsSame (K.content keeper.old) (K.content keeper.new) }
     ensures never_falls { K.faults keeper.old ≤ K.faults keeper.new }
     ensures steady { result ≢ Err KeepFault.Failed → K.faults keeper.new ≡ K.faults keeper.old }
     ensures failed { IsErrOf result KeepFault.Failed → Rose (K.faults keeper.old) (K.faults keeper.new) }
 {
-    let mut records = Vec::new(alloc);
+    let mut stored = Stored::start(alloc);
+    let mut number = 0;
     let mut after = None;
-    'reading: while records.len() < most {
+    'reading: while number < most {
         let Some(kept) = keeper.next_record(alloc, after.as_ref())? else {
-            return Ok(records);
+            return Ok((number, stored));
         };
         after = Some(key(alloc, &kept)?);
-        records.reserve(1)?;
-        records.push_reserved(kept);
+        stored = stored.with_record(alloc, kept)?;
+        number += 1;
     }
-    Ok(records)
+    Ok((number, stored))
 }
 
 /// The key of the record.

@@ -1,37 +1,85 @@
-ghost use Rattle.std.specs.Prelude.{◌≡◌, ◌≢◌, ℕ, List, Err, IfOk, map};
-ghost use Rattle.std.specs.List.{AllByRecursion, Any};
-ghost use Rattle.desk_clerk.specs.Opening.{IsDamage, IsOfNoRow, content_in};
+ghost use Rattle.std.specs.Prelude.{◌≡◌, ◌≢◌, ℕ, [], ◌∷◌, ◌++◌, List, Err, IfNone, IfOk, IfSome};
+ghost use Rattle.desk_clerk.specs.Opening.{AreTablesOf, IsDamage, IsOfNoRow, content_in};
+ghost use Rattle.desk_clerk.specs.Stored.{IsMadeOf};
 ghost use Rattle.desk_edge.specs.Content.{IsSame, key_cmp, key_of};
-ghost use Rattle.desk_fields.specs.RowTexts.{IsRowInForm};
+ghost use Rattle.desk_edge.specs.declared.record.Record.{Record};
+ghost use Rattle.desk_history.specs.Breaches.{IsBrokenAt};
 ghost use Rattle.desk_history.specs.Sound.{Sound};
-ghost use Rattle.desk_model.specs.Lists.{Lists};
-ghost use Rattle.desk_records.specs.Records.{IsRecordOf, record_of, tables_content};
+ghost use Rattle.desk_model.specs.Lists.{IsOrdered, Lists};
+ghost use Rattle.desk_records.specs.Records.{IsRecordOf, tables_content};
 ghost use Rattle.desk_rows.specs.Rows.{IsByKey};
 
 use crate::open_fault::OpenFault;
-use desk_edge::Record;
+use desk_edge::{Key, Record};
 use desk_records::{RecordFault, read_record};
-use desk_tables::{Row, Tables};
+use desk_tables::{Gathering, Row, Tables};
+use desk_text::OutOfMemory;
 use std::alloc::Global;
 
-/// The sound tables that have these records, which stand in the order of their keys.
+/// What is made of a store's records as they are read, so that none of them is held.
+#[derive(Drop)]
+pub(crate) enum Stored {
+    /// Each record is a row's, and these are the tables of the rows.
+    Rows(Gathering),
+    /// A record under this key is that of no row. What follows it isn't looked at.
+    Stranger(Key),
+}
+
+impl Stored {
+    /// What is made of no records.
+    #[tactic(auto, using(crate::proofs::Making::no_tables), unfolding(crate::specs::Stored::IsMadeOf))]
+    pub(crate) fn start(alloc: Global) -> Stored
+        ensures { IsMadeOf [] result }
+    {
+        Stored::Rows(Gathering::new(alloc))
+    }
+
+    /// With one record more behind.
+    #[tactic(auto, using(crate::proofs::Making::stranger_later), unfolding(crate::specs::Stored::IsMadeOf))]
+    pub(crate) fn with_record(self, alloc: Global, kept: Record) -> Result<Stored, OutOfMemory>
+        ensures { IfOk result (λ stored. (records : List Record) → IsMadeOf records self → IsMadeOf (records ++ kept ∷ []) stored) }
+    {
+        match self {
+            Stored::Rows(tables) => with_row(alloc, tables, kept),
+            Stored::Stranger(key) => Ok(Stored::Stranger(key)),
+        }
+    }
+
+    /// The sound tables that have the records.
+    ///
+    /// `Damaged`: no sound tables have them; it names a record that no row has, or a row that breaks a clause of soundness.
+    /// `OutOfMemory`: none was left to find out.
+    pub(crate) fn into_tables(self, alloc: Global) -> Result<Tables, OpenFault>
+        ensures sound { IfOk result (λ tables. Sound tables.lists) }
+        ensures same { IfOk result (λ tables. (records : List Record) → IsByKey key_of key_cmp records → IsMadeOf records self
+            → IsSame (content_in records) (tables_content tables.lists)) }
+        ensures damage { (kind : ℕ) (code : List ℕ) → result ≡ Err (OpenFault.Damaged kind code)
+            → (records : List Record) → IsByKey key_of key_cmp records → IsMadeOf records self → IsDamage records kind code }
+        ensures not_sound { (kind : ℕ) (code : List ℕ) → result ≡ Err (OpenFault.Damaged kind code)
+            → (records : List Record) → IsByKey key_of key_cmp records → IsMadeOf records self
+            → (t : Lists) → Sound t → IsSame (content_in records) (tables_content t) → ⊥ }
+        ensures no_fault { result ≢ Err OpenFault.KeeperFault }
+    {
+        match self {
+            Stored::Rows(gathering) => sound_tables(alloc, gathering),
+            Stored::Stranger(key) => Err(OpenFault::Damaged {
+                kind: key.kind,
+                code: key.code,
+            }),
+        }
+    }
+}
+
+/// The tables of the rows, if they are sound.
 ///
-/// `Damaged`: no sound tables have them; it names a record that no row has, or a row that breaks a clause of soundness. `OutOfMemory`:
-/// none was left to find out.
-pub(crate) fn tables_of(alloc: Global, records: Vec<Record>) -> Result<Tables, OpenFault>
-    requires by_key { IsByKey key_of key_cmp records.items }
-    ensures sound { IfOk result (λ tables. Sound tables.lists) }
-    ensures same { IfOk result (λ tables. IsSame (content_in records.items) (tables_content tables.lists)) }
-    ensures damage { (kind : ℕ) (code : List ℕ) → result ≡ Err (OpenFault.Damaged kind code) → IsDamage records.items kind code }
-    ensures not_sound { (kind : ℕ) (code : List ℕ) → result ≡ Err (OpenFault.Damaged kind code)
-        → (t : Lists) → Sound t → IsSame (content_in records.items) (tables_content t) → ⊥ }
+/// `Damaged`: they aren't; it names a row that breaks a clause of soundness. `OutOfMemory`: none was left to find out.
+fn sound_tables(alloc: Global, gathering: Gathering) -> Result<Tables, OpenFault>
+    ensures sound { IfOk result (λ tables. (tables.lists ≡ gathering) × Sound tables.lists) }
+    ensures damage { (kind : ℕ) (code : List ℕ) → result ≡ Err (OpenFault.Damaged kind code) → IsOrdered gathering × IsBrokenAt gathering kind code }
+    ensures not_sound { (kind : ℕ) (code : List ℕ) → result ≡ Err (OpenFault.Damaged kind code) → Sound gathering → ⊥ }
     ensures no_fault { result ≢ Err OpenFault.KeeperFault }
 {
-    let rows = match rows_of(alloc, records) {
-        Ok(rows) => rows,
-        Err(fault) => return Err(fault),
-    };
-    let tables = Tables::gather(alloc, rows)?;
+    let tables = gathering.into_tables();
     // The call does nothing but say that the lists stand in order.
     tables.in_order();
     match tables.is_sound(alloc) {
@@ -40,43 +88,39 @@ pub(crate) fn tables_of(alloc: Global, records: Vec<Record>) -> Result<Tables, O
     }
 }
 
-/// The rows that have these records, in the same order.
-fn rows_of(alloc: Global, records: Vec<Record>) -> Result<Vec<Row>, OpenFault>
-    ensures rows { IfOk result (λ rows. records.items ≡ map record_of rows.items) }
-    ensures forms { IfOk result (λ rows. AllByRecursion IsRowInForm rows.items) }
-    ensures damaged { (kind : ℕ) (code : List ℕ) → result ≡ Err (OpenFault.Damaged kind code)
-        → Any (λ kept. (kept.kind ≡ kind) × (kept.code ≡ code) × IsOfNoRow kept) records.items }
-    ensures no_fault { result ≢ Err OpenFault.KeeperFault }
+/// With the row that has this record, if one does.
+#[tactic(auto, using(crate::proofs::Making::one_table_more, crate::proofs::Making::stranger_now), unfolding(crate::specs::Stored::IsMadeOf))]
+fn with_row(alloc: Global, tables: Gathering, kept: Record) -> Result<Stored, OutOfMemory>
+    ensures { IfOk result (λ stored. (records : List Record) → AreTablesOf records tables → IsMadeOf (records ++ kept ∷ []) stored) }
 {
-    let mut rows = Vec::with_capacity(alloc, records.len())?;
-    for kept in records {
-        let row = row_of(alloc, kept)?;
-        rows.reserve(1)?;
-        rows.push_reserved(row);
-    }
-    Ok(rows)
-}
-
-/// The row that has this record.
-fn row_of(alloc: Global, kept: Record) -> Result<Row, OpenFault>
-    ensures row { IfOk result (λ row. IsRecordOf row kept) }
-    ensures damaged { (kind : ℕ) (code : List ℕ) → result ≡ Err (OpenFault.Damaged kind code)
-        → (kept.kind ≡ kind) × (kept.code ≡ code) × IsOfNoRow kept }
-    ensures no_fault { result ≢ Err OpenFault.KeeperFault }
-{
-    match read_record(alloc, &kept) {
-        Ok(row) => Ok(row),
-        Err(RecordFault::Version) => Err(damaged(kept)),
-        Err(RecordFault::Shape) => Err(damaged(kept)),
-        Err(RecordFault::OutOfMemory) => Err(OpenFault::OutOfMemory),
+    let mut tables = tables;
+    match row_of(alloc, &kept)? {
+        Some(row) => {
+            tables.put(row)?;
+            Ok(Stored::Rows(tables))
+        }
+        None => Ok(Stored::Stranger(into_key(kept))),
     }
 }
 
-/// The fault that names this record.
-fn damaged(kept: Record) -> OpenFault
-    ensures { result ≡ OpenFault.Damaged kept.kind kept.code }
+/// The row that has this record, if one does.
+fn row_of(alloc: Global, kept: &Record) -> Result<Option<Row>, OutOfMemory>
+    ensures some { IfOk result (λ found. IfSome found (λ row. IsRecordOf row kept.now)) }
+    ensures none { IfOk result (λ found. IfNone found (IsOfNoRow kept.now)) }
 {
-    OpenFault::Damaged {
+    match read_record(alloc, kept) {
+        Ok(row) => Ok(Some(row)),
+        Err(RecordFault::Version) => Ok(None),
+        Err(RecordFault::Shape) => Ok(None),
+        Err(RecordFault::OutOfMemory) => Err(OutOfMemory),
+    }
+}
+
+/// The key of the record.
+fn into_key(kept: Record) -> Key
+    ensures { result ≡ key_of kept }
+{
+    Key {
         kind: kept.kind,
         code: kept.code,
     }

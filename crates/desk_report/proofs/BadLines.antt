@@ -2,9 +2,11 @@
 use Rattle.std.proofs.Common.{◌≡◌, ℕ, ◌+◌, List, [], ◌∷◌, ◌++◌, length, map, refl, sym, ap, ◌∙◌, subst, append_assoc, append-nil}
 use Rattle.std.specs.List.{AllByRecursion}
 use Rattle.std.proofs.lemmas.List.Concat.{flat_map-append}
+use Rattle.desk_clerk.specs.Opening.{AreTablesOf}
 use Rattle.desk_edge.specs.Content.{key_cmp, key_of}
 use Rattle.desk_edge.specs.declared.record.Record.{Record}
 use Rattle.desk_fields.specs.RowTexts.{IsRowInForm}
+use Rattle.desk_model.specs.Lists.{Lists}
 use Rattle.desk_model.specs.declared.row.Row.{Row}
 use Rattle.desk_records.specs.Records.{IsRecordOf, record_of}
 use Rattle.desk_rows.specs.Rows.{IsByKey}
@@ -29,22 +31,22 @@ pub of_rows : (rows : List Row) → AllByRecursion IsRowInForm rows → AllByRec
 of_rows [] forms = tt
 of_rows (row ∷ rows) forms = ((row, record { form = forms.0; is_written = refl }), of_rows rows forms.1)
 
--- so records in order that are those of rows in form are in order and of rows
-pub in_order : (records : List Record) (rows : List Row) → IsByKey key_of key_cmp records → records ≡ map record_of rows → AllByRecursion IsRowInForm rows → AreInOrder records
-in_order records rows by_key is forms = record { by_key = by_key; of_rows = subst (AllByRecursion (λ kept. (row : Row) × IsRecordOf row kept)) (sym is) (of_rows rows forms) }
+-- so records in order that have tables are in order and of rows
+pub in_order : (records : List Record) (tables : Lists) → IsByKey key_of key_cmp records → AreTablesOf records tables → AreInOrder records
+in_order records tables by_key are = record { by_key = by_key; of_rows = subst (AllByRecursion (λ kept. (row : Row) × IsRecordOf row kept)) (sym are.are_written) (of_rows are.rows are.forms) }
 
 last_row : (records : List Record) (kept : Record) → AllByRecursion (λ kept. (row : Row) × IsRecordOf row kept) (records ++ kept ∷ []) → (row : Row) × IsRecordOf row kept
 last_row [] kept all = all.0
 last_row (first ∷ records) kept all = last_row records kept all.1
 
 -- the line that is whole now is the first bad one
-pub bad_now : (read held : List ℕ) (records : List Record) (rows : List Row) (line : ℕ) → IsByKey key_of key_cmp records → records ≡ map record_of rows → AllByRecursion IsRowInForm rows
+pub bad_now : (read held : List ℕ) (records : List Record) (tables : Lists) (line : ℕ) → IsByKey key_of key_cmp records → AreTablesOf records tables
     → HasNoLineEnd held → read ≡ record_lines records ++ held → line ≡ length records + 1
     → ((kept : Record) (row : Row) → IsRecordOf row kept → line_of kept ≡ held ++ 10 ∷ [] → IsByKey key_of key_cmp (records ++ kept ∷ []) → ⊥)
     → HasBadLine (read ++ 10 ∷ []) line
-bad_now read held records rows line by_key is forms one_line e number none = record {
+bad_now read held records tables line by_key are one_line e number none = record {
   records = records;
-  before = in_order records rows by_key is forms;
+  before = in_order records tables by_key are;
   bad = held;
   rest = [];
   parts = ap (λ (l : List ℕ). l ++ 10 ∷ []) e;

@@ -1,7 +1,7 @@
 -- What was read is handed on.
-use Rattle.std.proofs.Common.{◌≡◌, ◌∙◌, ℕ, ◌≤◌, List, [], ◌++◌, Option, None, Ok, Err, ap, append-nil, length, subst, sym}
+use Rattle.std.proofs.Common.{◌≡◌, ◌∙◌, ℕ, ◌≤◌, List, [], ◌++◌, Option, None, Some, Ok, Err, ap, append-nil, length, subst, sym}
 use Rattle.std.specs.Io.KnownBytes.{Consumes, IsAtEnd}
-use Rattle.std.specs.Prelude.{IfNone, IfOk, Result}
+use Rattle.std.specs.Prelude.{IfNone, IfOk, IfSome, Result}
 use Rattle.desk_edge.specs.Content.{key_cmp, key_of}
 use Rattle.desk_edge.specs.declared.record.Record.{Record}
 use Rattle.desk_rows.specs.Rows.{IsByKey}
@@ -21,6 +21,10 @@ same_line a b e = cc
 -- what is known where nothing was found
 pub where_none : {X P : Type 0} (found : Option X) → found ≡ None → IfNone found P → P
 where_none {X} {P} found e h = subst (λ f. IfNone f P) e h
+
+-- and where something was
+pub where_some : {X : Type 0} (P : X → Type 0) (found : Option X) (x : X) → found ≡ Some x → IfSome found P → P x
+where_some P found x e h = subst (λ f. IfSome f P) e h
 
 pub read_good : (bytes : List ℕ) (lines : Lines) (good : GoodRead) → lines ≡ Good good → AreLinesOf bytes lines → IsReadTo bytes good
 unfolding AreLinesOf

@@ -4,6 +4,7 @@ use Rattle.std.specs.Result.{result_ok}
 use Rattle.std.specs.List.{All, AllByRecursion, join_with_byte, slice_split}
 use Rattle.desk_edge.specs.Content.{key_cmp, key_of}
 use Rattle.desk_edge.specs.declared.record.Record.{Record}
+use Rattle.desk_model.specs.Lists.{Lists}
 use Rattle.desk_model.specs.declared.row.Row.{Row}
 use Rattle.desk_records.specs.Records.{IsRecordOf}
 use Rattle.desk_rows.specs.Rows.{IsByKey}
@@ -44,10 +45,10 @@ pub record HasBadLine (bytes : List ℕ) (line : ℕ) : Type 0 where
   pub number : line ≡ length records + 1
   pub is_bad : (kept : Record) → line_of kept ≡ bad ++ 10 ∷ [] → AreInOrder (records ++ kept ∷ []) → ⊥
 
--- lines of records, the rows that have them, and the beginning of one more line
+-- lines of records, the tables that have them, and the beginning of one more line
 pub record GoodRead : Type 0 where
   pub records : List Record
-  pub rows : List Row
+  pub tables : Lists
   pub held : List ℕ
 
 -- the bytes are these lines, and the beginning of one more

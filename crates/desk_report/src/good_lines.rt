@@ -11,15 +11,15 @@ ghost use Rattle.desk_rows.specs.Rows.{IsByKey};
 use crate::next_row::next_row;
 use crate::report_fault::ReportFault;
 use desk_edge::Record;
-use desk_tables::{Row, SoundFault, Tables};
+use desk_tables::{Gathering, SoundFault};
 use desk_text::{Bytes, OutOfMemory};
 use std::alloc::Global;
 use std::marker::Model;
 
-/// Lines of rows' records, whose keys rise, and the beginning of one more.
+/// Lines of rows' records, whose keys rise, the tables that have these records, and the beginning of one more line.
 pub(crate) struct GoodLines {
     records: Vec<Record>,
-    rows: Vec<Row>,
+    tables: Gathering,
     held: Bytes,
 }
 
@@ -28,28 +28,24 @@ impl Drop for GoodLines {
     fn drop(self) {
         let GoodLines {
             records: _,
-            rows: _,
+            tables: _,
             held: _,
         } = self;
     }
 }
 
 impl Model for GoodLines {
-    ghost use Rattle.std.specs.Prelude.{◌≡◌, map};
-    ghost use Rattle.std.specs.List.{AllByRecursion};
+    ghost use Rattle.desk_clerk.specs.Opening.{AreTablesOf};
     ghost use Rattle.desk_edge.specs.Content.{key_cmp, key_of};
-    ghost use Rattle.desk_fields.specs.RowTexts.{IsRowInForm};
-    ghost use Rattle.desk_records.specs.Records.{record_of};
     ghost use Rattle.desk_report.specs.Reading.{GoodRead, HasNoLineEnd};
     ghost use Rattle.desk_rows.specs.Rows.{IsByKey};
 
     ghost Value = { GoodRead };
 
-    ghost view = { λ good. record { records = good.records.items; rows = good.rows.items; held = good.held } };
+    ghost view = { λ good. record { records = good.records.items; tables = good.tables; held = good.held } };
 
     ghost invariant = { λ good. IsByKey key_of key_cmp good.records.items
-        × (good.records.items ≡ map record_of good.rows.items)
-        × AllByRecursion IsRowInForm good.rows.items
+        × AreTablesOf good.records.items good.tables
         × HasNoLineEnd good.held };
 }
 
@@ -60,7 +56,7 @@ impl GoodLines {
     {
         GoodLines {
             records: Vec::new(alloc),
-            rows: Vec::new(alloc),
+            tables: Gathering::new(alloc),
             held: Bytes::start(alloc),
         }
     }
@@ -90,18 +86,18 @@ impl GoodLines {
     {
         let GoodLines {
             records,
-            rows,
+            tables,
             held,
         } = self;
-        let (mut records, mut rows) = (records, rows);
+        let (mut records, mut tables) = (records, tables);
         let Some((kept, row)) = next_row(alloc, records.as_slice(), held.as_slice())? else {
             return Ok(None);
         };
         records.push(kept)?;
-        rows.push(row)?;
+        tables.put(row)?;
         Ok(Some(GoodLines {
             records,
-            rows,
+            tables,
             held: Bytes::start(alloc),
         }))
     }
@@ -121,7 +117,7 @@ impl GoodLines {
     {
         let GoodLines {
             records,
-            rows,
+            tables,
             held,
         } = self;
         if !held.is_empty() {
@@ -129,7 +125,7 @@ impl GoodLines {
                 line: records.len() as u64 + 1,
             });
         }
-        let tables = Tables::gather(alloc, rows)?;
+        let tables = tables.into_tables();
         // The call does nothing but say that the lists stand in order.
         tables.in_order();
         match tables.is_sound(alloc) {

@@ -17,7 +17,8 @@ use desk_text::OutOfMemory;
 use std::alloc::Global;
 
 /// Reads the link to its end as an export file, puts its records into the store, which has none before, in one commit, and answers
-/// how many there are. An input without bytes puts nothing in. No more is held than the records, and the line that is being read.
+/// how many there are. An input without bytes puts nothing in. Held are the records, the tables that have them, and the line that is
+/// being read.
 ///
 /// The faults of the input are tried in this order. `NotEmpty`: the store has a record already, and nothing was read. `TooLong`: more
 /// than 268,435,456 bytes came; nothing past the first of them too many was read. `Damaged`: the bytes aren't the export file of any

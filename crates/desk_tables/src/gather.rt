@@ -1,7 +1,5 @@
-ghost use Rattle.std.specs.Prelude.{◌≡◌, IfOk, OnOk, length, sum_by};
-ghost use Rattle.desk_model.specs.Lists.{IsOrdered, Lists};
-ghost use Rattle.desk_model.specs.Rows.{rows_of};
-ghost use Rattle.desk_tables.specs.Gathered.{gathered, no_rows, put_in};
+ghost use Rattle.std.specs.Prelude.{◌≡◌, OnErr, OnOk, length, sum_by};
+ghost use Rattle.desk_tables.specs.Gathered.{no_rows, put_in};
 
 use crate::Tables;
 use desk_model::{
@@ -13,8 +11,9 @@ use desk_text::OutOfMemory;
 use std::alloc::Global;
 use std::marker::Model;
 
-/// Rows that are put together as tables. Contracts see the lists.
-struct Gathering {
+/// Rows that are put together as tables, one after the other, in any order. They aren't tested: `Tables::is_sound` does that. Contracts
+/// see the lists.
+pub struct Gathering {
     substances: Table<SubstanceRow>,
     members: Table<MemberRow>,
     materials: Table<MaterialRow>,
@@ -64,36 +63,9 @@ impl Model for Gathering {
     } };
 }
 
-impl Tables {
-    /// The tables with just these rows, which aren't tested yet: `Tables::is_sound` does that. Rows may come in any order; of two with
-    /// one key in a table the later is kept.
-    ///
-    /// Rows in the order of their tables and keys go in one behind the other; each other one takes a binary search and moves the rows
-    /// behind it. `OutOfMemory`: none was left for the tables.
-    pub fn gather(alloc: Global, rows: Vec<Row>) -> Result<Tables, OutOfMemory>
-        ensures lists { IfOk result (λ tables. tables.lists ≡ gathered rows.items) }
-        // The rows of tables, gathered again, are those tables.
-        ensures again { (t : Lists) → IsOrdered t → rows.items ≡ rows_of t → IfOk result (λ tables. tables.lists ≡ t) }
-    {
-        let gathering = Gathering::of(alloc, rows)?;
-        Ok(gathering.into_tables())
-    }
-}
-
 impl Gathering {
-    /// These rows and no others.
-    fn of(alloc: Global, rows: Vec<Row>) -> Result<Gathering, OutOfMemory>
-        ensures { IfOk result (λ gathering. gathering ≡ gathered rows.items) }
-    {
-        let mut gathering = Gathering::new(alloc);
-        for row in rows {
-            gathering.put(row)?;
-        }
-        Ok(gathering)
-    }
-
     /// No rows.
-    fn new(alloc: Global) -> Gathering
+    pub fn new(alloc: Global) -> Gathering
         ensures { result ≡ no_rows }
     {
         Gathering {
@@ -110,9 +82,13 @@ impl Gathering {
         }
     }
 
-    /// Puts the row in its place.
-    fn put(&mut self, row: Row) -> Result<(), OutOfMemory>
-        ensures { OnOk result (self.new ≡ put_in row self.old) }
+    /// Puts the row in its place in its table, where it replaces the one of its key, if there is one. A binary search finds the place,
+    /// and the rows behind it are moved.
+    ///
+    /// `OutOfMemory`: none was left for the row, and nothing was put in.
+    pub fn put(&mut self, row: Row) -> Result<(), OutOfMemory>
+        ensures ok { OnOk result (self.new ≡ put_in row self.old) }
+        ensures err { OnErr result (self.new ≡ self.old) }
     {
         match row {
             Row::Substance(row) => self.substances.put(row),
@@ -128,8 +104,8 @@ impl Gathering {
         }
     }
 
-    /// The tables of the rows.
-    fn into_tables(self) -> Tables
+    /// The tables with just these rows. It takes no memory.
+    pub fn into_tables(self) -> Tables
         ensures { result.lists ≡ self }
     {
         let text = text_length(self.tickets.as_slice());

@@ -1,6 +1,5 @@
 use desk_fields::read_row;
-use desk_model::Row;
-use desk_tables::{SoundFault, Tables};
+use desk_tables::{Gathering, SoundFault, Tables};
 use desk_testing::{check, expect_eq};
 use std::alloc::Global;
 use std::test::Fail;
@@ -95,26 +94,20 @@ const WHOLE: [Case; 5] = [
     ),
 ];
 
-/// Appends the row of a record.
-fn push_row(alloc: Global, rows: &mut Vec<Row>, record: &Record) -> Result<(), Fail> {
+/// Puts the row of a record in its place.
+fn put_row(alloc: Global, gathering: &mut Gathering, record: &Record) -> Result<(), Fail> {
     let (table, code, text) = *record;
     let row = read_row(alloc, table, code.as_bytes(), text.as_bytes())?;
-    Ok(rows.push(row)?)
+    Ok(gathering.put(row)?)
 }
 
-/// The rows of these records.
-fn rows_of(alloc: Global, records: &[Record], more: &[Record]) -> Result<Vec<Row>, Fail> {
-    let mut rows = Vec::new(alloc);
-    for record in records.iter().chain(more.iter()) {
-        push_row(alloc, &mut rows, record)?;
-    }
-    Ok(rows)
-}
-
-/// The tables of these rows.
+/// The tables of the rows of these records.
 fn tables_of(alloc: Global, records: &[Record], more: &[Record]) -> Result<Tables, Fail> {
-    let rows = rows_of(alloc, records, more)?;
-    Ok(Tables::gather(alloc, rows)?)
+    let mut gathering = Gathering::new(alloc);
+    for record in records.iter().chain(more.iter()) {
+        put_row(alloc, &mut gathering, record)?;
+    }
+    Ok(gathering.into_tables())
 }
 
 /// Whether the tables are told as unsound by this table and code, or as sound.

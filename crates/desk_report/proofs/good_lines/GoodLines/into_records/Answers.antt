@@ -1,7 +1,9 @@
 -- The input ends inside a line, or its records are those of the gathered tables, and of no others.
 use Rattle.std.proofs.Common.{◌∙◌, ◌+◌, ◌++◌, Err, ap, append-nil, inl, inr, subst, sym}
 use Rattle.std.proofs.lemmas.Bool.{false≢true}
+use Rattle.desk_clerk.specs.Opening.{AreTablesOf}
 use Rattle.desk_clerk.proofs.Unsound.{gathered_same, gathered_sound}
+use Rattle.desk_history.specs.Sound.{Sound}
 use Rattle.desk_report.specs.Lines.{record_lines}
 use Rattle.desk_report.specs.Reading.{IsReadTo}
 use Rattle.desk_report.proofs.BadLines.{in_order}
@@ -10,13 +12,13 @@ use Rattle.desk_report.proofs.good_lines.GoodLines.into_records.Goals as goal
 
 pub returns-then-not-is_empty-clause-damaged : goal.returns-then-not-is_empty-clause-damaged
 returns-then-not-is_empty-clause-damaged c = λ line e bytes read.
-    let (by_key, is, forms, one_line) = c.self.invariant in
+    let (by_key, are, one_line) = c.self.invariant in
     let inside = c.self.inside in
     inr
     (inl
     (record {
       records = inside.records.items;
-      before = in_order inside.records.items inside.rows.items by_key is forms;
+      before = in_order inside.records.items inside.tables by_key are;
       held = inside.held;
       parts = subst (IsReadTo bytes) (sym c.self.view_is) read;
       some = λ none. false≢true (sym c.if-not-is_empty.true ∙ c.is_empty.ensures.1 none);
@@ -26,24 +28,25 @@ returns-then-not-is_empty-clause-damaged c = λ line e bytes read.
 
 pub returns-in-Ok-clause-sound : goal.returns-in-Ok-clause-sound
 returns-in-Ok-clause-sound c =
-    let (by_key, is, forms, one_line) = c.self.invariant in
-    let lists = c.in_ok-tables.tables.lists in
-    (lists, c.in-Ok.ensures.sound, λ key. sym (gathered_same c.self.inside.records.items c.self.inside.rows.items lists by_key is forms c.in_ok-tables.ensures.lists key))
+    let (by_key, are, one_line) = c.self.invariant in
+    let inside = c.self.inside in
+    (inside.tables, subst Sound c.into_tables-tables.ensures c.in-Ok.ensures.sound, λ key. sym (gathered_same inside.records.items inside.tables by_key are key))
 
 pub returns-in-Err-Unsound-clause-damaged : goal.returns-in-Err-Unsound-clause-damaged
 returns-in-Err-Unsound-clause-damaged c = λ line e bytes read.
-    let (by_key, is, forms, one_line) = c.self.invariant in
+    let (by_key, are, one_line) = c.self.invariant in
     let inside = c.self.inside in
     let front = record_lines inside.records.items in
+    let lists = c.into_tables-tables.result.lists in
     inr
     (inr (
       sym (same_line 0 line e),
       record {
         records = inside.records.items;
-        before = in_order inside.records.items inside.rows.items by_key is forms;
+        before = in_order inside.records.items inside.tables by_key are;
         lines = subst (IsReadTo bytes) (sym c.self.view_is) read ∙ ap (λ held. front ++ held) (c.is_empty.ensures.0 c.if-not-is_empty.false) ∙ append-nil front;
         none = λ t sound same.
             c.is_sound.ensures.unsound c.in-Err-Unsound.field-0-0 c.in-Err-Unsound.field-0-1 (c.in-Err-Unsound.is ∙ ap (λ f. Err f) c.in-Err-Unsound.field-0-is)
-            (gathered_sound inside.records.items inside.rows.items c.in_ok-tables.tables.lists by_key is forms c.in_ok-tables.ensures.lists c.in_order.ensures t sound (λ key. sym (same key)));
+            (gathered_sound inside.records.items lists by_key (subst (AreTablesOf inside.records.items) (sym c.into_tables-tables.ensures) are) c.in_order.ensures t sound (λ key. sym (same key)));
       },
     ))
