@@ -1,6 +1,6 @@
 -- Sound tables have no more records than their limits allow, and each is that of a row in form.
 use Rattle.std.proofs.Common.{◌≡◌, ℕ, zero, suc, ◌+◌, ◌<◌, ◌≤◌, Bool, true, false, List, [], ◌∷◌, ◌++◌, map, length, nat_lt, refl, sym, ap, subst, ◌∙◌, Less, is_some, Some, None, inl, inr, arith, length-append}
-use Rattle.std.specs.List.{AllByRecursion, Any}
+use Rattle.std.specs.List.{AllByRecursion}
 use Rattle.std.specs.Prelude.{if◌then◌else◌, option_map, slice_index_or}
 use Rattle.std.proofs.lemmas.Bool.{cases_Bool, false≢true, ltb-false}
 use Rattle.std.proofs.lemmas.Cmp.{tied_itself}
@@ -23,7 +23,7 @@ use Rattle.desk_history.specs.Sound.{Sound}
 use Rattle.desk_records.specs.Records.{record_of, records_of, tables_content}
 use Rattle.desk_records.proofs.InForm.{all_in_form}
 use Rattle.desk_records.proofs.Moves.{none_at}
-use Rattle.desk_clerk.specs.Opening.{IsOfNoRow, content_in, record_limit}
+use Rattle.desk_clerk.specs.Opening.{HasNoRowAt, content_in, record_limit}
 use Rattle.desk_clerk.proofs.FirstRecords.{one_key}
 use Rattle.desk_clerk.proofs.PutIn.{not_above}
 
@@ -144,10 +144,10 @@ found_at (kept ∷ records) (suc place) d h within =
     (found_at records place d (rest_by_key key_of key_cmp key_order kept records h) (omega (arith, within)))
 
 -- sound tables keep no record that no row has
-pub no_stranger : (records : List Record) (t : Lists) (kind : ℕ) (code : List ℕ) → Sound t → IsByKey key_of key_cmp records → IsSame (content_in records) (tables_content t)
-    → Any (λ kept. (kept.kind ≡ kind) × (kept.code ≡ code) × IsOfNoRow kept) records → ⊥
-no_stranger records t kind code sound by_key same stranger =
-    let kept = stranger.1 in
-    let found : content_in records (key_of kept) ≡ Some kept.body = subst (λ r. content_in records (key_of r) ≡ Some r.body) stranger.3 (found_at records stranger.0 kept by_key stranger.2) in
+pub each_has_a_row : (records : List Record) (t : Lists) (kind : ℕ) (code : List ℕ) → Sound t → IsByKey key_of key_cmp records → IsSame (content_in records) (tables_content t)
+    → HasNoRowAt records kind code → ⊥
+each_has_a_row records t kind code sound by_key same lone =
+    let kept = lone.1 in
+    let found : content_in records (key_of kept) ≡ Some kept.body = subst (λ r. content_in records (key_of r) ≡ Some r.body) lone.3 (found_at records lone.0 kept by_key lone.2) in
     let row = found_row (rows_of t) kept (same (key_of kept) ∙ found) (all_in_form t sound) in
-    stranger.4.2 row.0 (record { form = row.1; is_written = row.2 })
+    lone.4.2 row.0 (record { form = row.1; is_written = row.2 })

@@ -1,6 +1,6 @@
 -- What is made of records one by one.
-use Rattle.std.proofs.Common.{◌≡◌, List, [], ◌∷◌, ◌++◌, map, ℕ, ap, refl, sym, subst, ◌∙◌, arith}
-use Rattle.std.specs.List.{AllByRecursion, Any}
+use Rattle.std.proofs.Common.{◌≡◌, List, [], ◌∷◌, ◌++◌, map, ap, refl, sym, subst, ◌∙◌, arith}
+use Rattle.std.specs.List.{AllByRecursion}
 use Rattle.std.proofs.lemmas.Grind.{common_steps}
 use Rattle.std.proofs.lemmas.List.{map-append}
 use Rattle.std.proofs.lemmas.List.Quantifiers.{Any-push}
@@ -12,11 +12,11 @@ use Rattle.desk_model.specs.Lists.{Lists}
 use Rattle.desk_model.specs.declared.row.Row.{Row}
 use Rattle.desk_tables.specs.Gathered.{no_rows, put_in}
 use Rattle.desk_tables.proofs.Gathers.{gathered_last}
-use Rattle.desk_records.specs.Records.{IsRecordOf, record_of}
-use Rattle.desk_clerk.specs.Opening.{AreTablesOf, IsOfNoRow}
+use Rattle.desk_records.specs.Records.{IsOfNoRow, IsRecordOf, record_of}
+use Rattle.desk_clerk.specs.Opening.{AreTablesOf, HasNoRowAt}
 use Rattle.desk_clerk.specs.Stored.{IsMadeOf}
 use Rattle.desk_clerk.specs.declared.stored.Stored.{Stored}
-use Rattle.desk_clerk.specs.declared.stored.Stored.TheVariants.{Rows, Stranger}
+use Rattle.desk_clerk.specs.declared.stored.Stored.TheVariants.{NoRow, Rows}
 
 -- no records have the tables without a row
 pub no_tables : AreTablesOf [] no_rows
@@ -36,17 +36,13 @@ one_table_more records lists kept row are is = record {
   are_gathered = ap (put_in row) are.are_gathered ∙ sym (gathered_last are.rows row);
 }
 
--- one of the records is that of no row, under this kind and code
-abbrev pub HasStranger : ℕ → List ℕ → List Record → Type 0
-HasStranger kind code records = Any (λ kept. (kept.kind ≡ kind) × (kept.code ≡ code) × IsOfNoRow kept) records
-
--- that is known with one record more behind
-pub stranger_later : (records : List Record) (kept : Record) (key : Key) → HasStranger key.kind key.code records → HasStranger key.kind key.code (records ++ kept ∷ [])
-stranger_later records kept key a = (a.0, a.1, grind (arith, common_steps), grind (arith, common_steps), a.4)
+-- a record that no row has is still one with one record more behind
+pub no_row_later : (records : List Record) (kept : Record) (key : Key) → HasNoRowAt records key.kind key.code → HasNoRowAt (records ++ kept ∷ []) key.kind key.code
+no_row_later records kept key a = (a.0, a.1, grind (arith, common_steps), grind (arith, common_steps), a.4)
 
 -- it may be the last one
-pub stranger_now : (records : List Record) (kept : Record) (key : Key) → key ≡ key_of kept → IsOfNoRow kept → HasStranger key.kind key.code (records ++ kept ∷ [])
-stranger_now records kept key is none =
+pub no_row_now : (records : List Record) (kept : Record) (key : Key) → key ≡ key_of kept → IsOfNoRow kept → HasNoRowAt (records ++ kept ∷ []) key.kind key.code
+no_row_now records kept key is none =
     Any-push (λ other. (other.kind ≡ key.kind) × (other.code ≡ key.code) × IsOfNoRow other) records kept (ap (λ k. k.kind) (sym is), ap (λ k. k.code) (sym is), none)
 
 -- what is made of the records, by its case
@@ -54,6 +50,6 @@ pub made_rows : (records : List Record) (stored : Stored) (tables : Lists) → s
 unfolding IsMadeOf
 made_rows records stored tables e made = subst (IsMadeOf records) e made
 
-pub made_stranger : (records : List Record) (stored : Stored) (key : Key) → stored ≡ Stranger key → IsMadeOf records stored → HasStranger key.kind key.code records
+pub made_no_row : (records : List Record) (stored : Stored) (key : Key) → stored ≡ NoRow key → IsMadeOf records stored → HasNoRowAt records key.kind key.code
 unfolding IsMadeOf
-made_stranger records stored key e made = subst (IsMadeOf records) e made
+made_no_row records stored key e made = subst (IsMadeOf records) e made

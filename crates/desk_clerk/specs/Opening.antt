@@ -12,7 +12,7 @@ use Rattle.desk_model.specs.Start.{start}
 use Rattle.desk_model.specs.declared.limits.TheConstants.{SUBSTANCE_LIMIT, MEMBER_LIMIT, MATERIAL_LIMIT, PART_LIMIT, LINE_LIMIT}
 use Rattle.desk_model.specs.declared.limits.TheConstants.{PRODUCT_LIMIT, EXEMPTION_LIMIT, CANDIDATE_LIMIT, SHIPMENT_LIMIT, TICKET_LIMIT}
 use Rattle.desk_model.specs.declared.row.Row.{Row}
-use Rattle.desk_records.specs.Records.{IsRecordOf, record_of, tables_content}
+use Rattle.desk_records.specs.Records.{IsOfNoRow, record_of, tables_content}
 use Rattle.desk_rows.specs.Rows.{IsByKey, row_of}
 use Rattle.desk_tables.specs.Gathered.{gathered}
 
@@ -46,9 +46,9 @@ pub record AreRead (content : Content) (records : List Record) : Type 0 where
   pub kept : (key : Key) → is_some (row_of key_of key_cmp key records) ≡ true → content key ≡ content_in records key
   pub all : length records ≤ record_limit → IsSame (content_in records) content
 
--- no row has this record
-abbrev pub IsOfNoRow : Record → Type 0
-IsOfNoRow kept = (row : Row) → IsRecordOf row kept → ⊥
+-- one of the records, under this key, is that of no row
+abbrev pub HasNoRowAt : List Record → ℕ → List ℕ → Type 0
+HasNoRowAt records kind code = Any (λ kept. (kept.kind ≡ kind) × (kept.code ≡ code) × IsOfNoRow kept) records
 
 -- the records are those of tables in order and in form of which this key breaks a clause of soundness
 abbrev pub IsUnsoundAt : List Record → ℕ → List ℕ → Type 0
@@ -57,7 +57,7 @@ IsUnsoundAt records kind code =
 
 -- the key is that of a record that no row has, or it breaks a clause of soundness
 abbrev pub IsDamage : List Record → ℕ → List ℕ → Type 0
-IsDamage records kind code = Any (λ kept. (kept.kind ≡ kind) × (kept.code ≡ code) × IsOfNoRow kept) records ⊎ IsUnsoundAt records kind code
+IsDamage records kind code = HasNoRowAt records kind code ⊎ IsUnsoundAt records kind code
 
 -- records that were read, in order of their keys and no more than one too many for sound tables, have this damage. Where the store tells
 -- what it keeps, they are its own

@@ -1,18 +1,18 @@
-ghost use Rattle.std.specs.Prelude.{◌≡◌, ◌≢◌, ℕ, [], ◌∷◌, ◌++◌, List, Err, IfNone, IfOk, IfSome};
-ghost use Rattle.desk_clerk.specs.Opening.{AreTablesOf, IsDamage, IsOfNoRow, content_in};
+ghost use Rattle.std.specs.Prelude.{◌≡◌, ◌≢◌, ℕ, [], ◌∷◌, ◌++◌, List, Err, IfOk};
+ghost use Rattle.desk_clerk.specs.Opening.{AreTablesOf, IsDamage, content_in};
 ghost use Rattle.desk_clerk.specs.Stored.{IsMadeOf};
 ghost use Rattle.desk_edge.specs.Content.{IsSame, key_cmp, key_of};
 ghost use Rattle.desk_edge.specs.declared.record.Record.{Record};
 ghost use Rattle.desk_history.specs.Breaches.{IsBrokenAt};
 ghost use Rattle.desk_history.specs.Sound.{Sound};
 ghost use Rattle.desk_model.specs.Lists.{IsOrdered, Lists};
-ghost use Rattle.desk_records.specs.Records.{IsRecordOf, tables_content};
+ghost use Rattle.desk_records.specs.Records.{tables_content};
 ghost use Rattle.desk_rows.specs.Rows.{IsByKey};
 
 use crate::open_fault::OpenFault;
 use desk_edge::{Key, Record};
-use desk_records::{RecordFault, read_record};
-use desk_tables::{Gathering, Row, Tables};
+use desk_records::row_of_record;
+use desk_tables::{Gathering, Tables};
 use desk_text::OutOfMemory;
 use std::alloc::Global;
 
@@ -22,7 +22,7 @@ pub(crate) enum Stored {
     /// Each record is a row's, and these are the tables of the rows.
     Rows(Gathering),
     /// A record under this key is that of no row. What follows it isn't looked at.
-    Stranger(Key),
+    NoRow(Key),
 }
 
 impl Stored {
@@ -35,13 +35,13 @@ impl Stored {
     }
 
     /// With one record more behind.
-    #[tactic(auto, using(crate::proofs::Making::stranger_later), unfolding(crate::specs::Stored::IsMadeOf))]
+    #[tactic(auto, using(crate::proofs::Making::no_row_later), unfolding(crate::specs::Stored::IsMadeOf))]
     pub(crate) fn with_record(self, alloc: Global, kept: Record) -> Result<Stored, OutOfMemory>
         ensures { IfOk result (λ stored. (records : List Record) → IsMadeOf records self → IsMadeOf (records ++ kept ∷ []) stored) }
     {
         match self {
             Stored::Rows(tables) => with_row(alloc, tables, kept),
-            Stored::Stranger(key) => Ok(Stored::Stranger(key)),
+            Stored::NoRow(key) => Ok(Stored::NoRow(key)),
         }
     }
 
@@ -62,7 +62,7 @@ impl Stored {
     {
         match self {
             Stored::Rows(gathering) => sound_tables(alloc, gathering),
-            Stored::Stranger(key) => Err(OpenFault::Damaged {
+            Stored::NoRow(key) => Err(OpenFault::Damaged {
                 kind: key.kind,
                 code: key.code,
             }),
@@ -89,30 +89,17 @@ fn sound_tables(alloc: Global, gathering: Gathering) -> Result<Tables, OpenFault
 }
 
 /// With the row that has this record, if one does.
-#[tactic(auto, using(crate::proofs::Making::one_table_more, crate::proofs::Making::stranger_now), unfolding(crate::specs::Stored::IsMadeOf))]
+#[tactic(auto, using(crate::proofs::Making::one_table_more, crate::proofs::Making::no_row_now), unfolding(crate::specs::Stored::IsMadeOf))]
 fn with_row(alloc: Global, tables: Gathering, kept: Record) -> Result<Stored, OutOfMemory>
     ensures { IfOk result (λ stored. (records : List Record) → AreTablesOf records tables → IsMadeOf (records ++ kept ∷ []) stored) }
 {
     let mut tables = tables;
-    match row_of(alloc, &kept)? {
+    match row_of_record(alloc, &kept)? {
         Some(row) => {
             tables.put(row)?;
             Ok(Stored::Rows(tables))
         }
-        None => Ok(Stored::Stranger(into_key(kept))),
-    }
-}
-
-/// The row that has this record, if one does.
-fn row_of(alloc: Global, kept: &Record) -> Result<Option<Row>, OutOfMemory>
-    ensures some { IfOk result (λ found. IfSome found (λ row. IsRecordOf row kept.now)) }
-    ensures none { IfOk result (λ found. IfNone found (IsOfNoRow kept.now)) }
-{
-    match read_record(alloc, kept) {
-        Ok(row) => Ok(Some(row)),
-        Err(RecordFault::Version) => Ok(None),
-        Err(RecordFault::Shape) => Ok(None),
-        Err(RecordFault::OutOfMemory) => Err(OutOfMemory),
+        None => Ok(Stored::NoRow(into_key(kept))),
     }
 }
 

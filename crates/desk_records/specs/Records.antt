@@ -17,6 +17,10 @@ pub record IsRecordOf (row : Row) (kept : Record) : Type 0 where
   pub form : IsRowInForm row
   pub is_written : kept ≡ record_of row
 
+-- no row has this record
+abbrev pub IsOfNoRow : Record → Type 0
+IsOfNoRow kept = (row : Row) → IsRecordOf row kept → ⊥
+
 -- the records of the tables, table after table, and those of each in the order of its key
 abbrev pub records_of : Lists → List Record
 records_of t = map record_of (rows_of t)

@@ -9,6 +9,6 @@ mod table_row;
 
 pub use desk_fields::RowFault as RecordFault;
 pub use plan_records::changes;
-pub use row_record::{read_record, write_record};
+pub use row_record::{read_record, row_of_record, write_record};
 pub use table_records::{record_of_row, records_of};
 pub use table_row::TableRow;

@@ -1,8 +1,8 @@
-ghost use Rattle.std.specs.Prelude.{◌≡◌, Err, IfOk};
+ghost use Rattle.std.specs.Prelude.{◌≡◌, Err, IfNone, IfOk, IfSome};
 ghost use Rattle.desk_fields.specs.RowTexts.{HasVersion};
 ghost use Rattle.desk_model.specs.declared.row.Row.{Row};
 ghost use Rattle.desk_model.specs.Rows.{table_number};
-ghost use Rattle.desk_records.specs.Records.{IsRecordOf, record_of};
+ghost use Rattle.desk_records.specs.Records.{IsOfNoRow, IsRecordOf, record_of};
 
 use crate::RecordFault;
 use desk_edge::Record;
@@ -59,4 +59,19 @@ pub fn read_record(alloc: Global, kept: &Record) -> Result<Row, RecordFault>
     ensures shape { result ≡ Err RecordFault.Shape → (row : Row) → IsRecordOf row kept.now → ⊥ }
 {
     read_row(alloc, kept.kind, kept.code.as_slice(), kept.body.as_slice())
+}
+
+/// The row that has this record, if one does. It is for callers to whom it doesn't matter why no row has it.
+///
+/// `OutOfMemory`: there was no memory to read it.
+pub fn row_of_record(alloc: Global, kept: &Record) -> Result<Option<Row>, OutOfMemory>
+    ensures some { IfOk result (λ found. IfSome found (λ row. IsRecordOf row kept.now)) }
+    ensures none { IfOk result (λ found. IfNone found (IsOfNoRow kept.now)) }
+{
+    match read_record(alloc, kept) {
+        Ok(row) => Ok(Some(row)),
+        Err(RecordFault::Version) => Ok(None),
+        Err(RecordFault::Shape) => Ok(None),
+        Err(RecordFault::OutOfMemory) => Err(OutOfMemory),
+    }
 }

@@ -8,7 +8,7 @@ ghost use Rattle.desk_rows.specs.Rows.{IsByKey};
 
 use crate::fields::record_in;
 use desk_edge::Record;
-use desk_records::{RecordFault, read_record};
+use desk_records::row_of_record;
 use desk_rows::Keyed;
 use desk_tables::Row;
 use desk_text::OutOfMemory;
@@ -33,19 +33,9 @@ pub(crate) fn next_row(
     if !follows(records, &kept) {
         return Ok(None);
     }
-    row_of(alloc, kept)
-}
-
-/// The record with the row that has it, if a row does.
-fn row_of(alloc: Global, kept: Record) -> Result<Option<(Record, Row)>, OutOfMemory>
-    ensures some { IfOk result (λ found. IfSome found (λ next. (next.0 ≡ kept) × IsRecordOf next.1 kept)) }
-    ensures none { IfOk result (λ found. IfNone found ((row : Row) → IsRecordOf row kept → ⊥)) }
-{
-    match read_record(alloc, &kept) {
-        Ok(row) => Ok(Some((kept, row))),
-        Err(RecordFault::Version) => Ok(None),
-        Err(RecordFault::Shape) => Ok(None),
-        Err(RecordFault::OutOfMemory) => Err(OutOfMemory),
+    match row_of_record(alloc, &kept)? {
+        Some(row) => Ok(Some((kept, row))),
+        None => Ok(None),
     }
 }
 

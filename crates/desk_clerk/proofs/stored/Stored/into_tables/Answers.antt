@@ -6,9 +6,9 @@ use Rattle.desk_clerk.specs.declared.open_fault.OpenFault.TheVariants.{Damaged}
 use Rattle.desk_edge.specs.Content.{IsSame}
 use Rattle.desk_records.specs.Records.{tables_content}
 use Rattle.desk_records.proofs.Planned.{if_ok}
-use Rattle.desk_clerk.specs.Opening.{content_in}
-use Rattle.desk_clerk.proofs.Few.{no_stranger}
-use Rattle.desk_clerk.proofs.Making.{HasStranger, made_rows, made_stranger}
+use Rattle.desk_clerk.specs.Opening.{HasNoRowAt, content_in}
+use Rattle.desk_clerk.proofs.Few.{each_has_a_row}
+use Rattle.desk_clerk.proofs.Making.{made_no_row, made_rows}
 use Rattle.desk_clerk.proofs.Unsound.{gathered_rows, gathered_same, gathered_sound}
 use Rattle.desk_clerk.proofs.stored.Stored.into_tables.Goals as goal
 
@@ -39,13 +39,13 @@ returns-in-Rows-clause-not_sound c = λ kind code e records by_key made t sound 
     let are = made_rows records c.args.self tables c.in-Rows.is made in
     c.sound_tables.ensures.not_sound kind code e (gathered_sound records tables by_key are (c.sound_tables.ensures.damage kind code e).0 t sound same)
 
-pub returns-in-Stranger-clause-damage : goal.returns-in-Stranger-clause-damage
-returns-in-Stranger-clause-damage c = λ kind code e records by_key made.
-    let key = c.in-Stranger.key in
-    let here = made_stranger records c.args.self key c.in-Stranger.is made in
-    inl (subst (λ x. HasStranger kind x records) (same_code key.kind kind key.code code e) (subst (λ k. HasStranger k key.code records) (same_kind key.kind kind key.code code e) here))
+pub returns-in-NoRow-clause-damage : goal.returns-in-NoRow-clause-damage
+returns-in-NoRow-clause-damage c = λ kind code e records by_key made.
+    let key = c.in-NoRow.key in
+    let here = made_no_row records c.args.self key c.in-NoRow.is made in
+    inl (subst (λ x. HasNoRowAt records kind x) (same_code key.kind kind key.code code e) (subst (λ k. HasNoRowAt records k key.code) (same_kind key.kind kind key.code code e) here))
 
-pub returns-in-Stranger-clause-not_sound : goal.returns-in-Stranger-clause-not_sound
-returns-in-Stranger-clause-not_sound c = λ kind code e records by_key made t sound same.
-    let key = c.in-Stranger.key in
-    no_stranger records t key.kind key.code sound by_key same (made_stranger records c.args.self key c.in-Stranger.is made)
+pub returns-in-NoRow-clause-not_sound : goal.returns-in-NoRow-clause-not_sound
+returns-in-NoRow-clause-not_sound c = λ kind code e records by_key made t sound same.
+    let key = c.in-NoRow.key in
+    each_has_a_row records t key.kind key.code sound by_key same (made_no_row records c.args.self key c.in-NoRow.is made)

@@ -5,7 +5,7 @@ use Rattle.desk_fields.specs.RowTexts.{HasVersion}
 use Rattle.desk_fields.proofs.RowLaws.{has_version}
 use Rattle.desk_model.specs.declared.row.Row.{Row}
 use Rattle.desk_records.specs.Records.{IsRecordOf}
-use Rattle.desk_clerk.proofs.stored.row_of.Goals as goal
+use Rattle.desk_records.proofs.row_record.row_of_record.Goals as goal
 
 of_version : (kept : Record) (row : Row) → IsRecordOf row kept → HasVersion kept.body
 of_version kept row is =
