@@ -14,7 +14,11 @@ use std::rt::HostRuntime;
 /// How many pages of the file are kept in memory, 4,096 bytes each. The room for them is taken as the file is opened, however small it is.
 ///
 /// Records are read and written in the order of their keys, so few pages serve as well as many. The library's own choice is 2,000.
-const CACHE_PAGES: usize = 256;
+const CACHE_PAGES: usize = 64;
+
+/// How many written pages are kept in memory until they go to the log, where they count for nothing before the commit. The library's own
+/// choice is 2,000, which is more than an import of a large desk writes.
+const SPILL_PAGES: usize = 64;
 
 /// A store in a file that was found by its path.
 ///
@@ -83,6 +87,7 @@ fn options(rt: &HostRuntime) -> Result<Options, KeepFault> {
     };
     let mut options = Options::new(state.hash_one(&0u8));
     options.cache_pages = CACHE_PAGES;
+    options.spill_pages = SPILL_PAGES;
     Ok(options)
 }
 
