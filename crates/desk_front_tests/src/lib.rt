@@ -1,6 +1,10 @@
-//! The tests of `desk_front`, through what it gives to others. They are a crate of their own, so that a check proves
-//! the library once.
+//! The tests of requests, replies and connections: `desk_http` and `desk_front`, each through what it gives to
+//! others. The files of a crate begin with its name.
 #![tactic(auto)]
 
 #[cfg(test)]
-mod tests;
+mod front;
+#[cfg(test)]
+mod http;
+#[cfg(test)]
+mod http_route;

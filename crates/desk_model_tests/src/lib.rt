@@ -1,14 +1,25 @@
-//! The tests of `desk_model`, through what it gives to others. They are a crate of their own, so that a check proves
-//! the library once.
+//! The tests of the model, of what is read into it, and of what a bill comes to: `desk_model`, `desk_fields`,
+//! `desk_edits`, `desk_declare` and `desk_totals`, each through what it gives to others. The files of a crate begin
+//! with its name.
 #![tactic(auto)]
 
 #[cfg(test)]
-mod copy;
+mod declare;
 #[cfg(test)]
-mod helpers;
+mod edits;
 #[cfg(test)]
-mod refusal;
+mod fields;
 #[cfg(test)]
-mod tests;
+mod fields_row;
 #[cfg(test)]
-mod text;
+mod model;
+#[cfg(test)]
+mod model_copy;
+#[cfg(test)]
+mod model_helpers;
+#[cfg(test)]
+mod model_refusal;
+#[cfg(test)]
+mod model_text;
+#[cfg(test)]
+mod totals;

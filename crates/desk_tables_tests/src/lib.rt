@@ -1,8 +1,29 @@
-//! The tests of `desk_tables`, through what it gives to others. They are a crate of their own, so that a check proves
-//! the library once.
+//! The tests of the tables, and of what answers from them, keeps them and fills them: `desk_tables`, `desk_scratch`,
+//! `desk_records`, `desk_clerk`, `desk_report` and `desk_sample`, each through what it gives to others. The files of a
+//! crate begin with its name.
 #![tactic(auto)]
 
 #[cfg(test)]
-mod edits;
+mod clerk;
 #[cfg(test)]
-mod sound;
+mod records;
+#[cfg(test)]
+mod report_export;
+#[cfg(test)]
+mod report_import;
+#[cfg(test)]
+mod report_outside;
+#[cfg(test)]
+mod sample;
+#[cfg(test)]
+mod scratch;
+#[cfg(test)]
+mod scratch_bill;
+#[cfg(test)]
+mod scratch_gateway;
+#[cfg(test)]
+mod scratch_steps;
+#[cfg(test)]
+mod tables_edits;
+#[cfg(test)]
+mod tables_sound;

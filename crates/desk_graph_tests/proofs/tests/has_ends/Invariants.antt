@@ -1,4 +1,0 @@
-use Rattle.desk_graph_tests.proofs.tests.has_ends.Given as goal
-
-abbrev pub ghosts-both_ends : goal.ghosts-both_ends
-ghosts-both_ends a = record { name = a.blank.name; parts = a.blank.parts }

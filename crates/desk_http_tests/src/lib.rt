@@ -1,8 +1,0 @@
-//! The tests of `desk_http`, through what it gives to others. They are a crate of their own, so that a check proves
-//! the library once.
-#![tactic(auto)]
-
-#[cfg(test)]
-mod route;
-#[cfg(test)]
-mod tests;

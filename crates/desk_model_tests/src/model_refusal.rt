@@ -1,0 +1,67 @@
+use crate::model_helpers::code;
+use desk_model::{Codes, RuleFault};
+use desk_testing::expect_eq;
+use std::alloc::Global;
+use std::test::Fail;
+
+/// Fails unless a fault has these words.
+fn is_told(alloc: Global, fault: RuleFault, words: &str) -> Result<(), Fail> {
+    let told = fault.to_string(alloc)?;
+    expect_eq(&told.as_str(), &words)
+}
+
+/// Fails unless a fault of each form has its words.
+fn are_told(alloc: Global) -> Result<(), Fail> {
+    let (a, b) = (code("A-1")?, code("b.2")?);
+    is_told(alloc, RuleFault::TicketReused, "ticket-reused")?;
+    let fault = RuleFault::UnknownSubstance { code: a };
+    is_told(alloc, fault, "unknown-substance A-1")?;
+    let fault = RuleFault::NoSuchLine {
+        parent: a,
+        child: b,
+    };
+    is_told(alloc, fault, "no-such-line A-1 b.2")?;
+    let fault = RuleFault::ForeignMaterial {
+        material: b,
+        supplier: a,
+    };
+    is_told(alloc, fault, "foreign-material b.2 A-1")?;
+    let fault = RuleFault::StaleDeclaration {
+        material: a,
+        kept: 7,
+    };
+    is_told(alloc, fault, "stale-declaration A-1 7")?;
+    let fault = RuleFault::ShipBelowZero { kept: 0 };
+    is_told(alloc, fault, "ship-below-zero 0")?;
+    let fault = RuleFault::YearTooLarge { year: 2024 };
+    is_told(alloc, fault, "year-too-large 2024")
+}
+
+#[test]
+fn a_refusal_is_told_by_its_words_and_codes(rt: HostRuntime) -> Result<(), Fail> {
+    are_told(rt.alloc())
+}
+
+/// Tables, and the words of each where it is full.
+const FULL: [(u8, &str); 4] = [
+    (1, "table-full substances"),
+    (5, "table-full lines"),
+    (10, "table-full tickets"),
+    (11, "table-full lines-of-parent"),
+];
+
+#[test]
+fn a_full_table_is_told_by_name(rt: HostRuntime) -> Result<(), Fail> {
+    for (table, words) in &FULL {
+        is_told(rt.alloc(), RuleFault::TableFull { table: *table }, words)?;
+    }
+    Ok(())
+}
+
+#[test]
+fn a_closed_cycle_is_told_with_its_chain(rt: HostRuntime) -> Result<(), Fail> {
+    let chain = [code("X")?, code("Y")?, code("Z")?];
+    let chain = Codes::new(chain.to_vec(rt.alloc())?);
+    let fault = RuleFault::ClosesCycle { chain };
+    is_told(rt.alloc(), fault, "closes-cycle X Y Z")
+}

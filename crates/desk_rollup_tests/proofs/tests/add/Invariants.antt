@@ -1,4 +1,0 @@
-use Rattle.desk_rollup_tests.proofs.tests.add.Given as goal
-
-abbrev pub ghosts-enter : goal.ghosts-enter
-ghosts-enter a = record { name = a.blank.name; parts = a.blank.parts }

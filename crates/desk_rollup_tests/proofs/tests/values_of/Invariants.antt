@@ -1,4 +1,0 @@
-use Rattle.desk_rollup_tests.proofs.tests.values_of.Given as goal
-
-abbrev pub ghosts-values_in : goal.ghosts-values_in
-ghosts-values_in a = record { name = a.blank.name; parts = a.blank.parts }
