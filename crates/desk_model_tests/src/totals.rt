@@ -2,6 +2,7 @@ ghost use Rattle.std.specs.Prelude.{◌≡◌, ◌<◌, true, IfOk};
 ghost use Rattle.std.specs.List.{All, list_all};
 ghost use Rattle.desk_totals.specs.Linked.{are_distinct, has_ends_in, is_among};
 
+use crate::model_helpers::code;
 use desk_model::{Codes, LineRow};
 use desk_testing::expect_eq;
 use desk_text::Code;
@@ -60,11 +61,6 @@ fn bill_of(
         return Err(Fail::new("too many materials"));
     }
     Ok(Links::new(alloc, nodes, material_count, lines)?)
-}
-
-/// The code of a word.
-fn code(word: &str) -> Result<Code, Fail> {
-    Ok(Code::read(word.as_bytes())?)
 }
 
 /// The codes of these words.

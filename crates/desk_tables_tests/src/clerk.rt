@@ -1,9 +1,8 @@
+use crate::helpers::{edit_of, open, tabbed};
 use desk_clerk::{Accepted, Clerk, OpenFault, OpenRefused, SubmitFault};
 use desk_edge::{Change, Keeper, MapKeeper, Record};
-use desk_fields::read_edit_text;
-use desk_model::Edit;
 use desk_testing::{check, expect_eq};
-use desk_text::{Bytes, OutOfMemory};
+use desk_text::OutOfMemory;
 use std::alloc::Global;
 use std::fmt::Debug;
 use std::sync::Wait;
@@ -85,22 +84,12 @@ const EDITS: &[Sent] = &[
     (19, "E:t18", "unship|GATEWAY|2023|5"),
 ];
 
-/// The text with TAB for each `|`.
-fn bytes(alloc: Global, text: &str) -> Result<Bytes, OutOfMemory> {
-    let mut bytes = Bytes::start(alloc);
-    for &byte in text.as_bytes() {
-        let own = if byte == b'|' { b'\t' } else { byte };
-        bytes.push_all(&[own])?;
-    }
-    Ok(bytes)
-}
-
 fn put(alloc: Global, told: Told) -> Result<Change, OutOfMemory> {
     let (kind, code, body) = told;
     Ok(Change::Put(Record {
         kind,
-        code: bytes(alloc, code)?,
-        body: bytes(alloc, body)?,
+        code: tabbed(alloc, code)?,
+        body: tabbed(alloc, body)?,
     }))
 }
 
@@ -114,15 +103,6 @@ fn store(alloc: Global, records: &[Told], failing: &[u64]) -> Result<MapKeeper, 
     }
     keeper.commit(alloc, batch.as_slice())?;
     Ok(keeper)
-}
-
-/// What the opening of the keeper's desk answers. It has no clause, so that the proof of a step doesn't carry what the desk is.
-fn open<R: Wait + Sync, K: Keeper + Drop>(
-    rt: &R,
-    alloc: Global,
-    keeper: K,
-) -> Result<Clerk<K>, OpenRefused<K>> {
-    Clerk::open(rt, alloc, keeper)
 }
 
 /// Whether a desk isn't opened, and damage is told by this key.
@@ -192,12 +172,6 @@ fn a_store_in_another_order_is_opened(rt: HostRuntime) -> Result<(), Fail> {
     counts_first(&rt, rt.alloc(), keeper, 1)
 }
 
-/// The edit of this text.
-fn edit_of(alloc: Global, sent: &Sent) -> Result<Edit, Fail> {
-    let text = bytes(alloc, sent.2)?;
-    Ok(read_edit_text(alloc, sent.1.as_bytes(), text.as_slice())?)
-}
-
 /// Whether an edit got this number, or none as the keeper failed.
 fn is_answer(answer: &Result<Accepted, SubmitFault>, number: Option<u64>) -> bool {
     match answer {
@@ -215,7 +189,7 @@ fn gets<R: Wait + Sync, K: Keeper>(
     sent: &Sent,
     number: Option<u64>,
 ) -> Result<(), Fail> {
-    let edit = edit_of(alloc, sent)?;
+    let edit = edit_of(alloc, sent.1, sent.2)?;
     let gets = is_answer(&clerk.submit(rt, alloc, edit), number);
     check(gets, "an edit gets another answer")
 }

@@ -1,7 +1,7 @@
 ghost use Rattle.desk_history.specs.Sound.{Sound};
 
+use crate::helpers::{edit_of, tabbed};
 use desk_edge::{Change, Record};
-use desk_fields::read_edit_text;
 use desk_model::{Edit, Row};
 use desk_records::{RecordFault, changes, read_record, records_of, write_record};
 use desk_tables::Tables;
@@ -48,16 +48,6 @@ const OTHERS: [Told; 10] = [
     (9, "02024/RADIO", "1|1000"),
     (10, "E:t1", "1|01|line|RADIO|FRAME|4"),
 ];
-
-/// The bytes of the text with a TAB in the place of each `|`.
-fn tabbed(alloc: Global, fields: &str) -> Result<Bytes, OutOfMemory> {
-    let mut bytes = Bytes::start(alloc);
-    for &byte in fields.as_bytes() {
-        let own = if byte == b'|' { b'\t' } else { byte };
-        bytes.push_all(&[own])?;
-    }
-    Ok(bytes)
-}
 
 /// The record of a kind, a code and a body.
 fn record(alloc: Global, told: &Told) -> Result<Record, OutOfMemory> {
@@ -222,12 +212,6 @@ fn told(alloc: Global, changes: &[Change]) -> Result<Bytes, OutOfMemory> {
         push_change(alloc, &mut told, change)?;
     }
     Ok(told)
-}
-
-/// The edit of this ticket's code and text, with its fields set apart by `|`.
-fn edit_of(alloc: Global, code: &str, fields: &str) -> Result<Edit, Fail> {
-    let text = tabbed(alloc, fields)?;
-    Ok(read_edit_text(alloc, code.as_bytes(), text.as_slice())?)
 }
 
 /// What the edit changes.

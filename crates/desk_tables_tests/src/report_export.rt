@@ -1,5 +1,6 @@
-use crate::report_outside::{DESK, answer_to_export, bytes, imports, link, store};
-use desk_clerk::{Clerk, OpenRefused};
+use crate::helpers::{open, tabbed};
+use crate::report_outside::{DESK, answer_to_export, imports, link, store};
+use desk_clerk::Clerk;
 use desk_edge::{Keeper, Link, MapKeeper, MemoryLink};
 use desk_report::ReportFault;
 use desk_tables::Tables;
@@ -39,15 +40,6 @@ fn imported(alloc: Global) -> Result<MapKeeper, Fail> {
     let mut keeper = store(alloc, &[])?;
     imports(&mut keeper, alloc, DESK, &[], Ok(16))?;
     Ok(keeper)
-}
-
-/// What the opening of the keeper's desk answers. It has no clause, so that the proof of a step doesn't carry what the desk is.
-fn open<R: Wait + Sync, K: Keeper + Drop>(
-    rt: &R,
-    alloc: Global,
-    keeper: K,
-) -> Result<Clerk<K>, OpenRefused<K>> {
-    Clerk::open(rt, alloc, keeper)
 }
 
 /// What an export of the clerk's desk to the link answers. It has no clause either.
@@ -92,7 +84,7 @@ fn the_start_tables_are_twenty_lines(rt: HostRuntime) -> Result<(), Fail> {
 
 /// Fails unless these are the lines of the small desk.
 fn are_of_desk(alloc: Global, written: &[u8]) -> Result<(), Fail> {
-    let desk = bytes(alloc, DESK)?;
+    let desk = tabbed(alloc, DESK)?;
     check(written == desk.as_slice(), "other lines")
 }
 

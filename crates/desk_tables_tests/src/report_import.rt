@@ -1,6 +1,7 @@
 ghost use Rattle.std.specs.Prelude.{None, Option};
 
-use crate::report_outside::{DESK, answer_to_import, bytes, imports, store};
+use crate::helpers::tabbed;
+use crate::report_outside::{DESK, answer_to_import, imports, store};
 use desk_edge::{Change, Failed, Keeper, Link, Record};
 use desk_report::ReportFault;
 use desk_testing::expect_eq;
@@ -78,8 +79,8 @@ fn the_first_damaged_line_is_told(rt: HostRuntime) -> Result<(), Fail> {
 
 /// Puts one record into the keeper.
 fn put_one<K: Keeper>(keeper: &mut K, alloc: Global) -> Result<(), Fail> {
-    let code = bytes(alloc, "lead")?;
-    let body = bytes(alloc, "1|Lead|7439-92-1")?;
+    let code = tabbed(alloc, "lead")?;
+    let body = tabbed(alloc, "1|Lead|7439-92-1")?;
     let change = Change::Put(Record {
         kind: 1,
         code,

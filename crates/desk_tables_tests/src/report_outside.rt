@@ -1,10 +1,10 @@
 ghost use Rattle.desk_history.specs.Sound.{Sound};
 
+use crate::helpers::tabbed;
 use desk_edge::{Keeper, Link, MapKeeper, MemoryLink};
 use desk_report::{ReportFault, export, import};
 use desk_tables::Tables;
 use desk_testing::expect_eq;
-use desk_text::{Bytes, OutOfMemory};
 use std::alloc::Global;
 use std::test::Fail;
 
@@ -16,16 +16,6 @@ pub(crate) const DESK: &str =
     4|B|1|article|Pin\n5|A.1/B|1|2\n5|A/B|1|1\n5|B/SOLDER|1|4\n6|A|1|3\n8|lead|1|2018-06-27\n9|2024/A|1|5\n\
     10|D:ACME:7|1|2|declare|ACME|7|2024-01-23|1|SOLDER|Solder|1000000|1|lead|1000|0\n\
     10|E:t1|1|1|line|A|B|1\n";
-
-/// The text with TAB for each `|`.
-pub(crate) fn bytes(alloc: Global, text: &str) -> Result<Bytes, OutOfMemory> {
-    let mut bytes = Bytes::start(alloc);
-    for &byte in text.as_bytes() {
-        let own = if byte == b'|' { b'\t' } else { byte };
-        bytes.push_all(&[own])?;
-    }
-    Ok(bytes)
-}
 
 /// A store whose calls of these numbers fail. Its first call put nothing in.
 pub(crate) fn store(alloc: Global, failing: &[u64]) -> Result<MapKeeper, Fail> {
@@ -42,7 +32,7 @@ pub(crate) fn link(
     room: usize,
     failing: &[u64],
 ) -> Result<MemoryLink, Fail> {
-    let input = bytes(alloc, input)?;
+    let input = tabbed(alloc, input)?;
     Ok(MemoryLink::new(alloc, input, 7, room, failing.to_vec(alloc)?)?)
 }
 

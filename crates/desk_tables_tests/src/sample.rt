@@ -1,5 +1,6 @@
 ghost use Rattle.std.specs.Prelude.{◌≤◌};
 
+use crate::helpers::tabbed;
 use desk_model::Edit;
 use desk_sample::sample;
 use desk_tables::Tables;
@@ -29,16 +30,6 @@ fn told_sample(alloc: Global, n: u64) -> Result<Bytes, Fail>
     Ok(told(alloc, edits.as_slice())?)
 }
 
-/// The text with TAB for each `|`.
-fn bytes(alloc: Global, text: &str) -> Result<Bytes, OutOfMemory> {
-    let mut bytes = Bytes::start(alloc);
-    for &byte in text.as_bytes() {
-        let own = if byte == b'|' { b'\t' } else { byte };
-        bytes.push_all(&[own])?;
-    }
-    Ok(bytes)
-}
-
 /// The edits of the sample of one.
 const OF_ONE: &str =
     "D:S1:1 declare|S1|1|2024-01-15|1|M0001|Material|1000001|2|cadmium|11|lead|37|0\n\
@@ -49,7 +40,7 @@ const OF_ONE: &str =
 #[test]
 fn the_sample_of_one_is_nine_edits(rt: HostRuntime) -> Result<(), Fail> {
     let told = told_sample(rt.alloc(), 1)?;
-    let wanted = bytes(rt.alloc(), OF_ONE)?;
+    let wanted = tabbed(rt.alloc(), OF_ONE)?;
     expect_eq(&told, &wanted)
 }
 

@@ -1,6 +1,7 @@
 ghost use Rattle.desk_history.specs.Sound.{Sound};
 
-use crate::scratch_steps::{Sent, askable, code, edit_of, is_text};
+use crate::helpers::edit_of;
+use crate::scratch_steps::{Sent, askable, code, is_text};
 use desk_law::{Kind, KindOnDay};
 use desk_model::{Declaration, Edit};
 use desk_scratch::{AskFault, check_text};
@@ -39,7 +40,7 @@ fn a_material_is_judged_for_each_rule(rt: HostRuntime) -> Result<(), Fail> {
 fn judges(alloc: Global, tables: &Tables) -> Result<(), Fail>
     requires { Sound tables.now.lists }
 {
-    match &edit_of(alloc, &PASTE)? {
+    match &edit_of(alloc, PASTE.0, PASTE.1)? {
         Edit::Declare { declaration } => judges_so(alloc, tables, declaration),
         _ => Err(Fail::new("no declaration")),
     }

@@ -5,13 +5,12 @@ ghost use Rattle.desk_text.specs.Day.{is_askable};
 ghost use Rattle.desk_history.specs.Sound.{Sound};
 ghost use Rattle.desk_scratch.specs.Questions.{is_question_in_range};
 
-use desk_fields::read_edit_text;
+use crate::helpers::edit_of;
 use desk_law::Kind;
-use desk_model::Edit;
 use desk_scratch::{Question, answer_plain};
 use desk_tables::Tables;
 use desk_testing::{bytes, expect_eq};
-use desk_text::{Bytes, Code, Day, OutOfMemory};
+use desk_text::{Bytes, Code, Day};
 use std::alloc::Global;
 use std::test::Fail;
 
@@ -33,29 +32,13 @@ pub(crate) fn askable(text: &str) -> Result<Day, Fail>
     Err(Fail::new("no day to ask about"))
 }
 
-/// The text with TAB for each `|`.
-fn tabbed(alloc: Global, text: &str) -> Result<Bytes, OutOfMemory> {
-    let mut tabbed = Bytes::start(alloc);
-    for &byte in text.as_bytes() {
-        let own = if byte == b'|' { b'\t' } else { byte };
-        tabbed.push_all(&[own])?;
-    }
-    Ok(tabbed)
-}
-
-/// The edit of this ticket's code and text.
-pub(crate) fn edit_of(alloc: Global, sent: &Sent) -> Result<Edit, Fail> {
-    let text = tabbed(alloc, sent.1)?;
-    Ok(read_edit_text(alloc, sent.0.as_bytes(), text.as_slice())?)
-}
-
 /// Makes these edits one after the other, each of which has to be accepted.
 fn enter(alloc: Global, tables: &mut Tables, edits: &[Sent]) -> Result<(), Fail>
     requires { Sound tables.old.lists }
     ensures { Sound tables.new.lists }
 {
     for sent in edits {
-        tables.accept(alloc, edit_of(alloc, sent)?)?;
+        tables.accept(alloc, edit_of(alloc, sent.0, sent.1)?)?;
     }
     Ok(())
 }

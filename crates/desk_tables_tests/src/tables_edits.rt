@@ -1,10 +1,9 @@
 ghost use Rattle.desk_history.specs.Sound.{Sound};
 
-use desk_fields::read_edit_text;
-use desk_model::Edit;
+use crate::helpers::edit_of;
 use desk_tables::{EditFault, Tables};
 use desk_testing::expect_eq;
-use std::alloc::{AllocError, Global};
+use std::alloc::Global;
 use std::test::Fail;
 
 /// The code of an edit's ticket, its text with `|` between its fields, and what is told of it.
@@ -62,21 +61,6 @@ const DECLARED: &str = "declare|ACME|7|2024-01-23|1|SOLDER|Paste|1000|1|lead|10|
 
 /// Another declaration under the same ticket.
 const OTHER: &str = "declare|ACME|7|2024-01-23|1|SOLDER|Paste|1000|1|lead|9|0";
-
-/// The text with a TAB in the place of each `|`.
-fn tabbed(alloc: Global, fields: &str) -> Result<Vec<u8>, AllocError> {
-    let mut text = Vec::new(alloc);
-    for &byte in fields.as_bytes() {
-        text.push(if byte == b'|' { b'\t' } else { byte })?;
-    }
-    Ok(text)
-}
-
-/// The edit of this code of a ticket and this text.
-fn edit_of(alloc: Global, code: &str, fields: &str) -> Result<Edit, Fail> {
-    let text = tabbed(alloc, fields)?;
-    Ok(read_edit_text(alloc, code.as_bytes(), &text)?)
-}
 
 /// The words of an edit's number or of its refusal.
 fn words_of(alloc: Global, accepted: Result<u64, EditFault>) -> Result<String, Fail> {
