@@ -1,5 +1,5 @@
-//! The tests of requests, replies and connections: `desk_http` and `desk_front`, each through what it gives to
-//! others. The files of a crate begin with its name.
+//! The tests of requests, replies and connections: `desk_http` and `desk_front`, each through what it
+//! gives to others. The files of a crate begin with its name.
 #![tactic(auto)]
 
 #[cfg(test)]

@@ -1,6 +1,6 @@
-//! The tests of the crates that know nothing of the ten tables: `desk_text`, `desk_law`, `desk_rows`, `desk_edge`,
-//! `desk_graph`, `desk_rollup`, `desk_tonnage` and `desk_words`, each through what it gives to others. The files of a
-//! crate begin with its name.
+//! The tests of the crates that know nothing of the ten tables: `desk_text`, `desk_law`, `desk_rows`,
+//! `desk_edge`, `desk_graph`, `desk_rollup`, `desk_tonnage` and `desk_words`, each through what it gives
+//! to others. The files of a crate begin with its name.
 #![tactic(auto)]
 
 #[cfg(test)]

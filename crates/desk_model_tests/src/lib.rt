@@ -1,6 +1,6 @@
-//! The tests of the model, of what is read into it, and of what a bill comes to: `desk_model`, `desk_fields`,
-//! `desk_edits`, `desk_declare` and `desk_totals`, each through what it gives to others. The files of a crate begin
-//! with its name.
+//! The tests of the model, of what is read into it, and of what a bill comes to: `desk_model`,
+//! `desk_fields`, `desk_edits`, `desk_declare` and `desk_totals`, each through what it gives to others.
+//! The files of a crate begin with its name.
 #![tactic(auto)]
 
 #[cfg(test)]

@@ -1,6 +1,6 @@
-//! The tests of the tables, and of what answers from them, keeps them and fills them: `desk_tables`, `desk_scratch`,
-//! `desk_records`, `desk_clerk`, `desk_report` and `desk_sample`, each through what it gives to others. The files of a
-//! crate begin with its name; what they share stands in `helpers`.
+//! The tests of the tables, and of what answers from them, keeps them and fills them: `desk_tables`,
+//! `desk_scratch`, `desk_records`, `desk_clerk`, `desk_report` and `desk_sample`, each through what it
+//! gives to others. The files of a crate begin with its name; what they share stands in `helpers`.
 #![tactic(auto)]
 
 #[cfg(test)]
