@@ -5,6 +5,6 @@
 #[cfg(test)]
 mod front;
 #[cfg(test)]
-mod http;
+mod http_messages;
 #[cfg(test)]
 mod http_route;
