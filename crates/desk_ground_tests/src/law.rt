@@ -5,18 +5,11 @@ use desk_law::{
     Annex, Claim, Kind, KindSet, Restriction, Rule, Terms, Verdict, covers, in_force, judge,
     judge_by, limit_ppm, over,
 };
-use desk_testing::{check, expect_eq};
+use desk_testing::{check, expect_eq, shows};
 use desk_text::{Code, Day, DayFault, ExemptionNumber};
 use std::alloc::Global;
-use std::fmt::Display;
 use std::process::Abort;
 use std::test::Fail;
-
-/// Fails unless the value is displayed as this text, and says as which it is.
-fn shows<T: Display>(alloc: Global, value: &T, text: &str) -> Result<(), Fail> {
-    let shown = value.to_string(alloc)?;
-    expect_eq(&shown.as_str(), &text)
-}
 
 /// The fourteen kinds in the order of their annex, and the code of each.
 const KINDS: [(Kind, &str); 14] = [

@@ -1,4 +1,4 @@
-use desk_testing::{check, expect_eq};
+use desk_testing::{check, expect_eq, shows};
 use desk_text::{
     Bytes, Cas, CasFault, Code, CodeFault, Day, DayFault, ExemptionNumber, Name, NameFault,
     NumberFault, OutOfMemory, push_u128, read_u32, read_u64,
@@ -6,12 +6,6 @@ use desk_text::{
 use std::alloc::{AllocError, Global};
 use std::fmt::Display;
 use std::test::Fail;
-
-/// Fails unless the value is displayed as this text, and says as which it is.
-fn shows<T: Display>(alloc: Global, value: &T, text: &str) -> Result<(), Fail> {
-    let shown = value.to_string(alloc)?;
-    expect_eq(&shown.as_str(), &text)
-}
 
 /// Fails unless the value is displayed as this text, and has these bytes, which are those of the text.
 fn is_spelt<T: Display>(alloc: Global, value: &T, bytes: &[u8], text: &str) -> Result<(), Fail> {

@@ -1,9 +1,8 @@
 use desk_fields::{TextFault, is_edit_text, read_edit_text};
 use desk_model::Edit;
-use desk_testing::{check, expect_eq};
+use desk_testing::{check, shows};
 use desk_text::{Bytes, OutOfMemory};
 use std::alloc::{AllocError, Global};
-use std::fmt::Display;
 use std::test::Fail;
 
 /// Texts of edits, with the fields set apart by `|` here, and the codes of their tickets.
@@ -99,12 +98,6 @@ pub(crate) fn check_row(holds: bool, code: &str, fields: &str) -> Result<(), Fai
         return Ok(());
     }
     Err(Fail::new(format_args!("of {fields} under {code}")))
-}
-
-/// Fails, and says how it is told, unless the fault is told in these words.
-pub(crate) fn is_in_words<T: Display>(alloc: Global, fault: &T, words: &str) -> Result<(), Fail> {
-    let told = format!(in alloc; "{fault}")?;
-    expect_eq(&told.as_str(), &words)
 }
 
 /// The text with a TAB in the place of each `|`.
@@ -255,6 +248,6 @@ fn a_text_of_tabs_is_refused(rt: HostRuntime) -> Result<(), Fail> {
 
 #[test]
 fn faults_are_told(rt: HostRuntime) -> Result<(), Fail> {
-    is_in_words(rt.alloc(), &TextFault::NotAnEdit, "not the text of an edit")?;
-    is_in_words(rt.alloc(), &TextFault::OutOfMemory, "out of memory")
+    shows(rt.alloc(), &TextFault::NotAnEdit, "not the text of an edit")?;
+    shows(rt.alloc(), &TextFault::OutOfMemory, "out of memory")
 }

@@ -1,7 +1,7 @@
-use crate::fields::{check_row, is_in_words, tabbed};
+use crate::fields::{check_row, tabbed};
 use desk_fields::{RowFault, read_row, row_body, row_code};
 use desk_model::Row;
-use desk_testing::{bytes, check};
+use desk_testing::{bytes, check, shows};
 use desk_text::{Bytes, OutOfMemory};
 use std::alloc::{AllocError, Global};
 use std::test::Fail;
@@ -237,7 +237,7 @@ fn the_fullest_material_is_read(rt: HostRuntime) -> Result<(), Fail> {
 
 #[test]
 fn faults_of_rows_are_told(rt: HostRuntime) -> Result<(), Fail> {
-    is_in_words(rt.alloc(), &RowFault::Version, "another version")?;
-    is_in_words(rt.alloc(), &RowFault::Shape, "not the text of a row")?;
-    is_in_words(rt.alloc(), &RowFault::OutOfMemory, "out of memory")
+    shows(rt.alloc(), &RowFault::Version, "another version")?;
+    shows(rt.alloc(), &RowFault::Shape, "not the text of a row")?;
+    shows(rt.alloc(), &RowFault::OutOfMemory, "out of memory")
 }

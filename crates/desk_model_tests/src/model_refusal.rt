@@ -1,40 +1,34 @@
 use crate::model_helpers::code;
 use desk_model::{Codes, RuleFault};
-use desk_testing::expect_eq;
+use desk_testing::shows;
 use std::alloc::Global;
 use std::test::Fail;
-
-/// Fails unless a fault has these words.
-fn is_told(alloc: Global, fault: RuleFault, words: &str) -> Result<(), Fail> {
-    let told = fault.to_string(alloc)?;
-    expect_eq(&told.as_str(), &words)
-}
 
 /// Fails unless a fault of each form has its words.
 fn are_told(alloc: Global) -> Result<(), Fail> {
     let (a, b) = (code("A-1")?, code("b.2")?);
-    is_told(alloc, RuleFault::TicketReused, "ticket-reused")?;
+    shows(alloc, &RuleFault::TicketReused, "ticket-reused")?;
     let fault = RuleFault::UnknownSubstance { code: a };
-    is_told(alloc, fault, "unknown-substance A-1")?;
+    shows(alloc, &fault, "unknown-substance A-1")?;
     let fault = RuleFault::NoSuchLine {
         parent: a,
         child: b,
     };
-    is_told(alloc, fault, "no-such-line A-1 b.2")?;
+    shows(alloc, &fault, "no-such-line A-1 b.2")?;
     let fault = RuleFault::ForeignMaterial {
         material: b,
         supplier: a,
     };
-    is_told(alloc, fault, "foreign-material b.2 A-1")?;
+    shows(alloc, &fault, "foreign-material b.2 A-1")?;
     let fault = RuleFault::StaleDeclaration {
         material: a,
         kept: 7,
     };
-    is_told(alloc, fault, "stale-declaration A-1 7")?;
+    shows(alloc, &fault, "stale-declaration A-1 7")?;
     let fault = RuleFault::ShipBelowZero { kept: 0 };
-    is_told(alloc, fault, "ship-below-zero 0")?;
+    shows(alloc, &fault, "ship-below-zero 0")?;
     let fault = RuleFault::YearTooLarge { year: 2024 };
-    is_told(alloc, fault, "year-too-large 2024")
+    shows(alloc, &fault, "year-too-large 2024")
 }
 
 #[test]

@@ -6,7 +6,7 @@ use desk_law::{Kind, KindOnDay};
 use desk_model::{Declaration, Edit};
 use desk_scratch::{AskFault, check_text};
 use desk_tables::Tables;
-use desk_testing::expect_eq;
+use desk_testing::shows;
 use std::alloc::Global;
 use std::test::Fail;
 
@@ -56,17 +56,11 @@ fn judges_so(alloc: Global, tables: &Tables, declaration: &Declaration) -> Resul
     is_text(text.as_slice(), OVER)
 }
 
-/// Fails, and says as which it is, unless the fault is displayed as this text.
-fn is_displayed(alloc: Global, fault: &AskFault, text: &str) -> Result<(), Fail> {
-    let shown = fault.to_string(alloc)?;
-    expect_eq(&shown.as_str(), &text)
-}
-
 #[test]
 fn a_fault_names_the_code_that_was_asked_for(rt: HostRuntime) -> Result<(), Fail> {
     let code = code("P")?;
-    is_displayed(rt.alloc(), &AskFault::NoSuchCode { code }, "no-such-code P")?;
-    is_displayed(
+    shows(rt.alloc(), &AskFault::NoSuchCode { code }, "no-such-code P")?;
+    shows(
         rt.alloc(),
         &AskFault::NotAProduct { code },
         "not-a-product P",

@@ -5,7 +5,7 @@
 
 use desk_text::{Bytes, OutOfMemory};
 use std::alloc::Global;
-use std::fmt::Debug;
+use std::fmt::{Debug, Display};
 use std::test::Fail;
 
 /// Fails, and says what is wrong, unless it holds.
@@ -19,6 +19,12 @@ pub fn expect_eq<T: PartialEq + Debug>(found: &T, wanted: &T) -> Result<(), Fail
         return Ok(());
     }
     Err(Fail::new(format_args!("{found:?}, and not {wanted:?}")))
+}
+
+/// Fails, and says as which it is, unless the value is displayed as this text.
+pub fn shows<T: Display>(alloc: Global, value: &T, text: &str) -> Result<(), Fail> {
+    let shown = value.to_string(alloc)?;
+    expect_eq(&shown.as_str(), &text)
 }
 
 /// The bytes of the text.
