@@ -1,6 +1,6 @@
 -- The examples hold by computation.
 use Rattle.std.proofs.Common.{arith, ◌≡◌, ℕ, List, [], ◌∷◌, ◌++◌, length, refl, sym, ap, ◌∙◌, is_some, reverse, Bool, true, false, Err}
-use Rattle.std.specs.Prelude.{◌==◌, codes, map}
+use Rattle.std.specs.Prelude.{◌==◌, None, Some, codes, map}
 use Rattle.std.specs.Fmt.{digits}
 use Rattle.std.specs.List.{AllByRecursion}
 use Rattle.std.proofs.lemmas.Bool.{false≢true, true≢false}
@@ -21,7 +21,8 @@ use Rattle.desk_model.specs.Forms.{is_declaration_in_form, is_edit_in_form, is_e
 use Rattle.desk_history.specs.Sound.{are_names_kept, are_rows_in_form}
 use Rattle.desk_model.specs.declared.edit.Edit.{Edit}
 use Rattle.desk_model.specs.declared.edit.Edit.TheVariants.{Substance, Member, Declare, Part, Line, Unline, Product, Exemption, Unexempt, Candidate, Ship, Unship}
-use Rattle.desk_model.specs.declared.rule_fault.RuleFault.TheVariants.{TextFull}
+use Rattle.desk_model.specs.declared.rule_fault.RuleFault.{RuleFault}
+use Rattle.desk_model.specs.declared.rule_fault.RuleFault.TheVariants.{FindingsFull, TextFull}
 use Rattle.desk_findings.specs.Above.{content, is_above}
 use Rattle.desk_history.specs.Affected.{is_affected, seeds_of_new}
 use Rattle.desk_findings.specs.Chain.{chain_within}
@@ -32,7 +33,7 @@ use Rattle.desk_findings.specs.Findings.{finding_count, findings}
 use Rattle.desk_findings.specs.Reaches.{reaches_within}
 use Rattle.desk_history.specs.History.{tables_after}
 use Rattle.desk_model.specs.Lists.{Lists}
-use Rattle.desk_history.specs.Refused.{refused_by_rows, first_some, refuse_if, refused, ticket_reused, unknown_substance, unknown_material, unknown_part, unknown_product, unknown_exemption, name_taken, kind_changed, wrong_child, no_such_line, foreign_material, stale_declaration, masses_exceed, exemption_span, outside_annex, ship_below_zero, units_too_large, table_full, text_full, closes_cycle, total_too_large, findings_full, year_too_large}
+use Rattle.desk_history.specs.Refused.{refused_by_bill, refused_by_rows, first_some, refuse_if, refused, ticket_reused, unknown_substance, unknown_material, unknown_part, unknown_product, unknown_exemption, name_taken, kind_changed, wrong_child, no_such_line, foreign_material, stale_declaration, masses_exceed, exemption_span, outside_annex, ship_below_zero, units_too_large, table_full, text_full, closes_cycle, total_too_large, findings_full, year_too_large}
 use Rattle.desk_findings.specs.Rolled.{rolled_within}
 use Rattle.desk_findings.specs.Share.{share}
 use Rattle.desk_model.specs.Start.{start}
@@ -141,6 +142,15 @@ texts_before_cycles text e =
     let t = with_text lone text in
     let over : has_too_much_text (entered t lone_cycle) ≡ true = rw e refl in
     ap (λ b. (step_new t lone_cycle (first_some (refuse_if b TextFull ∷ closes_cycle t lone_cycle ∷ total_too_large t lone_cycle ∷ findings_full t lone_cycle ∷ year_too_large t lone_cycle ∷ []))).0) over
+
+-- the rules on the bill in their order
+heavy_first : (t : Lists) (edit : Edit) (fault : RuleFault) → closes_cycle t edit ≡ None → total_too_large t edit ≡ Some fault → refused_by_bill t edit ≡ Some fault
+unfolding refused_by_bill
+heavy_first t edit fault e f = rw (e, f) refl
+
+findings_first : (t : Lists) (edit : Edit) → closes_cycle t edit ≡ None → total_too_large t edit ≡ None → findings_full t edit ≡ Some FindingsFull → refused_by_bill t edit ≡ Some FindingsFull
+unfolding refused_by_bill
+findings_first t edit e f g = rw (e, f, g) refl
 
 pub limit_examples : LimitExamples
 unfolding examples
@@ -272,6 +282,7 @@ pub order_examples : OrderExamples
 unfolding examples
 order_examples = record {
   reused_and_unknown = refl;
+  reused_and_others = refl;
   unknown_and_taken = refl;
   unknown_and_heavy = refl;
   unknown_and_no_line = refl;
@@ -282,6 +293,9 @@ order_examples = record {
   foreign_and_taken = refl;
   stale_and_foreign = refl;
   stale_and_heavy = refl;
+  no_material_and_full = refl;
+  no_product_and_full = refl;
+  wrong_and_full = refl;
   unknown_and_full = refl;
   changed_and_full = refl;
   no_line_and_full = refl;
@@ -292,6 +306,8 @@ order_examples = record {
   full_and_texts = λ text. refl;
   texts_and_cycle = texts_before_cycles;
   cycle_and_heavy = refl;
+  heavy_and_others = heavy_first;
+  findings_and_year = findings_first;
 }
 
 pub sound_examples : SoundExamples

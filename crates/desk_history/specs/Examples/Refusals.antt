@@ -15,15 +15,17 @@ use Rattle.desk_law.specs.Kind.{all_kinds}
 use Rattle.desk_model.specs.declared.edit.Edit.{Edit}
 use Rattle.desk_model.specs.declared.edit.Edit.TheVariants.{Member, Part, Line, Unline, Product, Exemption, Unexempt, Candidate, Ship, Unship}
 use Rattle.desk_model.specs.declared.part_sort.PartSort.TheVariants.{Article, Assembly}
+use Rattle.desk_model.specs.declared.rule_fault.RuleFault.{RuleFault}
 use Rattle.desk_model.specs.declared.rule_fault.RuleFault.TheVariants.{TicketReused, UnknownSubstance, UnknownMaterial}
 use Rattle.desk_model.specs.declared.rule_fault.RuleFault.TheVariants.{UnknownPart, UnknownProduct, UnknownExemption}
 use Rattle.desk_model.specs.declared.rule_fault.RuleFault.TheVariants.{NameTaken, KindChanged, WrongChild, NoSuchLine}
 use Rattle.desk_model.specs.declared.rule_fault.RuleFault.TheVariants.{ForeignMaterial, StaleDeclaration, MassesExceed}
 use Rattle.desk_model.specs.declared.rule_fault.RuleFault.TheVariants.{ExemptionSpan, AnnexKinds, ShipBelowZero}
-use Rattle.desk_model.specs.declared.rule_fault.RuleFault.TheVariants.{UnitsTooLarge, TableFull, TextFull, ClosesCycle}
+use Rattle.desk_model.specs.declared.rule_fault.RuleFault.TheVariants.{UnitsTooLarge, TableFull, TextFull, ClosesCycle, FindingsFull}
 use Rattle.desk_model.specs.Effect.{units_of}
 use Rattle.desk_model.specs.Lists.{Lists}
 use Rattle.desk_model.specs.Start.{start}
+use Rattle.desk_history.specs.Refused.{closes_cycle, findings_full, refused_by_bill, total_too_large}
 use Rattle.desk_history.specs.Step.{step}
 use Rattle.desk_model.specs.Terms.{breaks_annex}
 use Rattle.desk_model.specs.Examples.Desks.{article, assembly, date, declares, holds, material}
@@ -184,10 +186,28 @@ lone_cycle = Line (codes "t9") (codes "CASE") (codes "CASE") 1
 abbrev pub with_text : Lists → List ℕ → Lists
 with_text t text = record t { tickets = record { code = codes "E:t1"; number = 1; text = text } ∷ [] }
 
+-- edits under a kept ticket that break other rules too
+abbrev pub reused : List Edit
+reused =
+    Line (codes "t2") (codes "PIN") (codes "GLUE") 1
+    ∷ Line (codes "t2") (codes "FRAME") (codes "PIN") 1
+    ∷ Ship (codes "t2") (codes "PIN") 2024 1
+    ∷ Unexempt (codes "t2") (codes "R6C")
+    ∷ article (codes "t2") (codes "SOLDER")
+    ∷ Line (codes "t2") (codes "PIN") (codes "CASE") 1
+    ∷ Unline (codes "t2") (codes "CASE") (codes "PIN")
+    ∷ exemption (codes "t2") Three (Telecommunications ∷ []) (date 2024 2 1) (date 2024 1 31) None None
+    ∷ exemption (codes "t2") Four (Telecommunications ∷ []) (date 2024 2 1) (date 2024 2 1) None None
+    ∷ Unship (codes "t2") (codes "BOARD") 2024 5
+    ∷ Ship (codes "t2") (codes "BOARD") 2024 999999999998
+    ∷ []
+
 -- edits that break two rules at once
 pub record OrderExamples : Type 0 where
   -- 1 before 2
   pub reused_and_unknown : answer_at desk (Member (codes "t2") (codes "gold") Lead 1) ≡ Err TicketReused
+  -- and before each other rule of one edit alone
+  pub reused_and_others : map (answer_at desk) reused ≡ map (λ edit. Err TicketReused) reused
   -- 2 before 7, though the material with the taken code stands first
   pub unknown_and_taken : answer_at desk (declares (codes "ACME") 8 (material (codes "BOARD") 9 []
       ∷ material (codes "M1") 9 (holds (codes "tin") 1 ∷ []) ∷ [])) ≡ Err (UnknownSubstance (codes "tin"))
@@ -216,6 +236,9 @@ pub record OrderExamples : Type 0 where
   pub stale_and_heavy : answer_at desk (declares (codes "ACME") 6 (material (codes "SOLDER") 9 (holds (codes "lead") 10 ∷ []) ∷ []))
       ≡ Err (StaleDeclaration (codes "SOLDER") 7)
   -- each of the rules of one edit alone before 18
+  pub no_material_and_full : answer_at crowded (Line (codes "t9") (codes "PIN") (codes "GLUE") 1) ≡ Err (UnknownMaterial (codes "GLUE"))
+  pub no_product_and_full : answer_at crowded (Ship (codes "t9") (codes "PIN") 2024 1) ≡ Err (UnknownProduct (codes "PIN"))
+  pub wrong_and_full : answer_at crowded (Line (codes "t9") (codes "PIN") (codes "CASE") 1) ≡ Err (WrongChild (codes "CASE"))
   pub unknown_and_full : answer_at crowded (Unexempt (codes "t9") (codes "R6C")) ≡ Err (UnknownExemption (codes "R6C"))
   pub changed_and_full : answer_at crowded (article (codes "t9") (codes "BOARD")) ≡ Err (KindChanged (codes "BOARD"))
   pub no_line_and_full : answer_at crowded (Unline (codes "t9") (codes "CASE") (codes "PIN")) ≡ Err (NoSuchLine (codes "CASE") (codes "PIN"))
@@ -230,3 +253,8 @@ pub record OrderExamples : Type 0 where
   -- 20 before 21: a cycle of 10^6 of each part would be too heavy
   pub cycle_and_heavy : answer_at tower (Line (codes "t17") (codes "L1") (codes "L6") 1000000)
       ≡ Err (ClosesCycle (codes "L6" ∷ codes "L5" ∷ codes "L4" ∷ codes "L3" ∷ codes "L2" ∷ codes "L1" ∷ []))
+  -- 21 before 22 and 23, and 22 before 23
+  pub heavy_and_others : (t : Lists) (edit : Edit) (fault : RuleFault) → closes_cycle t edit ≡ None → total_too_large t edit ≡ Some fault →
+      refused_by_bill t edit ≡ Some fault
+  pub findings_and_year : (t : Lists) (edit : Edit) → closes_cycle t edit ≡ None → total_too_large t edit ≡ None →
+      findings_full t edit ≡ Some FindingsFull → refused_by_bill t edit ≡ Some FindingsFull
