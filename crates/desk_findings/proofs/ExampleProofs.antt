@@ -88,6 +88,9 @@ candidate_examples = record {
   article_findings = refl;
   articles = refl;
   own_article = refl;
+  crossed_duties = refl;
+  crossed_findings = refl;
+  crossed_notices = refl;
 }
 
 pub chain_examples : ChainExamples

@@ -1,7 +1,7 @@
 -- Candidate substances in articles: duties to inform, tonnages and notices.
 use Rattle.std.specs.Prelude.{◌≡◌, true, false, List, [], ◌∷◌, ◌++◌, Some, None, codes, map}
 use Rattle.desk_law.specs.declared.kind.Kind.TheVariants.{Telecommunications}
-use Rattle.desk_law.specs.declared.rule.Rule.TheVariants.{Bbp}
+use Rattle.desk_law.specs.declared.rule.Rule.TheVariants.{Bbp, Dehp, Lead}
 use Rattle.desk_model.specs.declared.edit.Edit.{Edit}
 use Rattle.desk_model.specs.declared.edit.Edit.TheVariants.{Substance, Candidate, Line, Product, Ship, Unship}
 use Rattle.desk_findings.specs.Above.{content, is_above}
@@ -123,6 +123,26 @@ listed = Candidate (codes "t8") (codes "bbp") (date 2008 10 28)
 abbrev pub all_listed : Lists
 all_listed = desk_with (pairs ++ listed ∷ Candidate (codes "t9") (codes "dehp") (date 2008 10 28) ∷ [])
 
+-- two articles of 1 mg each, of which the first holds the substance between the two of the second, and more than a tonne of each
+-- substance is shipped
+abbrev pub crossed : Lists
+crossed = desk_with (
+    declares (codes "ACME") 1 (material (codes "FOIL") 1000 (holds (codes "dehp") 10 ∷ [])
+    ∷ material (codes "PVC") 1000 (holds (codes "bbp") 10 ∷ holds (codes "lead") 10 ∷ []) ∷ [])
+    ∷ article (codes "t2") (codes "CABLE")
+    ∷ article (codes "t3") (codes "PLUG")
+    ∷ assembly (codes "t4") (codes "SET")
+    ∷ Line (codes "t5") (codes "CABLE") (codes "FOIL") 1
+    ∷ Line (codes "t6") (codes "PLUG") (codes "PVC") 1
+    ∷ Line (codes "t7") (codes "SET") (codes "CABLE") 1
+    ∷ Line (codes "t8") (codes "SET") (codes "PLUG") 1
+    ∷ Candidate (codes "t9") (codes "lead") (date 2018 6 27)
+    ∷ Candidate (codes "t10") (codes "dehp") (date 2008 10 28)
+    ∷ Candidate (codes "t11") (codes "bbp") (date 2020 1 16)
+    ∷ Product (codes "t12") (codes "SET") Telecommunications
+    ∷ Ship (codes "t13") (codes "SET") 2024 100000000001
+    ∷ [])
+
 pub record CandidateExamples : Type 0 where
   -- each line counts as often as it says
   pub content_of_two : content pair (codes "CABLE") (codes "bbp") ≡ 20
@@ -139,3 +159,13 @@ pub record CandidateExamples : Type 0 where
   -- a part that is asked for itself, and no assembly
   pub articles : map (λ part. part.code) (articles_in all_listed (codes "SET")) ≡ codes "CABLE" ∷ codes "PLUG" ∷ []
   pub own_article : map (λ part. part.code) (articles_in all_listed (codes "PLUG")) ≡ codes "PLUG" ∷ []
+  -- duties stand in order of article, and then of substance
+  pub crossed_duties : duties crossed (codes "SET") (date 2024 1 23)
+      ≡ record { article = codes "CABLE"; substance = codes "dehp" } ∷ record { article = codes "PLUG"; substance = codes "bbp" }
+      ∷ record { article = codes "PLUG"; substance = codes "lead" } ∷ []
+  -- findings in order of material, and then of the rule's number, before those of articles
+  pub crossed_findings : findings crossed (codes "SET")
+      ≡ over (codes "FOIL") Dehp ∷ over (codes "PVC") Lead ∷ over (codes "PVC") Bbp
+      ∷ above (codes "CABLE") (codes "dehp") ∷ above (codes "PLUG") (codes "bbp") ∷ above (codes "PLUG") (codes "lead") ∷ []
+  -- notices in order of substance
+  pub crossed_notices : map (λ candidate. candidate.substance) (notices crossed 2024 (date 2024 12 31)) ≡ codes "bbp" ∷ codes "dehp" ∷ codes "lead" ∷ []
