@@ -1,7 +1,7 @@
 ghost use Rattle.std.specs.Prelude.{◌≡◌, ◌<◌, ◌≤◌, ◌++◌, length, IfOk, Some};
 
 use desk_edge::{Failed, Link, MemoryLink, ReadFault, StdLink, read_up_to, write_all};
-use desk_testing::{check, expect_eq};
+use desk_testing::{check, expect_eq, shows};
 use desk_text::Bytes;
 use std::alloc::Global;
 use std::io;
@@ -232,4 +232,9 @@ fn a_link_over_std_tells_what_its_reader_and_writer_tell(rt: HostRuntime) -> Res
         write_vector(output, b"answer").is_ok(),
         "a vector refuses a write",
     )
+}
+
+#[test]
+fn a_failed_call_is_told(rt: HostRuntime) -> Result<(), Fail> {
+    shows(rt.alloc(), &Failed, "the call failed")
 }

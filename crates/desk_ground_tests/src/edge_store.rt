@@ -114,6 +114,25 @@ fn a_failing_call_is_counted_and_changes_nothing(rt: HostRuntime) -> Result<(), 
     expect_eq(&(keeper.faults(), keeper.records().len()), &(2, 3))
 }
 
+/// Fails unless of several changes under one key the last counts.
+fn keeps_the_last<K: Keeper>(keeper: &mut K, alloc: Global) -> Result<(), Fail> {
+    let changes = [
+        put(alloc, 1, "a", "again")?,
+        Change::Drop(key(alloc, 1, "a")?),
+        Change::Drop(key(alloc, 1, "b")?),
+        put(alloc, 1, "b", "early")?,
+        put(alloc, 1, "b", "late")?,
+    ];
+    keeper.commit(alloc, &changes)?;
+    gives(keeper, alloc, None, Some("late"))
+}
+
+#[test]
+fn of_changes_under_one_key_the_last_counts(rt: HostRuntime) -> Result<(), Fail> {
+    let mut keeper = three_records(rt.alloc(), Vec::new(rt.alloc()))?;
+    keeps_the_last(&mut keeper, rt.alloc())
+}
+
 /// Whether the shelf opens the store of this name. What was lent stays so.
 fn opens(shelf: &mut MapShelf, alloc: Global, name: &[u8]) -> bool
     ensures { (other : List ℕ) → is_lent shelf.new other ≡ false → is_lent shelf.old other ≡ false }
@@ -149,4 +168,25 @@ fn a_store_that_is_open_is_not_opened_again(rt: HostRuntime) -> Result<(), Fail>
     let failing = [3].to_vec(rt.alloc())?;
     let mut shelf = MapShelf::new(rt.alloc(), Vec::new(rt.alloc()), failing);
     opens_once(&mut shelf, rt.alloc())
+}
+
+/// Fails unless a store that has counted a fault counts from 0 once it is opened again, and its fault is the shelf's.
+fn counts_anew(shelf: &mut MapShelf, alloc: Global) -> Result<(), Fail> {
+    let mut store = shelf.open_store(alloc, b"desk")?;
+    let told = body_past(&mut store, alloc, None);
+    shelf.close_store(b"desk", store);
+    let store = shelf.open_store(alloc, b"desk")?;
+    let faults = store.faults();
+    shelf.close_store(b"desk", store);
+    expect_eq(&(told, faults), &(Err(KeepFault::Failed), 0))?;
+    expect_eq(&shelf.faults(), &1)
+}
+
+#[test]
+fn a_store_that_is_opened_again_counts_its_faults_anew(rt: HostRuntime) -> Result<(), Fail> {
+    let store = MapKeeper::new(Vec::new(rt.alloc()), [1].to_vec(rt.alloc())?);
+    let mut stores = Vec::new(rt.alloc());
+    stores.push((bytes(rt.alloc(), "desk")?, store))?;
+    let mut shelf = MapShelf::new(rt.alloc(), stores, Vec::new(rt.alloc()));
+    counts_anew(&mut shelf, rt.alloc())
 }

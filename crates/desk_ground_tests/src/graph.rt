@@ -5,7 +5,7 @@ use desk_graph::{
     Bill, BillLine, BillPlan, BillView, LineFault, NodeFault, NodeId, Path, PlanFault, PlannedBill,
     Steps,
 };
-use desk_testing::expect_eq;
+use desk_testing::{check, expect_eq, shows};
 use std::alloc::Global;
 use std::marker::Brand;
 use std::sync::ledger::{Blank, Ledger};
@@ -220,6 +220,73 @@ fn nodes_of_many_layers_are_affected_once(rt: HostRuntime) -> Result<(), Fail> {
         goes_through_layers(&mut bill, rt.alloc(), many, top)?;
     }
     Ok(())
+}
+
+/// Adds nodes until one is refused, and tells why.
+fn fill(bill: &mut Bill, alloc: Global) -> Result<NodeFault, Fail> {
+    for number in 0..30_000_u32 {
+        let label = format!(in alloc; "{number}")?;
+        if let Err(fault) = add(bill, alloc, label.as_bytes()) {
+            return Ok(fault);
+        }
+    }
+    Err(Fail::new("30,000 nodes are taken"))
+}
+
+/// Sets 256 lines of each of 512 nodes.
+fn fill_lines(bill: &mut Bill, alloc: Global) -> Result<(), Fail> {
+    for parent in 0..512 {
+        for child in 1_000..1_256 {
+            set(bill, alloc, parent, child, 1)?;
+        }
+    }
+    Ok(())
+}
+
+/// Fails unless one line more is too many, a line that is there may be set again, and a line that closes a cycle is told as that.
+fn takes_no_more_lines(bill: &mut Bill, alloc: Global) -> Result<(), Fail> {
+    let one_more = set(bill, alloc, 512, 1_000, 1);
+    check(matches!(one_more, Err(LineFault::Full)), "131,073 lines")?;
+    set(bill, alloc, 0, 1_000, 2)?;
+    let chain = chain_of(bill, alloc, 1_000, 0).map(|path| path.as_slice().len());
+    expect_eq(&chain, &Some(2))
+}
+
+#[test]
+fn a_bill_takes_24576_nodes_and_131072_lines(rt: HostRuntime) -> Result<(), Fail> {
+    let mut bill = Bill::start(rt.alloc())?;
+    expect_eq(&fill(&mut bill, rt.alloc())?, &NodeFault::Full)?;
+    expect_eq(&bill.node_count(), &24_576)?;
+    fill_lines(&mut bill, rt.alloc())?;
+    takes_no_more_lines(&mut bill, rt.alloc())
+}
+
+/// Fails unless a line that closes a cycle is told so.
+fn closing_is_told(bill: &mut Bill, alloc: Global) -> Result<(), Fail> {
+    match set(bill, alloc, 0, 0, 1) {
+        Err(fault) => shows(alloc, &fault, "the line would close a cycle"),
+        Ok(()) => Err(Fail::new("a node is its own child")),
+    }
+}
+
+/// Fails unless each fault has its words.
+fn faults_are_told(alloc: Global) -> Result<(), Fail> {
+    let fault = NodeFault::Taken;
+    shows(alloc, &fault, "a node has the label")?;
+    shows(alloc, &NodeFault::Full, "the bill has 24576 nodes")?;
+    shows(alloc, &PlanFault::Node { fault }, "a node has the label")?;
+    shows(alloc, &PlanFault::OutOfMemory, "out of memory")?;
+    let words = "the bill would have more than 131072 lines";
+    shows(alloc, &LineFault::Full, words)?;
+    shows(alloc, &LineFault::OutOfMemory, "out of memory")
+}
+
+#[test]
+fn faults_of_a_bill_are_told(rt: HostRuntime) -> Result<(), Fail> {
+    let mut bill = Bill::start(rt.alloc())?;
+    add(&mut bill, rt.alloc(), b"A")?;
+    closing_is_told(&mut bill, rt.alloc())?;
+    faults_are_told(rt.alloc())
 }
 
 /// The lines of a node, and the nodes that it affects.

@@ -4,7 +4,7 @@ ghost use Rattle.desk_rollup.specs.Laws.{ChangesOne, IsLight};
 
 use desk_graph::{Bill, BillPlan, NodeId, PlannedBill, Steps};
 use desk_rollup::{Hop, Load, Mark, Own, RollFault, RollPlan, Rolled, Rollups};
-use desk_testing::expect_eq;
+use desk_testing::{expect_eq, shows};
 use std::alloc::Global;
 use std::marker::{Brand, Model};
 use std::sync::ledger::{Blank, Ledger};
@@ -500,4 +500,13 @@ fn are_as_from_scratch(desk: &mut Desk, alloc: Global) -> Result<(), Fail> {
 fn after_each_of_a_thousand_edits_all_is_as_from_scratch(rt: HostRuntime) -> Result<(), Fail> {
     let mut desk = start(rt.alloc())?;
     are_as_from_scratch(&mut desk, rt.alloc())
+}
+
+#[test]
+fn faults_of_values_are_told(rt: HostRuntime) -> Result<(), Fail> {
+    let words = "a node would weigh 2^128 or more";
+    shows(rt.alloc(), &RollFault::WeightTooLarge { node: 7 }, words)?;
+    let words = "the nodes would have more than 4194304 marks";
+    shows(rt.alloc(), &RollFault::MarksFull, words)?;
+    shows(rt.alloc(), &RollFault::OutOfMemory, "out of memory")
 }

@@ -5,7 +5,7 @@ use desk_edge::{Change, Record};
 use desk_model::{Edit, Row};
 use desk_records::{RecordFault, changes, read_record, records_of, write_record};
 use desk_tables::Tables;
-use desk_testing::expect_eq;
+use desk_testing::{expect_eq, shows};
 use desk_text::{Bytes, OutOfMemory};
 use std::alloc::Global;
 use std::test::Fail;
@@ -273,6 +273,25 @@ fn enter(alloc: Global, tables: &mut Tables, code: &str, text: &str) -> Result<(
     Ok(())
 }
 
+/// What taking back all shipped units of a product changes.
+fn taken_back(alloc: Global, tables: &mut Tables) -> Result<Bytes, Fail>
+    requires { Sound tables.old.lists }
+{
+    enter(alloc, tables, "E:t1", "part|BOX|article|Box")?;
+    enter(alloc, tables, "E:t2", "product|BOX|3")?;
+    enter(alloc, tables, "E:t3", "ship|BOX|2024|5")?;
+    changed_by(alloc, tables, "E:t4", "unship|BOX|2024|5")
+}
+
+#[test]
+fn a_shipment_that_is_taken_back_is_dropped_by_its_year_and_product(
+    rt: HostRuntime,
+) -> Result<(), Fail> {
+    let mut tables = Tables::start(rt.alloc())?;
+    let told = taken_back(rt.alloc(), &mut tables)?;
+    is_told(rt.alloc(), told.as_slice(), "-9 2024/BOX\n+10 E:t4\n")
+}
+
 /// What the edit changes once more where it is entered first.
 fn changed_twice(alloc: Global, tables: &mut Tables, code: &str, text: &str) -> Result<Bytes, Fail>
     requires { Sound tables.old.lists }
@@ -293,15 +312,9 @@ fn an_edit_that_is_kept_changes_nothing(rt: HostRuntime) -> Result<(), Fail> {
     is_told(rt.alloc(), told.as_slice(), "")
 }
 
-/// Fails, and says how it is told, unless the fault is told in these words.
-fn is_in_words(alloc: Global, fault: RecordFault, words: &str) -> Result<(), Fail> {
-    let told = format!(in alloc; "{fault}")?;
-    expect_eq(&told.as_str(), &words)
-}
-
 #[test]
 fn faults_of_records_are_told(rt: HostRuntime) -> Result<(), Fail> {
-    is_in_words(rt.alloc(), RecordFault::Version, "another version")?;
-    is_in_words(rt.alloc(), RecordFault::Shape, "not the text of a row")?;
-    is_in_words(rt.alloc(), RecordFault::OutOfMemory, "out of memory")
+    shows(rt.alloc(), &RecordFault::Version, "another version")?;
+    shows(rt.alloc(), &RecordFault::Shape, "not the text of a row")?;
+    shows(rt.alloc(), &RecordFault::OutOfMemory, "out of memory")
 }
