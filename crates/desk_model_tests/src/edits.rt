@@ -269,6 +269,69 @@ fn each_key_of_each_word_has_its_values(rt: HostRuntime) -> Result<(), Fail> {
     have_their_keys(rt.alloc(), &WORDS)
 }
 
+/// The first value of a row: a good one, a bad one, or none.
+fn first_value(row: &KeyRow, is_good: bool, has_bad: bool) -> Option<&'static str> {
+    let (_, _, good, bad) = *row;
+    if is_good {
+        good.first().copied()
+    } else if has_bad {
+        bad.first().copied()
+    } else {
+        None
+    }
+}
+
+/// An object of the word with a good value at each key before a place, and a bad one, or none, at each from there on.
+fn object_from(
+    alloc: Global,
+    word: &str,
+    keys: &[KeyRow],
+    place: usize,
+    has_bad: bool,
+) -> Result<String, AllocError> {
+    let mut text = format!(in alloc; "{{\"edit\":\"{word}\"")?;
+    for (at, row) in keys.iter().enumerate() {
+        if let Some(value) = first_value(row, at < place, has_bad) {
+            push_member(&mut text, row.1, value)?;
+        }
+    }
+    text.push('}')?;
+    Ok(text)
+}
+
+/// A failure unless the key at the place is the one that is told, where it and each behind it are missing, and where
+/// each of them has a bad value.
+fn is_told_first(alloc: Global, word: &str, keys: &[KeyRow], place: usize) -> Result<(), Fail> {
+    let Some((may_be_absent, key, _, _)) = keys.get(place).copied() else {
+        return Ok(());
+    };
+    let missing = if may_be_absent {
+        String::from_str(alloc, "ok")?
+    } else {
+        format!(in alloc; "missing-key {key}")?
+    };
+    let text = object_from(alloc, word, keys, place, false)?;
+    is_told(alloc, text.as_str(), missing.as_str())?;
+    let bad = format!(in alloc; "bad-value {key}")?;
+    let text = object_from(alloc, word, keys, place, true)?;
+    is_told(alloc, text.as_str(), bad.as_str())
+}
+
+/// The same of each place of each word.
+fn are_told_in_order(alloc: Global, words: &[WordRow]) -> Result<(), Fail> {
+    for (word, keys) in words {
+        for place in 0..keys.len() {
+            is_told_first(alloc, word, keys, place)?;
+        }
+    }
+    Ok(())
+}
+
+#[test]
+fn of_several_keys_the_first_is_told(rt: HostRuntime) -> Result<(), Fail> {
+    are_told_in_order(rt.alloc(), &WORDS)
+}
+
 #[rattlefmt::skip]
 const FAULTS: [(&str, &str); 26] = [
     ("not-json", "{"),
