@@ -1,5 +1,5 @@
 -- A shelf in memory: which stores it keeps and which are lent, call by call.
-use Rattle.std.specs.Prelude.{◌≡◌, ℕ, ◌==◌, ◌<◌, Bool, true, ◌||◌, List, Option, None, Some, is_some, length, remove, slice_index_or}
+use Rattle.std.specs.Prelude.{◌≡◌, ℕ, ◌==◌, ◌<◌, Bool, true, ◌||◌, List, [], ◌∷◌, ◌++◌, Option, None, Some, is_some, length, remove, slice_index_or}
 use Rattle.std.specs.Option.{option_map_or}
 use Rattle.std.specs.Cmp.Lexicographic.{slice_cmp}
 use Rattle.std.specs.List.{list_any}
@@ -53,3 +53,15 @@ opened s name = option_map_or (λ store. record store.1 { faults = 0 }) (store_o
 -- whether the next opening, of this name, fails: by its number, or since the store is lent
 abbrev pub refuses : Shelved → List ℕ → Bool
 refuses s name = list_any (λ n. n == counted s.calls) s.failing || is_lent s name
+
+-- the same stores are kept, and the same are lent
+abbrev pub LendsTheSame : Shelved → Shelved → Type 0
+LendsTheSame old new = (new.stores ≡ old.stores) × (new.lent ≡ old.lent)
+
+-- the store of this name was lent, and no other: it isn't kept, and its name stands behind those of the others that are lent
+abbrev pub IsTaken : List ℕ → Shelved → Shelved → Type 0
+IsTaken name old new = (new.stores ≡ without_row (λ store. store.0) name_cmp name old.stores) × (new.lent ≡ old.lent ++ name ∷ [])
+
+-- the store was put back under this name, before the others that are kept, and is lent no more
+abbrev pub IsPutBack : List ℕ → Kept → Shelved → Shelved → Type 0
+IsPutBack name store old new = (new.stores ≡ (name, store) ∷ old.stores) × (new.lent ≡ without_row (λ lent. lent) name_cmp name old.lent)

@@ -138,6 +138,7 @@ impl Keeper for MapKeeper {
         ensures failed { IsErrOf result KeepFault.Failed → Rose self.old.faults self.new.faults }
         ensures answer { IfOk result (λ found. found ≡ first_past self.old (option_copied after.entry)) }
         ensures listed { fails_next self.old ≡ true → result ≡ Err KeepFault.Failed }
+        ensures no_other { IsErrOf result KeepFault.Failed → fails_next self.old ≡ true }
         ensures after { self.new ≡ (if fails_next self.old then after_fault self.old else after_call self.old) }
     {
         self.count_call()?;
@@ -152,6 +153,7 @@ impl Keeper for MapKeeper {
         ensures steady { result ≢ Err KeepFault.Failed → self.new.faults ≡ self.old.faults }
         ensures failed { IsErrOf result KeepFault.Failed → Rose self.old.faults self.new.faults }
         ensures listed { fails_next self.old ≡ true → result ≡ Err KeepFault.Failed }
+        ensures no_other { IsErrOf result KeepFault.Failed → fails_next self.old ≡ true }
         ensures made { OnOk result (self.new ≡ after_call (record self.old { records = records_with_all batch.now self.old.records })) }
         ensures refused { OnErr result (self.new ≡ (if fails_next self.old then after_fault self.old else after_call self.old)) }
     {

@@ -1,8 +1,8 @@
-ghost use Rattle.std.specs.Prelude.{◌≡◌, ◌≢◌, ◌+◌, ◌<◌, ◌≤◌, ◌∷◌, [], ℕ, List, false, true, Err, IfOk, Ok, Some, IsErrOf, is_some, if◌then◌else◌, vec_capacity, vec_len};
+ghost use Rattle.std.specs.Prelude.{◌≡◌, ◌≢◌, ◌+◌, ◌<◌, ◌≤◌, ◌∷◌, [], ℕ, List, false, true, Err, IfOk, OnOk, OnErr, Ok, Some, IsErrOf, is_some, if◌then◌else◌, vec_capacity, vec_len};
 ghost use Rattle.std.specs.Option.{option_map_or};
 ghost use Rattle.desk_edge.specs.Content.{IsSame};
 ghost use Rattle.desk_edge.specs.Faults.{Rose, counted};
-ghost use Rattle.desk_edge.specs.Shelves.{Shelved, content_in, is_lent, name_cmp, opened, refuses};
+ghost use Rattle.desk_edge.specs.Shelves.{IsPutBack, IsTaken, LendsTheSame, Shelved, content_in, is_lent, name_cmp, opened, refuses};
 ghost use Rattle.desk_edge.specs.Stores.{blank, content_of};
 ghost use Rattle.desk_rows.specs.Rows.{row_of, without_row};
 
@@ -168,6 +168,8 @@ impl Shelf for MapShelf {
         ensures steady { result ≢ Err KeepFault.Failed → self.new.faults ≡ self.old.faults }
         ensures failed { IsErrOf result KeepFault.Failed → Rose self.old.faults self.new.faults }
         ensures answer { IfOk result (λ store. store ≡ opened self.old name.now) }
+        ensures taken { OnOk result (IsTaken name.now self.old self.new) }
+        ensures left { OnErr result (LendsTheSame self.old self.new) }
         ensures refused { IsErrOf result KeepFault.Failed → refuses self.old name.now ≡ true }
         ensures listed { refuses self.old name.now ≡ true → result ≡ Err KeepFault.Failed }
         ensures after { (self.new.calls ≡ counted self.old.calls) × (self.new.failing ≡ self.old.failing) }
@@ -189,6 +191,7 @@ impl Shelf for MapShelf {
         ensures never_falls { self.old.faults ≤ self.new.faults }
         ensures steady { store.faults ≡ 0 → self.new.faults ≡ self.old.faults }
         ensures rises { 0 < store.faults → Rose self.old.faults self.new.faults }
+        ensures put_back { IsPutBack name.now store self.old self.new }
         ensures after { (self.new.calls ≡ self.old.calls) × (self.new.failing ≡ self.old.failing) }
     {
         self.faults = self.faults.saturating_add(u64::from(store.faults() > 0));

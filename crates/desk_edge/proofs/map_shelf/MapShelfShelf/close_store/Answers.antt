@@ -1,11 +1,11 @@
-use Rattle.std.proofs.Common.{None, is_eq, ap, sym, ◌∙◌}
+use Rattle.std.proofs.Common.{◌∷◌, None, is_eq, ap, sym, ◌∙◌}
 use Rattle.std.specs.Option.{option_map_or}
 use Rattle.std.specs.Prelude.{is_some}
 use Rattle.std.proofs.lemmas.Cmp.{nat_list_cmp_total}
 use Rattle.desk_edge.specs.Shelves.{name_cmp}
 use Rattle.desk_edge.specs.Stores.{content_of}
 use Rattle.desk_edge.proofs.Lending.{found_has, found_in_front, other_in_front, other_name, same_name}
-use Rattle.desk_rows.specs.Rows.{row_of}
+use Rattle.desk_rows.specs.Rows.{row_of, without_row}
 use Rattle.desk_rows.proofs.Lookups.{row_of-without_row_other}
 use Rattle.desk_edge.proofs.map_shelf.MapShelfShelf.close_store.Goals as goal
 
@@ -30,3 +30,13 @@ returns-clause-others c other differ free =
     let own_apart = ap (λ n. is_eq (name_cmp n other)) is_name ∙ apart in
     let found = ap (row_of (λ store. store.0) name_cmp other) c.put_store.ensures.stores ∙ other_in_front other own c.args.store c.self.inside.stores.items own_apart ∙ ap (λ s. row_of (λ store. store.0) name_cmp other s.stores) c.self.view_is in
     (ap is_some (was ∙ sym names) ∙ free, λ key. ap (λ store. option_map_or (λ store. content_of store.1 key) store None) found)
+
+pub returns-clause-put_back : goal.returns-clause-put_back
+returns-clause-put_back c =
+    let name = c.args.name.now in
+    let own = c.take_name-own.result in
+    let is_name = same_name own name (found_has (λ own. own) name c.self.inside.lent.items own c.take_name-own.ensures.taken) in
+    (
+      c.put_store.ensures.stores ∙ ap (λ n. (n, c.args.store) ∷ c.self.inside.stores.items) is_name ∙ ap (λ s. (name, c.args.store) ∷ s.stores) c.self.view_is,
+      c.take_name-own.ensures.rest ∙ ap (λ s. without_row (λ lent. lent) name_cmp name s.lent) c.self.view_is,
+    )

@@ -5,7 +5,7 @@ use Rattle.std.proofs.lemmas.Cmp.{nat_list_cmp_total}
 use Rattle.desk_edge.specs.Shelves.{name_cmp}
 use Rattle.desk_edge.specs.Stores.{content_of}
 use Rattle.desk_edge.proofs.Lending.{itself, not_pushed, pushed_is_there}
-use Rattle.desk_rows.specs.Rows.{row_of}
+use Rattle.desk_rows.specs.Rows.{row_of, without_row}
 use Rattle.desk_rows.proofs.Lookups.{row_of-without_row_other}
 use Rattle.desk_edge.proofs.map_shelf.MapShelfShelf.open_store.Goals as goal
 
@@ -27,3 +27,11 @@ returns-clause-others c other free =
     let found = ap (row_of (λ store. store.0) name_cmp other) c.take_store.ensures.rest ∙ row_of-without_row_other (λ store. store.0) name_cmp nat_list_cmp_total name other c.reserve-2.new.self.items then.1
     ∙ ap (row_of (λ store. store.0) name_cmp other) (c.in_ok-reserve-2.ensures.items ∙ kept) in
     (then.0, λ key. ap (λ store. option_map_or (λ store. content_of store.1 key) store None) found)
+
+pub returns-clause-taken : goal.returns-clause-taken
+returns-clause-taken c =
+    let kept : c.self.inside.stores.items ≡ c.args.self.now.stores = ap (λ s. s.stores) c.self.view_is ∙ c.count_opening.ensures.stores.0 in
+    (
+      c.take_store.ensures.rest ∙ ap (without_row (λ store. store.0) name_cmp c.args.name.now) (c.in_ok-reserve-2.ensures.items ∙ kept),
+      lent_then c,
+    )
