@@ -1,4 +1,6 @@
-ghost use Rattle.std.specs.Prelude.{◌≡◌, None, IfOk, IsTrue};
+ghost use Rattle.std.specs.Prelude.{◌≡◌, ◌≢◌, ◌≤◌, Err, IsErrOf, IfSome, OnErr, OnOk, None, IfOk, IsTrue, option_copied, true};
+ghost use Rattle.desk_edge.specs.Content.{IsChanged, IsFirstPast, IsSame, is_past, key_of};
+ghost use Rattle.desk_edge.specs.Faults.{Rose};
 ghost use Rattle.sqlite_std_file.specs.File.{file_is_usable};
 
 use crate::keeper::SqlKeeper;
@@ -23,7 +25,7 @@ const SPILL_PAGES: usize = 64;
 /// A store in a file that was found by its path.
 ///
 /// Which file a path finds, and who else writes it, no clause can tell: so it tells nothing of what it keeps. What its records are is
-/// proved of the keeper within, over any disk that a clause can speak of.
+/// proved of the keeper within, over any disk that a clause can speak of, and that it asks this one is in the clauses of its calls.
 #[derive(Drop)]
 pub struct FileKeeper<D: Disk + Drop> {
     keeper: SqlKeeper<FileStore<D>>,
@@ -34,7 +36,8 @@ impl FileKeeper<File> {
     /// opened, as where it is no database or another process has it open, where the database is of somebody else, in which nothing is
     /// changed, or where it can't be made ready.
     pub(crate) fn open(rt: &HostRuntime, path: &[u8]) -> Result<FileKeeper<File>, KeepFault>
-        ensures { IfOk result (λ store. store.keeper.faults ≡ 0) }
+        ensures count { IfOk result (λ store. store.keeper.faults ≡ 0) }
+        ensures ours { IfOk result (λ store. store.keeper.is_ours ≡ true) }
     {
         let Ok(path) = std::str::from_utf8(path) else {
             return Err(KeepFault::Failed);
@@ -120,11 +123,40 @@ impl<D: Disk + Drop> Keeper for FileKeeper<D> {
         &mut self,
         alloc: Global,
         after: Option<&Key>,
-    ) -> Result<Option<Record>, KeepFault> {
+    ) -> Result<Option<Record>, KeepFault>
+        ensures told { ⊥ → ⊥ }
+        ensures stays { ⊥ → IsSame (λ key. None) (λ key. None) }
+        ensures gives { IfOk result (λ found. ⊥ → IsFirstPast (λ key. None) (option_copied after.entry) found) }
+        ensures later { IfOk result (λ found. IfSome found (λ kept. is_past (option_copied after.entry) (key_of kept) ≡ true)) }
+        ensures never_falls { self.old.keeper.faults ≤ self.new.keeper.faults }
+        ensures steady { result ≢ Err KeepFault.Failed → self.new.keeper.faults ≡ self.old.keeper.faults }
+        ensures failed { IsErrOf result KeepFault.Failed → Rose self.old.keeper.faults self.new.keeper.faults }
+
+        // The record is the first that the keeper within has past the key, where that one tells.
+        ensures within_told { ⟦<SqlKeeper<FileStore<D>> as Keeper>⟧.Tells self.new.keeper → ⟦<SqlKeeper<FileStore<D>> as Keeper>⟧.Tells self.old.keeper }
+        ensures within_stays { ⟦<SqlKeeper<FileStore<D>> as Keeper>⟧.Tells self.new.keeper
+            → IsSame (⟦<SqlKeeper<FileStore<D>> as Keeper>⟧.content self.old.keeper) (⟦<SqlKeeper<FileStore<D>> as Keeper>⟧.content self.new.keeper) }
+        ensures within_gives { IfOk result (λ found. ⟦<SqlKeeper<FileStore<D>> as Keeper>⟧.Tells self.new.keeper
+            → IsFirstPast (⟦<SqlKeeper<FileStore<D>> as Keeper>⟧.content self.new.keeper) (option_copied after.entry) found) }
+    {
         self.keeper.next_record(alloc, after)
     }
 
-    fn commit(&mut self, alloc: Global, batch: &[Change]) -> Result<(), KeepFault> {
+    fn commit(&mut self, alloc: Global, batch: &[Change]) -> Result<(), KeepFault>
+        ensures told { ⊥ → ⊥ }
+        ensures ok { OnOk result (⊥ → IsChanged batch.now (λ key. None) (λ key. None)) }
+        ensures err { OnErr result (⊥ → IsSame (λ key. None) (λ key. None)) }
+        ensures never_falls { self.old.keeper.faults ≤ self.new.keeper.faults }
+        ensures steady { result ≢ Err KeepFault.Failed → self.new.keeper.faults ≡ self.old.keeper.faults }
+        ensures failed { IsErrOf result KeepFault.Failed → Rose self.old.keeper.faults self.new.keeper.faults }
+
+        // The changes are made in the keeper within, or none of them, where that one tells.
+        ensures within_told { ⟦<SqlKeeper<FileStore<D>> as Keeper>⟧.Tells self.new.keeper → ⟦<SqlKeeper<FileStore<D>> as Keeper>⟧.Tells self.old.keeper }
+        ensures within_ok { OnOk result (⟦<SqlKeeper<FileStore<D>> as Keeper>⟧.Tells self.new.keeper
+            → IsChanged batch.now (⟦<SqlKeeper<FileStore<D>> as Keeper>⟧.content self.old.keeper) (⟦<SqlKeeper<FileStore<D>> as Keeper>⟧.content self.new.keeper)) }
+        ensures within_err { OnErr result (⟦<SqlKeeper<FileStore<D>> as Keeper>⟧.Tells self.new.keeper
+            → IsSame (⟦<SqlKeeper<FileStore<D>> as Keeper>⟧.content self.old.keeper) (⟦<SqlKeeper<FileStore<D>> as Keeper>⟧.content self.new.keeper)) }
+    {
         self.keeper.commit(alloc, batch)
     }
 }

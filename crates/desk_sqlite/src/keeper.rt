@@ -161,7 +161,8 @@ impl<S: Alter + Drop> SqlKeeper<S> {
     /// A keeper over the database of the connection, made ready where the database is new or a store. `Failed` comes where it is of
     /// somebody else, in which nothing is changed, or can't be made ready.
     pub(crate) fn over(connection: Connection<S>) -> Result<SqlKeeper<S>, KeepFault>
-        ensures { IfOk result (λ keeper. keeper.faults ≡ 0) }
+        ensures count { IfOk result (λ keeper. keeper.faults ≡ 0) }
+        ensures ours { IfOk result (λ keeper. keeper.is_ours ≡ true) }
     {
         if !is_new(connection.schema()) && !is_ours(connection.schema()) {
             return Err(KeepFault::Failed);

@@ -1,4 +1,6 @@
-ghost use Rattle.std.specs.Prelude.{◌≡◌, ◌<◌, None};
+ghost use Rattle.std.specs.Prelude.{◌≡◌, ◌≢◌, ◌<◌, ◌≤◌, ℕ, List, Err, IsErrOf, IfOk, None, true};
+ghost use Rattle.desk_edge.specs.Content.{IsSame};
+ghost use Rattle.desk_edge.specs.Faults.{Rose};
 
 use crate::file_keeper::FileKeeper;
 use desk_edge::{KeepFault, Shelf};
@@ -42,7 +44,18 @@ impl Shelf for SqlShelf {
 
     ghost content = { λ s name key. None };
 
-    fn open_store(&mut self, _alloc: Global, name: &[u8]) -> Result<FileKeeper<File>, KeepFault> {
+    fn open_store(&mut self, _alloc: Global, name: &[u8]) -> Result<FileKeeper<File>, KeepFault>
+        ensures fresh { IfOk result (λ store. store.keeper.faults ≡ 0) }
+        ensures lent { IfOk result (λ store. Unit {0}) }
+        ensures told { IfOk result (λ store. ⊥ → ⊥ × IsSame (λ key. None) (λ key. None)) }
+        ensures others { (other : List ℕ) → ⊥ → ⊥ × IsSame (λ key. None) (λ key. None) }
+        ensures never_falls { self.old.faults ≤ self.new.faults }
+        ensures steady { result ≢ Err KeepFault.Failed → self.new.faults ≡ self.old.faults }
+        ensures failed { IsErrOf result KeepFault.Failed → Rose self.old.faults self.new.faults }
+
+        // A database that isn't the one table of a store isn't opened as one.
+        ensures ours { IfOk result (λ store. store.keeper.is_ours ≡ true) }
+    {
         match FileKeeper::open(&self.rt, name) {
             Ok(store) => Ok(store),
             Err(KeepFault::OutOfMemory) => Err(KeepFault::OutOfMemory),
