@@ -137,3 +137,9 @@ fn repeat_at_start(alloc: Global) -> Result<(), Fail> {
 fn a_repeated_edit_acts_once(rt: HostRuntime) -> Result<(), Fail> {
     repeat_at_start(rt.alloc())
 }
+
+#[test]
+fn want_of_memory_is_told(rt: HostRuntime) -> Result<(), Fail> {
+    let told = EditFault::OutOfMemory.to_string(rt.alloc())?;
+    expect_eq(&told.as_str(), &"out of memory")
+}
