@@ -1,8 +1,8 @@
 -- What serving comes to, from what answers.
-use Rattle.std.proofs.Common.{◌≡◌, ◌≢◌, ℕ, List, [], Option, refl}
+use Rattle.std.proofs.Common.{◌≡◌, ◌≢◌, ℕ, ◌≤◌, List, [], Option, length, refl}
 use Rattle.std.specs.Io.KnownBytes.{Consumes}
 use Rattle.desk_http.specs.Rest.{Message}
-use Rattle.desk_front.specs.Served.{Serves, ServedWhole}
+use Rattle.desk_front.specs.Served.{Serves, ServedWhole, stream_limit}
 use Rattle.desk_front.specs.Service.{Replies}
 use Rattle.desk_front.specs.declared.served.Served.{Served}
 use Rattle.desk_front.specs.declared.served.Served.TheVariants as served
@@ -34,10 +34,11 @@ serves_weaker P Q served.OutOfMemory bytes left before after weaker x = absurd x
 
 -- however it ends, some requests were answered
 pub replied : {A : Type 0} (R : A → Message → List ℕ → A → Type 0) (old new : A) (how : Served) (unread now before after : Option (List ℕ))
-    → (how ≢ served.OutOfMemory → (bytes : List ℕ) × Consumes unread now bytes × Serves (λ requests said. Replies R old requests said new) how bytes now before after)
+    → (how ≢ served.OutOfMemory → (bytes : List ℕ) × Consumes unread now bytes × (length bytes ≤ stream_limit)
+    × Serves (λ requests said. Replies R old requests said new) how bytes now before after)
     → (how ≡ served.OutOfMemory → new ≡ old) → (ms : List Message) × (said : List ℕ) × Replies R old ms said new
-replied R old new served.Ended unread now before after x same = let y = (x (λ e. cc)).2 in (y.requests, y.said, y.answered)
-replied R old new served.Cut unread now before after x same = let y = (x (λ e. cc)).2 in (y.requests, y.said, y.answered)
-replied R old new served.TooLong unread now before after x same = let y = (x (λ e. cc)).2 in (y.requests, y.said, y.answered)
-replied R old new served.LinkFault unread now before after x same = let y = (x (λ e. cc)).2 in (y.requests, y.said, y.answered)
+replied R old new served.Ended unread now before after x same = let y = (x (λ e. cc)).3 in (y.requests, y.said, y.answered)
+replied R old new served.Cut unread now before after x same = let y = (x (λ e. cc)).3 in (y.requests, y.said, y.answered)
+replied R old new served.TooLong unread now before after x same = let y = (x (λ e. cc)).3 in (y.requests, y.said, y.answered)
+replied R old new served.LinkFault unread now before after x same = let y = (x (λ e. cc)).3 in (y.requests, y.said, y.answered)
 replied R old new served.OutOfMemory unread now before after x same = ([], [], (refl, same refl))

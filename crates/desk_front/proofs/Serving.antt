@@ -141,9 +141,13 @@ end_is_served R bytes (b ∷ held) left old new none waits ends x at_end within 
 
 -- ---- one read
 
--- these bytes were read, and so they are answered
+-- what was read is no more than the limit, where the rest up to it is left
+bounded : (bytes left limit : ℕ) → bytes + left ≡ limit → bytes ≤ limit
+bounded bytes left limit e = omega arith
+
+-- these bytes were read, no more than are read of a stream, and so they are answered
 abbrev pub Answered : {A : Type 0} → (A → Message → List ℕ → A → Type 0) → Option (List ℕ) → Option (List ℕ) → Service A → Service A → Served → Type 0
-Answered R unread now old new how = (bytes : List ℕ) × Consumes unread now bytes
+Answered R unread now old new how = (bytes : List ℕ) × Consumes unread now bytes × (length bytes ≤ stream_limit)
     × Serves (λ requests said. Replies R old.who requests said new.who) how bytes now old.out.written new.out.written
 
 module _ {A : Type 0} (R : A → Message → List ℕ → A → Type 0) (left most count : ℕ) (unread before now : Option (List ℕ)) (old mid : Service A)
@@ -163,6 +167,9 @@ module _ {A : Type 0} (R : A → Message → List ℕ → A → Type 0) (left mo
       counted : (bytes left count new all limit : ℕ) → all ≡ bytes + new → bytes + left ≡ limit → new ≡ count → count ≤ most → most ≤ left → all + (left - count) ≡ limit
       counted bytes left count new all limit a b c d e = omega arith
 
+  all_within : length all_bytes ≤ stream_limit
+  all_within = bounded (length all_bytes) (left - count) stream_limit all_count
+
   all_goes : GoesOn R all_bytes old mid more
   unfolding all_bytes
   all_goes = subst (GoesOn R (x.bytes ++ came.0) old mid) (sym came.1) (goes_later R x.bytes came.0 held old mid x.goes)
@@ -178,15 +185,16 @@ module _ {A : Type 0} (R : A → Message → List ℕ → A → Type 0) (left mo
   }
 
   pub read_over : (new : Service A) (rest : List ℕ) → LeavesSo R more rest mid new round.Over → Answered R unread now old new served.Ended
-  read_over new rest y = (all_bytes, all_given, over_served R all_bytes now old new none y.0 (over_onward R all_bytes more old mid new all_goes y.1))
+  read_over new rest y = (all_bytes, all_given, all_within, over_served R all_bytes now old new none y.0 (over_onward R all_bytes more old mid new all_goes y.1))
 
   pub read_broken : (new : Service A) (rest : List ℕ) → LeavesSo R more rest mid new round.LinkFault → Answered R unread now old new served.LinkFault
-  read_broken new rest y = (all_bytes, all_given, broken_served R all_bytes now old new none (broken_onward R all_bytes more old mid new all_goes y))
+  read_broken new rest y = (all_bytes, all_given, all_within, broken_served R all_bytes now old new none (broken_onward R all_bytes more old mid new all_goes y))
 
   pub read_end : count ≡ 0 → 0 < left → Answered R unread now old mid (end_served more)
   read_end nothing some = (
     all_bytes,
     all_given,
+    all_within,
     end_is_served R all_bytes more now old mid none x.waits (subst (λ l. EndsAs l (open_end l)) (sym same) x.ends) all_goes (came.5 nothing)
         (short (length all_bytes) left count stream_limit all_count nothing some),
   )
@@ -208,6 +216,7 @@ pub read_too_long : {A : Type 0} (R : A → Message → List ℕ → A → Type 
 read_too_long R left unread now old new held none x over = (
   x.bytes,
   x.given,
+  bounded (length x.bytes) left stream_limit x.count,
   open_served R served.TooLong x.bytes held now old new none x.waits x.ends x.goes (λ e. (e, all_read (length x.bytes) left stream_limit x.count over)),
 )
   where
@@ -221,6 +230,7 @@ pub read_failed : {A : Type 0} (R : A → Message → List ℕ → A → Type 0)
 read_failed R left unread before now old mid new held none x kept who same = (
   x.bytes,
   Consumes-kept unread before now x.bytes x.given kept,
+  bounded (length x.bytes) left stream_limit x.count,
   subst (λ a. Serves (λ requests said. Replies R old.who requests said a) served.LinkFault x.bytes now old.out.written new.out.written) (sym who)
       (subst (Serves (λ requests said. Replies R old.who requests said mid.who) served.LinkFault x.bytes now old.out.written) (sym same)
       (unread_served R x.bytes held now old mid none x.waits x.goes)),

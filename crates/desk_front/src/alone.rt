@@ -1,9 +1,9 @@
-ghost use Rattle.std.specs.Prelude.{◌≡◌, ◌≢◌, ◌≤◌, ℕ, List};
+ghost use Rattle.std.specs.Prelude.{◌≡◌, ◌≢◌, ◌≤◌, ℕ, List, length};
 ghost use Rattle.std.specs.Io.KnownBytes.{Consumes};
 ghost use Rattle.desk_clerk.specs.Clerk.{keeper_of, number_at, whole};
 ghost use Rattle.desk_edge.specs.Faults.{Rose};
 ghost use Rattle.desk_front.specs.Last.{IsFresh};
-ghost use Rattle.desk_front.specs.Served.{Serves};
+ghost use Rattle.desk_front.specs.Served.{Serves, stream_limit};
 ghost use Rattle.desk_front.specs.Turn.{Converses};
 ghost use Rattle.desk_history.specs.Sound.{Sound};
 
@@ -25,7 +25,8 @@ use std::sync::Wait;
 /// of the stream.
 ///
 /// `Ended`: the input ended between two requests, or a reply has closed the connection. `Cut`: the input ended inside a request.
-/// `TooLong`: 1,099,511,627,776 bytes were read, and no reply has closed the connection; the requests in them are answered.
+/// `TooLong`: 1,099,511,627,776 bytes were read, and no reply has closed the connection; the requests in them are answered. However it
+/// ends, no more than these are read.
 /// `LinkFault`: the link counted a fault; what was written is a beginning of the replies. `OutOfMemory`: there was no memory for the
 /// routes and the buffer of 73,728 bytes, and nothing was read.
 pub fn serve_alone<R: Wait + Sync, L: Link, K: Keeper>(
@@ -34,7 +35,7 @@ pub fn serve_alone<R: Wait + Sync, L: Link, K: Keeper>(
     clerk: &mut Clerk<K>,
     link: &mut L,
 ) -> Served
-    ensures served { result ≢ Served.OutOfMemory → (bytes : List ℕ) × Consumes (L.unread link.old) (L.unread link.new) bytes
+    ensures served { result ≢ Served.OutOfMemory → (bytes : List ℕ) × Consumes (L.unread link.old) (L.unread link.new) bytes × (length bytes ≤ stream_limit)
         × Serves (Converses
         (record { whole = whole clerk.old; met = number_at (whole clerk.old); faults = K.faults (keeper_of clerk.old) })
         (whole clerk.new) (K.faults (keeper_of clerk.new)))
@@ -61,7 +62,7 @@ fn serve_by<R: Wait + Sync, L: Link, K: Keeper>(
     clerk: &mut Clerk<K>,
     link: &mut L,
 ) -> Served
-    ensures served { result ≢ Served.OutOfMemory → (bytes : List ℕ) × Consumes (L.unread link.old) (L.unread link.new) bytes
+    ensures served { result ≢ Served.OutOfMemory → (bytes : List ℕ) × Consumes (L.unread link.old) (L.unread link.new) bytes × (length bytes ≤ stream_limit)
         × Serves (Converses
         (record { whole = whole clerk.old; met = number_at (whole clerk.old); faults = K.faults (keeper_of clerk.old) })
         (whole clerk.new) (K.faults (keeper_of clerk.new)))
@@ -100,7 +101,7 @@ fn serve_connection<R: Wait + Sync, L: Link, K: Keeper>(
     requires met { connection.old.met ≡ number_at (whole connection.old.clerk.now) }
     requires fresh { IsFresh (whole connection.old.clerk.now) connection.old.last.now }
     ensures same_clerk { connection.new.clerk.ghost_name ≡ connection.old.clerk.ghost_name }
-    ensures served { result ≢ Served.OutOfMemory → (bytes : List ℕ) × Consumes (L.unread link.old) (L.unread link.new) bytes
+    ensures served { result ≢ Served.OutOfMemory → (bytes : List ℕ) × Consumes (L.unread link.old) (L.unread link.new) bytes × (length bytes ≤ stream_limit)
         × Serves (Converses
         (record { whole = whole connection.old.clerk.now; met = connection.old.met; faults = K.faults (keeper_of connection.old.clerk.now) })
         (whole connection.new.clerk.now) (K.faults (keeper_of connection.new.clerk.now)))

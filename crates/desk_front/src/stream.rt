@@ -1,8 +1,8 @@
-ghost use Rattle.std.specs.Prelude.{◌≡◌, ◌≢◌, ◌≤◌, ℕ, List, [], OnErr, OnOk};
+ghost use Rattle.std.specs.Prelude.{◌≡◌, ◌≢◌, ◌≤◌, ℕ, List, [], length, OnErr, OnOk};
 ghost use Rattle.std.specs.Io.KnownBytes.{Consumes};
 ghost use Rattle.desk_edge.specs.Faults.{Rose};
 ghost use Rattle.desk_http.specs.Taken.{IsTakenFrom, message_of};
-ghost use Rattle.desk_front.specs.Served.{Serves, end_served};
+ghost use Rattle.desk_front.specs.Served.{Serves, end_served, stream_limit};
 ghost use Rattle.desk_front.specs.Service.{BeginsSo, BreaksOff, GoesSo, LeavesSo, Replies, Sends, service};
 
 use crate::answerer::Answerer;
@@ -28,7 +28,7 @@ pub(crate) fn serve<R: Wait + Sync, L: Link, A: Answerer>(
     link: &mut L,
     answerer: &mut A,
 ) -> Served
-    ensures served { result ≢ Served.OutOfMemory → (bytes : List ℕ) × Consumes (L.unread link.old) (L.unread link.new) bytes
+    ensures served { result ≢ Served.OutOfMemory → (bytes : List ℕ) × Consumes (L.unread link.old) (L.unread link.new) bytes × (length bytes ≤ stream_limit)
         × Serves (λ requests said. Replies A.replies answerer.old requests said answerer.new) result bytes
         (L.unread link.new) (L.written link.old) (L.written link.new) }
     ensures nothing { result ≡ Served.OutOfMemory → (answerer.new ≡ answerer.old) × (link.new ≡ link.old) }
@@ -52,7 +52,7 @@ fn serve_held<R: Wait + Sync, L: Link, A: Answerer>(
 ) -> Served
     requires { held ≡ [] }
     ensures memory { result ≢ Served.OutOfMemory }
-    ensures served { (bytes : List ℕ) × Consumes (L.unread link.old) (L.unread link.new) bytes
+    ensures served { (bytes : List ℕ) × Consumes (L.unread link.old) (L.unread link.new) bytes × (length bytes ≤ stream_limit)
         × Serves (λ requests said. Replies A.replies answerer.old requests said answerer.new) result bytes
         (L.unread link.new) (L.written link.old) (L.written link.new) }
     ensures never_falls { L.faults link.old ≤ L.faults link.new }

@@ -88,6 +88,7 @@ ends_as Told Tells kept c d faults ended console rose tells given (inl (first, o
         last = was.last;
         bytes = was.bytes;
         read = was.read;
+        within = was.within;
         serves = was.serves;
         closed = λ told. same_trans (tables_content was.last) c d (was.closed (tells told)) (given told);
       },

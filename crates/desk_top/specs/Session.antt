@@ -1,10 +1,10 @@
 -- What comes of a session: one stream of requests that is served on the console, over the desk of a store or over a new one.
-use Rattle.std.specs.Prelude.{◌≡◌, ◌⊎◌, ℕ, List, None}
+use Rattle.std.specs.Prelude.{◌≡◌, ◌⊎◌, ℕ, ◌≤◌, List, None, length}
 use Rattle.std.specs.Io.KnownBytes.{Consumes}
 use Rattle.desk_clerk.specs.Clerk.{number_at}
 use Rattle.desk_clerk.specs.Opening.{IsOpenedAs}
 use Rattle.desk_edge.specs.Content.{Content, IsSame}
-use Rattle.desk_front.specs.Served.{Serves}
+use Rattle.desk_front.specs.Served.{Serves, stream_limit}
 use Rattle.desk_front.specs.Turn.{Converses, Standing}
 use Rattle.desk_front.specs.declared.served.Served.{Served}
 use Rattle.desk_front.specs.declared.served.Served.TheVariants.{Ended, Cut, TooLong, LinkFault, OutOfMemory}
@@ -34,12 +34,13 @@ abbrev pub begun : Lists → Standing
 begun t = record { whole = t; met = number_at t; faults = 0 }
 
 -- The stream was served over these tables, and the store keeps the desk as the last request has left it, where it tells what it keeps. It
--- has counted so many faults.
+-- has counted so many faults, and no more bytes were read than the most of a stream.
 pub record WasServed (Tells : Type 0) (keeps : Content) (faults : ℕ) (first : Lists) (served : Served) (c : Console) : Type 0 where
   pub sound : Sound first
   pub last : Lists
   pub bytes : List ℕ
   pub read : Consumes c.unread c.left bytes
+  pub within : length bytes ≤ stream_limit
   pub serves : Serves (Converses (begun first) last faults) served bytes c.left c.before c.after
   pub closed : Tells → IsSame (tables_content last) keeps
 

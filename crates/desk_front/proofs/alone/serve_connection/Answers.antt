@@ -48,6 +48,7 @@ returns-clause-served g c other =
     let met : old.met ≤ number_at old.whole = omega (arith, c.requires.met) in (
       x.0,
       x.1,
+      x.2,
       serves_weaker (λ requests said. Replies R c.args.connection.now requests said c.serve.new.answerer) (Converses old left counted) c.serve.result x.0
           (g.L.Link.unread c.serve.new.link) (g.L.Link.written c.args.link.now) (g.L.Link.written c.serve.new.link)
           (λ ms said replies.
@@ -55,5 +56,5 @@ returns-clause-served g c other =
           c.args.connection.now c.serve.new.answerer ms said replies c.requires.fresh
           in
           converses old left c.serve.new.answerer.met counted ms y.0 y.1 said c.requires.sound met y.2 y.3)
-          x.2,
+          x.3,
     )
