@@ -68,10 +68,10 @@ unbegun_as Told Tells a b c d faults ended console rose tells same given was = r
   closed = λ told. kept_as told (was.closed (tells told));
 }
   where
-    kept_as : (told : Told) → IsSame b c ⊎ (IsEmpty b × IsSame (tables_content start) c)
-        → IsSame a d ⊎ (IsEmpty a × IsSame (tables_content start) d)
+    kept_as : (told : Told) → IsSame b c ⊎ ((was.answer ≡ answer_without_memory) × IsEmpty b × IsSame (tables_content start) c)
+        → IsSame a d ⊎ ((was.answer ≡ answer_without_memory) × IsEmpty a × IsSame (tables_content start) d)
     kept_as told (inl stays) = inl (same_trans a c d (same_trans a b c (same told) stays) (given told))
-    kept_as told (inr (none, begun)) = inr ((λ key. sym (same told key) ∙ none key), same_trans (tables_content start) c d begun (given told))
+    kept_as told (inr (memory, none, begun)) = inr (memory, (λ key. sym (same told key) ∙ none key), same_trans (tables_content start) c d begun (given told))
 
 -- a session over a keeper is one over the store that the keeper is given back to
 pub ends_as : (Told Tells : Type 0) (kept c d : Content) (faults ended : ℕ) (console : Console) (rose : Type 0)
@@ -107,8 +107,8 @@ rose_from_none before after none rose = search (arith, none, rose)
 
 -- the start tables that an empty store was opened as are kept, or else the store is as it was
 pub begun_as : (kept keeps : Content) (first : Lists) → IsOpenedAs kept first → IsSame (tables_content first) keeps
-    → IsSame kept keeps ⊎ (IsEmpty kept × IsSame (tables_content start) keeps)
-begun_as kept keeps first (inl (none, is)) same = inr (none, rw is at same)
+    → IsSame kept keeps ⊎ ((answer_without_memory ≡ answer_without_memory) × IsEmpty kept × IsSame (tables_content start) keeps)
+begun_as kept keeps first (inl (none, is)) same = inr (refl, none, rw is at same)
 begun_as kept keeps first (inr (some, was)) same = inl (λ key. same key ∙ sym (was key))
 
 -- a clerk over the opened store served the stream, or there was no memory to serve it

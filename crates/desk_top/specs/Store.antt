@@ -19,14 +19,15 @@ IsCause Tells kept faults answer =
     × (Tells → (t : Lists) → Sound t → IsOpenedAs kept t → ⊥))
     ⊎ (answer ≡ answer_without_memory)
 
--- nothing was read, and the line that was written tells why; the store is as it was, or it was empty and keeps the start tables
+-- nothing was read, and the line that was written tells why; the store is as it was, or memory was wanting, and it was empty and keeps
+-- the start tables
 pub record WasNotBegun (Tells : Type 0) (kept keeps : Content) (faults : ℕ) (ended : ℕ) (c : Console) (rose : Type 0) : Type 0 where
   pub answer : Answer
   pub cause : IsCause Tells kept faults answer
   pub status : (ended ≡ status_code answer.status) ⊎ (ended ≡ status_code OutOfMemory)
   pub told : Answers answer ended c.before c.after rose
   pub unread : Keeps c.unread c.left
-  pub closed : Tells → IsSame kept keeps ⊎ (IsEmpty kept × IsSame (tables_content start) keeps)
+  pub closed : Tells → IsSame kept keeps ⊎ ((answer ≡ answer_without_memory) × IsEmpty kept × IsSame (tables_content start) keeps)
 
 -- How a command over a store ends: by whether the store tells what it keeps, what it kept before, and keeps now, how many faults it has
 -- counted, the status, the console, and whether the console counted a fault.
