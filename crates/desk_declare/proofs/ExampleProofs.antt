@@ -22,6 +22,7 @@ pub read_examples : ReadExamples
 unfolding examples
 read_examples = record {
   the_head = refl;
+  the_greatest_number = refl;
   a_substance = refl;
   a_lesser_substance = refl;
   a_claim = refl;

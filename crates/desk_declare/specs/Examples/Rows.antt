@@ -37,6 +37,9 @@ for_lead number = record { rule = Lead; number = number }
 -- what rows begin and add: substances stand in order of code, whatever the order of their rows
 pub record ReadExamples : Type 0 where
   pub the_head : begun_by head ≡ Ok (declaration_start (codes "ACME") 7 (record { year = 2024; month = 1; day = 23 }))
+  -- a declaration's number goes up to 2^64 - 1
+  pub the_greatest_number : begun_by (map codes ("D" ∷ "1" ∷ "ACME" ∷ "18446744073709551615" ∷ "2024-01-23" ∷ []))
+      ≡ Ok (declaration_start (codes "ACME") 18446744073709551615 (record { year = 2024; month = 1; day = 23 }))
   pub a_substance : extended_by 3 lead (brass_with [] []) ≡ Ok (brass_with (some (codes "lead") 4 ∷ []) [])
   pub a_lesser_substance : extended_by 4 (map codes ("S" ∷ "A" ∷ "cadmium" ∷ "0" ∷ [])) (brass_with (some (codes "lead") 4 ∷ []) [])
       ≡ Ok (brass_with (some (codes "cadmium") 0 ∷ some (codes "lead") 4 ∷ []) [])
