@@ -2,7 +2,7 @@ ghost use Rattle.desk_history.specs.Sound.{Sound};
 
 use crate::helpers::edit_of;
 use desk_tables::{EditFault, Tables};
-use desk_testing::expect_eq;
+use desk_testing::{expect_eq, shows};
 use std::alloc::Global;
 use std::test::Fail;
 
@@ -140,6 +140,5 @@ fn a_repeated_edit_acts_once(rt: HostRuntime) -> Result<(), Fail> {
 
 #[test]
 fn want_of_memory_is_told(rt: HostRuntime) -> Result<(), Fail> {
-    let told = EditFault::OutOfMemory.to_string(rt.alloc())?;
-    expect_eq(&told.as_str(), &"out of memory")
+    shows(rt.alloc(), &EditFault::OutOfMemory, "out of memory")
 }
