@@ -269,6 +269,17 @@ fn a_kettle_weighs_its_cable_twice(rt: HostRuntime) -> Result<(), Fail> {
     )
 }
 
+#[test]
+fn each_line_of_the_single_bill_counts_once(rt: HostRuntime) -> Result<(), Fail> {
+    let whole = kettle(rt.alloc())?;
+    let bill = whole.single(rt.alloc())?;
+    weigh(
+        rt.alloc(),
+        &bill,
+        &[Some(10), Some(5), Some(15), Some(30), Some(15)],
+    )
+}
+
 /// Fails unless of each place among the five nodes so many parts reach it.
 fn are_counted(alloc: Global, bill: &Links) -> Result<(), Fail> {
     if bill.nodes().len() != 5 {
