@@ -1,5 +1,5 @@
 -- When a database that was looked at is a store.
-use Rattle.std.proofs.Common.{◌≡◌, ℕ, List, [], Option, None, Some, sym, subst}
+use Rattle.std.proofs.Common.{◌≡◌, ◌∙◌, ℕ, List, [], Option, None, Some, sym, subst}
 use Rattle.sqlite_value.specs.Order.{Row}
 use Rattle.sqlite_sql.specs.Program.{overlay}
 use Rattle.sqlite_schema.specs.declared.command.Returning.{Returning}
@@ -38,3 +38,10 @@ numbered_suits old new rows ours shown rising clean now =
 -- the numbers were read one at a time up to the last, and each was greater than the one before it
 pub read_suits : (first old new : State) (rows : List Row) → IsOurs first.now.schema → IsUnchanged first old → Shown numbers_text [] old new rows → AreRising rows → Suits new
 read_suits first old new rows ours same shown rising = numbered_suits old new rows (subst (λ (d : Database). IsOurs d.schema) (sym same.0.now_is) ours) (λ _. shown) rising
+
+-- and all is as it was at first
+pub read_same : (first old new : State) (rows : List Row) → IsOurs first.now.schema → IsUnchanged first old → Shown numbers_text [] old new rows → new.now ≡ first.now
+read_same first old new rows ours same shown =
+    let here = subst (λ (d : Database). IsOurs d.schema) (sym same.0.now_is) ours in
+    let plain = subst (λ s. IsPlain (understood s numbers_text)) (sym here.2) (numbers_plain here.0 here.1) in
+    (listing_same numbers_text [] old new plain rows shown).0.now_is ∙ same.0.now_is

@@ -36,6 +36,10 @@ pub record IsStill (old new : State) : Type 0 where
   pub was_open : HasCleanDisk new → IsTrue new.is_open → IsTrue old.is_open
   pub same : Suits old → HasCleanDisk new → IsTrue new.is_open → new.now ≡ old.now
 
+-- where the database was a store before, and the disk is clean and the connection open now, it has the rows that it had
+abbrev pub KeepsRows : State → State → Type 0
+KeepsRows old new = IsOurs old.now.schema → HasCleanDisk new → IsTrue new.is_open → rows_in new ≡ rows_in old
+
 -- each key is looked for
 abbrev pub any_key : ℕ → List ℕ → Bool
 any_key k c = true

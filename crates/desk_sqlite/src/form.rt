@@ -11,7 +11,8 @@ use sqlite_value::value::Value;
 
 /// Whether the schema is the table of a store and the index of its keys, and nothing else.
 pub(crate) fn is_ours(schema: &Schema) -> bool
-    ensures { IsTrue result → IsOurs schema.now }
+    ensures right { IsTrue result → IsOurs schema.now }
+    ensures found { IsOurs schema.now → IsTrue result }
 {
     match (schema.tables.as_slice(), schema.indexes.as_slice()) {
         ([table], [index]) => {
@@ -28,7 +29,8 @@ pub(crate) fn is_new(schema: &Schema) -> bool {
 
 /// Whether the table is that of a store, whatever it checks of a row.
 fn is_record_table(table: &Table) -> bool
-    ensures { IsTrue result → table.now ≡ record_table table.now.checks }
+    ensures right { IsTrue result → table.now ≡ record_table table.now.checks }
+    ensures found { table.now ≡ record_table table.now.checks → IsTrue result }
 {
     table.name.as_slice() == b"record".as_slice()
         && table.tree == 0
@@ -43,6 +45,8 @@ fn has_record_key(table: &Table) -> bool
     ensures primary { IsTrue result → table.now.primary ≡ 1 ∷ 2 ∷ [] }
     ensures uniques { IsTrue result → table.now.uniques ≡ (1 ∷ 2 ∷ []) ∷ [] }
     ensures orders { IsTrue result → table.now.orders ≡ plain ∷ [] }
+    ensures found { table.now.key ≡ None → table.now.primary ≡ 1 ∷ 2 ∷ [] → table.now.uniques ≡ (1 ∷ 2 ∷ []) ∷ []
+        → table.now.orders ≡ plain ∷ [] → IsTrue result }
 {
     match (table.uniques.as_slice(), table.orders.as_slice()) {
         ([unique], [order]) => {
@@ -61,6 +65,8 @@ fn has_no_more(table: &Table) -> bool
     ensures computed { IsTrue result → table.now.computed ≡ [] }
     ensures stamps { IsTrue result → table.now.stamps ≡ record { places = []; terms = []; formats = [] } }
     ensures counted { IsTrue result → table.now.is_counted ≡ false }
+    ensures found { table.now.references ≡ [] → table.now.computed ≡ []
+        → table.now.stamps ≡ record { places = []; terms = []; formats = [] } → table.now.is_counted ≡ false → IsTrue result }
 {
     table.references.is_empty()
         && table.computed.is_empty()
@@ -70,21 +76,24 @@ fn has_no_more(table: &Table) -> bool
 
 /// Whether no default reads the time.
 fn has_no_stamps(stamps: &Stamps) -> bool
-    ensures { IsTrue result → stamps.now ≡ record { places = []; terms = []; formats = [] } }
+    ensures right { IsTrue result → stamps.now ≡ record { places = []; terms = []; formats = [] } }
+    ensures found { stamps.now ≡ record { places = []; terms = []; formats = [] } → IsTrue result }
 {
     stamps.places.is_empty() && are_no_terms(&stamps.terms) && stamps.formats.is_empty()
 }
 
 /// Whether there are no expressions.
 fn are_no_terms(terms: &Terms) -> bool
-    ensures { IsTrue result → terms.now ≡ [] }
+    ensures right { IsTrue result → terms.now ≡ [] }
+    ensures found { terms.now ≡ [] → IsTrue result }
 {
     terms.roots.is_empty()
 }
 
 /// Whether the places are those of kind and code.
 fn are_key_places(places: &[usize]) -> bool
-    ensures { IsTrue result → places.now ≡ 1 ∷ 2 ∷ [] }
+    ensures right { IsTrue result → places.now ≡ 1 ∷ 2 ∷ [] }
+    ensures found { places.now ≡ 1 ∷ 2 ∷ [] → IsTrue result }
 {
     match places {
         [first, second] => *first == 1 && *second == 2,
@@ -94,7 +103,8 @@ fn are_key_places(places: &[usize]) -> bool
 
 /// Whether the columns are kind, code and body.
 fn are_record_columns(columns: &[Column]) -> bool
-    ensures { IsTrue result → columns.now ≡ record_columns }
+    ensures right { IsTrue result → columns.now ≡ record_columns }
+    ensures found { columns.now ≡ record_columns → IsTrue result }
 {
     match columns {
         [kind, code, body] => {
@@ -108,7 +118,8 @@ fn are_record_columns(columns: &[Column]) -> bool
 
 /// Whether the column has this name and this type, and a value in each row.
 fn is_filled(column: &Column, name: &[u8], kind: Kind) -> bool
-    ensures { IsTrue result → column.now ≡ filled_column name.now kind }
+    ensures right { IsTrue result → column.now ≡ filled_column name.now kind }
+    ensures found { column.now ≡ filled_column name.now kind → IsTrue result }
 {
     column.name.as_slice() == name
         && column.kind == kind
@@ -120,7 +131,8 @@ fn is_filled(column: &Column, name: &[u8], kind: Kind) -> bool
 
 /// Whether the value is NULL.
 fn is_null(given: &Value) -> bool
-    ensures { IsTrue result → given.now ≡ value.Null }
+    ensures right { IsTrue result → given.now ≡ value.Null }
+    ensures found { given.now ≡ value.Null → IsTrue result }
 {
     match given {
         Value::Null => true,
@@ -130,7 +142,8 @@ fn is_null(given: &Value) -> bool
 
 /// Whether the index is that of the keys, under any name.
 fn is_key_index(index: &Index) -> bool
-    ensures { IsTrue result → index.now ≡ key_index index.now.name }
+    ensures right { IsTrue result → index.now ≡ key_index index.now.name }
+    ensures found { index.now ≡ key_index index.now.name → IsTrue result }
 {
     index.tree == 1
         && index.table == 0

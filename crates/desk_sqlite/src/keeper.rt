@@ -3,7 +3,7 @@ ghost use Rattle.sqlite.specs.Held.{state};
 ghost use Rattle.sqlite.specs.State.{HasCleanDisk};
 ghost use Rattle.desk_edge.specs.Faults.{Rose};
 ghost use Rattle.desk_sqlite.specs.Content.{content_of};
-ghost use Rattle.desk_sqlite.specs.Store.{rows_in};
+ghost use Rattle.desk_sqlite.specs.Store.{KeepsRows, rows_in};
 
 use crate::ahead::Ahead;
 use crate::commit::commit_all;
@@ -115,6 +115,8 @@ impl<S: Alter> SqlKeeper<S> {
     /// connection is inside a transaction.
     pub fn ready(&mut self) -> Result<(), KeepFault>
         ensures ready { OnOk result (self.new.is_ready ≡ true) }
+        // A store that was there has the records that it had.
+        ensures kept { OnOk result (self.new.is_ours ≡ true → KeepsRows (state S.Store self.old.connection) (state S.Store self.new.connection)) }
         ensures never_falls { self.old.faults ≤ self.new.faults }
         ensures steady { result ≢ Err KeepFault.Failed → self.new.faults ≡ self.old.faults }
         ensures failed { IsErrOf result KeepFault.Failed → Rose self.old.faults self.new.faults }

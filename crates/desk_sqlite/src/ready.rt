@@ -1,18 +1,20 @@
 ghost use Rattle.std.specs.Prelude.{◌≡◌, false, true, IfOk, IfSome, IsTrue, int_lt};
 ghost use Rattle.sqlite.specs.Held.{state};
-ghost use Rattle.desk_sqlite.specs.Store.{IsOurs, Suits};
+ghost use Rattle.sqlite.specs.State.{HasCleanDisk};
+ghost use Rattle.desk_sqlite.specs.Store.{IsOurs, KeepsRows, Suits};
 
 use crate::form::is_ours;
 use sqlite::{Alter, Connection, Error, ErrorCode};
 
-/// Makes the table of a store where there is none of its name. It answers whether the database is one such table.
+/// Makes the table of a store where there is none of its name. It answers whether the database is one such table. A database that is one
+/// already is only looked at.
 pub(crate) fn make_ready<S: Alter>(conn: &mut Connection<S>) -> Result<bool, Error>
     ensures mode { IfOk result (λ ours. conn.new.in_transaction ≡ false) }
     ensures suits { IfOk result (λ ours. IsTrue ours → Suits (state S.Store conn.new)) }
+    ensures kept { IfOk result (λ ours. IsTrue ours → KeepsRows (state S.Store conn.old) (state S.Store conn.new)) }
 {
-    match make_table(conn) {
-        Ok(()) => {}
-        Err(error) => return Err(error),
+    if !is_ours(conn.schema()) {
+        make_table(conn)?;
     }
     if !conn.is_autocommit() {
         return Err(Error::SqliteFailure(ErrorCode::TransactionState));
@@ -48,6 +50,8 @@ fn are_numbered<S: Alter>(conn: &mut Connection<S>) -> Result<bool, Error>
     requires ours { IsOurs (state S.Store conn.old).now.schema }
     ensures mode { conn.new.in_transaction ≡ false }
     ensures suits { IfOk result (λ numbered. IsTrue numbered → Suits (state S.Store conn.new)) }
+    ensures same { IfOk result (λ numbered. IsTrue numbered → HasCleanDisk (state S.Store conn.new)
+        → (state S.Store conn.new).now ≡ (state S.Store conn.old).now) }
 {
     let mut last: Option<i64> = None;
     let mut rows = conn.query("SELECT rowid FROM record ORDER BY rowid", &[])?;

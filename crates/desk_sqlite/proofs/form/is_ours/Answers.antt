@@ -22,11 +22,11 @@ ours_by schema table index tables indexes views ours key = (
       ∙ ap (λ all. record { tables = record_table table.checks ∷ []; indexes = key_index index.name ∷ []; views = all }) views,
 )
 
-pub returns-then-is_record_table : goal.returns-then-is_record_table
-returns-then-is_record_table c passes = elim c.if-is_empty.branch [
+pub returns-then-is_record_table-clause-right : goal.returns-then-is_record_table-clause-right
+returns-then-is_record_table-clause-right c passes = elim c.if-is_empty.branch [
   | then-is_empty w ↦ ours_by c.args.schema.now c.table-item.result c.index-item.result
       (one_of c.args.schema.now.tables c.as_slice.result.now c.table-item.result (search rules) (search rules) (search rules))
       (one_of c.args.schema.now.indexes c.as_slice-2.result.now c.index-item.result (search rules) (search rules) (search rules))
-      (search rules) (w.is_record_table.ensures (sym w.value-is ∙ c.if-is_record_table.true)) (c.is_key_index.ensures passes)
+      (search rules) (w.is_record_table.ensures.right (sym w.value-is ∙ c.if-is_record_table.true)) (c.is_key_index.ensures.right passes)
   | else-is_empty w ↦ absurd (true≢false (sym c.if-is_record_table.true ∙ w.value-is ∙ w.if-is_empty.false))
 ]

@@ -7,7 +7,7 @@ use Rattle.sqlite.proofs.Callers.{begun_plain, unchanged_then}
 use Rattle.desk_sqlite.specs.Store.{Suits}
 use Rattle.desk_sqlite.specs.Texts.{numbers_text}
 use Rattle.desk_sqlite.proofs.NumberLemmas.{IsUpTo, none_rise, rising_push}
-use Rattle.desk_sqlite.proofs.ReadyLemmas.{read_suits}
+use Rattle.desk_sqlite.proofs.ReadyLemmas.{read_same, read_suits}
 use Rattle.desk_sqlite.proofs.TextLemmas.{numbers_plain}
 use Rattle.desk_sqlite.proofs.ready.are_numbered.Goals as goal
 
@@ -26,6 +26,16 @@ returns-in_default-clause-suits g c numbered clean is_open =
     let was = c.rows.invariant.2 (omega (arith, moved.survives.clean)) in
     let shown = (rw (c.in_ok-row.was, c.in_default.is) at (moved.ok late)) numbers_text [] was.0 was.1 in
     let suits : Suits (state g.S.Store here) = read_suits _ _ _ was.0 c.requires.ours was.2 shown was.3 in
+    search rules
+
+pub returns-in_default-clause-same : goal.returns-in_default-clause-same
+returns-in_default-clause-same g c numbered clean =
+    let moved = c.next.follows.holds-at-none in
+    let here = c.next.follows.lender-at-none.conn.now in
+    let late : HasCleanDisk (state g.S.Store here) = search rules in
+    let was = c.rows.invariant.2 (omega (arith, moved.survives.clean)) in
+    let shown = (rw (c.in_ok-row.was, c.in_default.is) at (moved.ok late)) numbers_text [] was.0 was.1 in
+    let same : (state g.S.Store here).now ≡ (state g.S.Store c.args.conn.now).now = read_same _ _ _ was.0 c.requires.ours was.2 shown in
     search rules
 
 pub rows-preserved : goal.rows-preserved
