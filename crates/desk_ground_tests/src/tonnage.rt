@@ -3,7 +3,7 @@ ghost use Rattle.std.specs.List.{AllByRecursion};
 ghost use Rattle.desk_tonnage.specs.Tonnage.{AreLoadsByProduct, carried_by};
 
 use desk_rows::Table;
-use desk_testing::expect_eq;
+use desk_testing::{expect_eq, shows};
 use desk_text::Code;
 use desk_tonnage::{
     Entry, MassFault, ProductLoad, ProductMass, TakeFault, TonnageFault, Yearly, carried_by,
@@ -244,6 +244,14 @@ fn a_year_of_2_to_the_128_micrograms_is_refused(rt: HostRuntime) -> Result<(), F
         Step::Add(2024, b"B", 1, HALF - 1, Ok(())),
         Step::Add(2023, b"B", 1, HALF, Ok(())),
         Step::Add(2022, b"C", 4, HALF, Err(IN_2022)),
+        // Too many units are told first.
+        Step::Add(
+            2022,
+            b"C",
+            1_000_000_000_001,
+            HALF,
+            Err(TonnageFault::UnitsTooLarge),
+        ),
     ];
     go_so_from_none(rt.alloc(), STEPS)
 }
@@ -465,4 +473,25 @@ fn are_alike(yearly: &mut Yearly, alloc: Global) -> Result<(), Fail> {
 fn a_thousand_edits_leave_what_plain_counts_do(rt: HostRuntime) -> Result<(), Fail> {
     let mut yearly = Yearly::start(rt.alloc())?;
     are_alike(&mut yearly, rt.alloc())
+}
+
+/// Fails unless each fault has its words.
+fn faults_are_told(alloc: Global) -> Result<(), Fail> {
+    let year = 2024;
+    let words = "the units of 2024 weigh too much";
+    shows(alloc, &TonnageFault::YearTooLarge { year }, words)?;
+    shows(alloc, &MassFault::YearTooLarge { year }, words)?;
+    let words = "more than 1000000000000 units";
+    shows(alloc, &TonnageFault::UnitsTooLarge, words)?;
+    shows(alloc, &TonnageFault::OutOfMemory, "out of memory")?;
+    shows(
+        alloc,
+        &TakeFault::BelowZero { kept: 3 },
+        "only 3 units are kept",
+    )
+}
+
+#[test]
+fn faults_of_units_and_masses_are_told(rt: HostRuntime) -> Result<(), Fail> {
+    faults_are_told(rt.alloc())
 }

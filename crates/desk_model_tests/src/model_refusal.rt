@@ -47,7 +47,7 @@ const FULL: [(u8, &str); 4] = [
 #[test]
 fn a_full_table_is_told_by_name(rt: HostRuntime) -> Result<(), Fail> {
     for (table, words) in &FULL {
-        is_told(rt.alloc(), RuleFault::TableFull { table: *table }, words)?;
+        shows(rt.alloc(), &RuleFault::TableFull { table: *table }, words)?;
     }
     Ok(())
 }
@@ -57,5 +57,5 @@ fn a_closed_cycle_is_told_with_its_chain(rt: HostRuntime) -> Result<(), Fail> {
     let chain = [code("X")?, code("Y")?, code("Z")?];
     let chain = Codes::new(chain.to_vec(rt.alloc())?);
     let fault = RuleFault::ClosesCycle { chain };
-    is_told(rt.alloc(), fault, "closes-cycle X Y Z")
+    shows(rt.alloc(), &fault, "closes-cycle X Y Z")
 }
