@@ -35,8 +35,7 @@ pub returns-clause-put_back : goal.returns-clause-put_back
 returns-clause-put_back c =
     let name = c.args.name.now in
     let own = c.take_name-own.result in
-    let is_name = same_name own name (found_has (λ own. own) name c.self.inside.lent.items own c.take_name-own.ensures.taken) in
-    (
+    let is_name = same_name own name (found_has (λ own. own) name c.self.inside.lent.items own c.take_name-own.ensures.taken) in (
       c.put_store.ensures.stores ∙ ap (λ n. (n, c.args.store) ∷ c.self.inside.stores.items) is_name ∙ ap (λ s. (name, c.args.store) ∷ s.stores) c.self.view_is,
       c.take_name-own.ensures.rest ∙ ap (λ s. without_row (λ lent. lent) name_cmp name s.lent) c.self.view_is,
     )

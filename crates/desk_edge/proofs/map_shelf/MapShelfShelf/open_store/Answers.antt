@@ -30,8 +30,7 @@ returns-clause-others c other free =
 
 pub returns-clause-taken : goal.returns-clause-taken
 returns-clause-taken c =
-    let kept : c.self.inside.stores.items ≡ c.args.self.now.stores = ap (λ s. s.stores) c.self.view_is ∙ c.count_opening.ensures.stores.0 in
-    (
+    let kept : c.self.inside.stores.items ≡ c.args.self.now.stores = ap (λ s. s.stores) c.self.view_is ∙ c.count_opening.ensures.stores.0 in (
       c.take_store.ensures.rest ∙ ap (without_row (λ store. store.0) name_cmp c.args.name.now) (c.in_ok-reserve-2.ensures.items ∙ kept),
       lent_then c,
     )
