@@ -460,3 +460,34 @@ fn bytes_are_ordered_as_texts_are(rt: HostRuntime) -> Result<(), Fail> {
     let pairs = [("", "a"), ("a", "ab"), ("ab", "b"), ("Z", "a")];
     expect_eq(&first_wrong_pair(rt.alloc(), &pairs), &Ok(None))
 }
+
+/// Fails unless the faults of codes and names have their words.
+fn faults_of_words_are_told(alloc: Global) -> Result<(), Fail> {
+    shows(alloc, &CodeFault::Empty, "no byte")?;
+    shows(alloc, &CodeFault::TooLong, "too many bytes")?;
+    let words = "a byte that may not stand there, at 3";
+    shows(alloc, &CodeFault::BadByte { at: 3 }, words)?;
+    shows(alloc, &NameFault::Empty, "no byte")?;
+    shows(alloc, &NameFault::TooLong, "more than 200 bytes")?;
+    let words = "not UTF-8, or a control character";
+    shows(alloc, &NameFault::BadText, words)?;
+    shows(alloc, &NameFault::OutOfMemory, "out of memory")
+}
+
+/// Fails unless the faults of CAS numbers, days and numbers have their words.
+fn faults_of_numbers_are_told(alloc: Global) -> Result<(), Fail> {
+    shows(alloc, &CasFault::Shape, "not the form of a CAS number")?;
+    shows(alloc, &CasFault::CheckDigit, "a wrong check digit")?;
+    shows(alloc, &DayFault::Shape, "not a day as YYYY-MM-DD")?;
+    shows(alloc, &DayFault::NoSuchDay, "no such day")?;
+    let words = "a day before 2000-01-01 or after 2099-12-31";
+    shows(alloc, &DayFault::OutOfProfile, words)?;
+    shows(alloc, &NumberFault::Shape, "not a number")?;
+    shows(alloc, &NumberFault::TooBig, "too big a number")
+}
+
+#[test]
+fn faults_of_texts_are_told(rt: HostRuntime) -> Result<(), Fail> {
+    faults_of_words_are_told(rt.alloc())?;
+    faults_of_numbers_are_told(rt.alloc())
+}

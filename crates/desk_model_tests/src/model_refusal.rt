@@ -1,5 +1,5 @@
 use crate::model_helpers::code;
-use desk_model::{Codes, RuleFault};
+use desk_model::{Codes, DeclError, RuleFault};
 use desk_testing::shows;
 use std::alloc::Global;
 use std::test::Fail;
@@ -31,15 +31,36 @@ fn are_told(alloc: Global) -> Result<(), Fail> {
     shows(alloc, &fault, "year-too-large 2024")
 }
 
+/// The same of further forms.
+fn others_are_told(alloc: Global) -> Result<(), Fail> {
+    let code = code("A-1")?;
+    let fault = RuleFault::UnknownMaterial { code };
+    shows(alloc, &fault, "unknown-material A-1")?;
+    let fault = RuleFault::KindChanged { code };
+    shows(alloc, &fault, "kind-changed A-1")?;
+    let fault = RuleFault::WrongChild { child: code };
+    shows(alloc, &fault, "wrong-child A-1")?;
+    shows(alloc, &RuleFault::TextFull, "text-full")?;
+    shows(alloc, &RuleFault::FindingsFull, "findings-full")
+}
+
 #[test]
 fn a_refusal_is_told_by_its_words_and_codes(rt: HostRuntime) -> Result<(), Fail> {
-    are_told(rt.alloc())
+    are_told(rt.alloc())?;
+    others_are_told(rt.alloc())
 }
 
 /// Tables, and the words of each where it is full.
-const FULL: [(u8, &str); 4] = [
+const FULL: [(u8, &str); 11] = [
     (1, "table-full substances"),
+    (2, "table-full members"),
+    (3, "table-full materials"),
+    (4, "table-full parts"),
     (5, "table-full lines"),
+    (6, "table-full products"),
+    (7, "table-full exemptions"),
+    (8, "table-full candidates"),
+    (9, "table-full shipments"),
     (10, "table-full tickets"),
     (11, "table-full lines-of-parent"),
 ];
@@ -58,4 +79,13 @@ fn a_closed_cycle_is_told_with_its_chain(rt: HostRuntime) -> Result<(), Fail> {
     let chain = Codes::new(chain.to_vec(rt.alloc())?);
     let fault = RuleFault::ClosesCycle { chain };
     shows(rt.alloc(), &fault, "closes-cycle X Y Z")
+}
+
+#[test]
+fn a_fault_of_a_declaration_is_told_by_its_words(rt: HostRuntime) -> Result<(), Fail> {
+    shows(rt.alloc(), &DeclError::Repeated, "listed already")?;
+    shows(rt.alloc(), &DeclError::TooMany, "too many")?;
+    let words = "of a material that isn't listed";
+    shows(rt.alloc(), &DeclError::Orphan, words)?;
+    shows(rt.alloc(), &DeclError::OutOfMemory, "out of memory")
 }
