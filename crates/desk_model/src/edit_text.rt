@@ -218,7 +218,7 @@ fn push_material(
 /// Appends how many substances there are, and then the code and the mass of each (micrograms), each field behind a TAB: so
 /// stand they in the text of an edit, and in that of a row.
 ///
-/// `AllocError`: no memory was left for them. `text` then ends with a beginning of them.
+/// `AllocError`: no memory was left for them. What stands in `text` then isn't told.
 pub fn push_substances(
     alloc: Global,
     text: &mut String,
@@ -247,7 +247,7 @@ fn push_substance(alloc: Global, text: &mut String, held: &SubstanceMass) -> Res
 /// Appends how many claims there are, and then the rule and the number of each, each field behind a TAB: so stand they in
 /// the text of an edit, and in that of a row.
 ///
-/// `AllocError`: no memory was left for them. `text` then ends with a beginning of them.
+/// `AllocError`: no memory was left for them. What stands in `text` then isn't told.
 pub fn push_claims(alloc: Global, text: &mut String, claims: &[Claim]) -> Result<(), AllocError>
     ensures { OnOk result (string_bytes text.new ≡ string_bytes text.old ++ tabbed (claim_fields claims.now)) }
 {
