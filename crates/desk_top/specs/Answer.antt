@@ -66,7 +66,7 @@ answer_to_full_store = record { status = Refused; text = codes "refused not-empt
 
 -- the answer to an import of more bytes than a desk has
 abbrev pub answer_to_long_import : Answer
-answer_to_long_import = record { status = Refused; text = codes "refused input-too-long\n" }
+answer_to_long_import = record { status = Refused; text = refusal_line InputTooLong }
 
 -- the answer to an import whose line of this number is no record's, or whose lines, where it is 0, no desk has
 abbrev pub answer_to_damaged_line : ℕ → Answer
