@@ -182,7 +182,7 @@ class Reader:
             else:
                 write_to = words[-1]
             del words[-2:]
-        self.done.append(Run(words, read_from, write_to))
+        self.done.append(Run(words, read_from, write_to, told=[] if self.case.needs_launcher else None))
         self.given = self.wanted = None
 
     def give(self, number, text):
