@@ -249,7 +249,7 @@ def read_head(case, text):
     if mark == "with":
         case.names = rest.split()
     elif mark == "-":
-        case.rows.append(tuple(it.strip() for it in rest.split(" | ")))
+        case.rows.append(tuple(it.strip() for it in re.split(r"(?:^|(?<=\s))\|(?=\s|$)", rest)))
         if len(case.rows[-1]) != len(case.names):
             raise Fault(f"{len(case.names)} values are wanted")
     elif mark == "cut":
