@@ -96,7 +96,8 @@ build() {
     trap 'exit 143' TERM
     trap 'exit 129' HUP
     trap 'exit 141' PIPE
-    room=$(mktemp -d "$top/out/build.XXXXXX") && mkdir "$room/tmp" || give_up "no folder could be made in $top/out"
+    # (its folder .git makes the copy a checkout of its own, which the toolchain asks for)
+    room=$(mktemp -d "$top/out/build.XXXXXX") && mkdir "$room/tmp" "$room/.git" || give_up "no folder could be made in $top/out"
     : > "$log" || give_up "no log could be written to $log"
     copy_sources || give_up "the sources can't be read, or copied into $top/out"
     if ! prove_and_build; then
