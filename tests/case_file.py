@@ -1,6 +1,7 @@
 """The form of the case files in tests/cases, which tests/README.md describes: reading them, and what a case says."""
 import dataclasses
 import itertools
+import os
 import pathlib
 import re
 import shlex
@@ -138,7 +139,7 @@ class Reader:
         # What further input, and further output, goes to the end of.
         self.given = self.wanted = None
         self.marks = {
-            "$": self.run, "<": self.input_line, "<\\": self.input_bytes, "<@": self.input_file, "?": self.request,
+            "$": self.run, "$\\": self.run_of_bytes, "<": self.input_line, "<\\": self.input_bytes, "<@": self.input_file, "?": self.request,
             "!": self.reply, ">": self.output_line, ">\\": self.output_bytes, ">@": self.output_file,
             "&": self.told_line, "=": self.status, "%": self.statement, "+": self.record,
         }
@@ -173,6 +174,10 @@ class Reader:
             if depth == 0:
                 return place
         raise Fault("`each` without `end`")
+
+    def run_of_bytes(self, number, text):
+        self.run(number, text)
+        self.done[-1].words = [os.fsdecode(unescaped(word)) for word in self.done[-1].words]
 
     def run(self, _, text):
         words, read_from, write_to = shlex.split(text), None, None

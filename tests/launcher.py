@@ -189,16 +189,17 @@ def a_store_that_another_desk_has_open_is_told(copy):
     return None if (ran.returncode, ran.stdout) == (4, b"desk: store\n") and ran.stderr.startswith(told) else f"{ran}"
 
 
-def trials(desk):
-    """The tests, each with its name, and a call that gives what is wrong or None."""
+def trial_fault(test, given):
+    """What a test finds wrong in a copy of its own, or None."""
+    with copies(*given) as copy:
+        return test(copy)
+
+
+def tests(desk):
+    """The tests of bin/desk: a name, a function that gives what is wrong or None, and what it is given."""
     program = program_of(desk)
-    compressed = gzip.compress(program, 1)
-
-    def trial(test):
-        with copies(program, compressed) as copy:
-            return test(copy)
-
-    tests = [
+    given = program, gzip.compress(program, 1)
+    found = [
         help_is_written, the_version_names_the_sources, a_changed_source_is_told_without_the_toolchain,
         sources_that_are_changed_back_start_at_once, a_copied_folder_starts, a_link_starts,
         an_unpacked_program_that_was_replaced_is_unpacked_again, a_signal_ends_the_program_too,
@@ -206,6 +207,6 @@ def trials(desk):
     ]
     # (only root can be somebody else)
     if os.geteuid() == 0 and shutil.which("setpriv"):
-        tests += [a_folder_that_may_not_be_written_does, a_second_user_runs_what_the_first_unpacked]
-    for test in tests:
-        yield test.__name__.replace("_", " "), lambda test=test: trial(test)
+        found += [a_folder_that_may_not_be_written_does, a_second_user_runs_what_the_first_unpacked]
+    for test in found:
+        yield f"launcher: {test.__name__.replace('_', ' ')}", trial_fault, (test, given)
