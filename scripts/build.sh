@@ -64,6 +64,16 @@ prove_and_build() {
     return "$now"
 }
 
+reason_to_build() {
+    if [ ! -r "$release/desk.txt" ]; then
+        printf 'there is no released program'
+    elif [ "$(checksum_of_sources "$top")" = "$(told_of_release sources)" ]; then
+        printf "the released program can't be unpacked, since release/desk.gz isn't whole, or neither out/ nor ~/.cache can be written"
+    else
+        printf 'the sources were changed since the release'
+    fi
+}
+
 # What to do where the program can't be built.
 say_of_release() {
     [ -n "$(told_of_release program)" ] && say "to run the released program all the same: bin/desk --released COMMAND"
@@ -75,7 +85,7 @@ build() {
     . "$top/scripts/program.sh"
     log=$top/out/desk.log
     mapfile -t crates < <(crates_of_program "$top")
-    say "the sources were changed since the release, so the program has to be proved and built"
+    say "$(reason_to_build), so the program has to be proved and built"
     if ! command -v rt > /dev/null; then
         say_of_release
         give_up "the command rt of the Rattle toolchain isn't on the PATH: install the toolchain that docs/PROOF.md names, or add its folder bin to PATH"
