@@ -1,5 +1,6 @@
 """The form of the case files in tests/cases, which tests/README.md describes: reading them, and what a case says."""
 import dataclasses
+import functools
 import itertools
 import os
 import pathlib
@@ -105,6 +106,11 @@ def end_of_hole(text, place):
     return place
 
 
+@functools.cache
+def compiled(hole):
+    return compile(hole, "$(..)", "eval")
+
+
 def filled(text, values):
     """The text with each $(..) in it computed over the values."""
     parts, place = [], 0
@@ -112,7 +118,7 @@ def filled(text, values):
         end = end_of_hole(text, begin + 2)
         hole = text[begin + 2 : end - 1]
         try:
-            parts += [text[place:begin], str(eval(hole, {"__builtins__": CALLS}, values))]
+            parts += [text[place:begin], str(eval(compiled(hole), {"__builtins__": CALLS}, values))]
         except Exception as error:
             raise Fault(f"$({hole}): {error}") from error
         place = end
