@@ -1,6 +1,6 @@
 //! The tests of the crates that know nothing of the ten tables: `desk_text`, `desk_law`, `desk_rows`,
-//! `desk_edge`, `desk_graph`, `desk_rollup`, `desk_tonnage` and `desk_words`, each through what it gives
-//! to others. The files of a crate begin with its name.
+//! `desk_edge`, `desk_graph`, `desk_rollup` and `desk_tonnage`, each through what it gives to others.
+//! The files of a crate begin with its name.
 #![tactic(auto)]
 
 #[cfg(test)]
@@ -19,5 +19,3 @@ mod rows;
 mod text;
 #[cfg(test)]
 mod tonnage;
-#[cfg(test)]
-mod words;

@@ -1,13 +1,10 @@
 use crate::model_copy::copy_of;
 use crate::model_helpers::{
-    add_64_substances, add_claims, add_material, add_substances, claim, code, day, declared, name,
-    numbered,
+    add_64_substances, add_claims, add_material, claim, code, declared, name, numbered,
 };
-use crate::model_text::is_told;
 use desk_law::Rule;
-use desk_model::{DeclError, Declaration, Edit, MaterialDecl};
+use desk_model::{DeclError, Declaration, MaterialDecl};
 use desk_testing::{check, expect_eq};
-use desk_text::Code;
 use std::alloc::Global;
 use std::test::Fail;
 
@@ -22,84 +19,6 @@ fn with_one_material(alloc: Global) -> Result<Declaration, Fail> {
     let mut declaration = started(alloc)?;
     add_material(&mut declaration, alloc, material, "Solder", 1_000_000)?;
     Ok(declaration)
-}
-
-/// Fails unless a declaration tells that it is the first of ACME, of 2 March 2024, without materials.
-fn is_started(declaration: &Declaration) -> Result<(), Fail> {
-    let (supplier, number) = (declaration.supplier(), declaration.number());
-    let (day_told, count) = (declaration.day(), declaration.materials().len());
-    expect_eq(
-        &(supplier, number, day_told, count),
-        &(&code("ACME")?, 1, day("2024-03-02")?, 0),
-    )
-}
-
-#[test]
-fn a_declaration_tells_what_it_was_started_with(rt: HostRuntime) -> Result<(), Fail> {
-    let declaration = started(rt.alloc())?;
-    is_started(&declaration)
-}
-
-/// Adds a material for each letter, in this order.
-fn add_letters(declaration: &mut Declaration, alloc: Global, letters: &str) -> Result<(), Fail> {
-    for letter in letters.as_bytes() {
-        add_material(declaration, alloc, Code::read(&[*letter])?, "Steel", 7)?;
-    }
-    Ok(())
-}
-
-/// Fails unless the materials are those of the letters from a to d, without substances and claims.
-fn has_letters(declaration: &Declaration) -> Result<(), Fail> {
-    expect_eq(&declaration.materials().len(), &4)?;
-    for (material, letter) in declaration.materials().iter().zip(b"abcd") {
-        let (code, name) = (material.code.as_bytes(), material.name.as_str());
-        let substances = material.substances.as_slice().len();
-        let claims = material.claims.as_slice().len();
-        expect_eq(
-            &(code, name, material.mass, substances, claims),
-            &([*letter].as_slice(), "Steel", 7, 0, 0),
-        )?;
-    }
-    Ok(())
-}
-
-/// Fails unless materials that are entered in the order of these letters stand in that of their codes.
-fn stand_in_order(alloc: Global, letters: &str) -> Result<(), Fail> {
-    let mut declaration = started(alloc)?;
-    add_letters(&mut declaration, alloc, letters)?;
-    has_letters(&declaration)
-}
-
-#[test]
-fn materials_stand_in_order_of_code_however_they_come(rt: HostRuntime) -> Result<(), Fail> {
-    for letters in &["abcd", "dcba", "bdac", "cadb"] {
-        stand_in_order(rt.alloc(), letters)?;
-    }
-    Ok(())
-}
-
-/// Adds three substances and three claims to M, out of order.
-fn add_three(declaration: &mut Declaration) -> Result<(), Fail> {
-    let substances = [("tin", 600_000), ("copper", 7), ("lead", 0)];
-    add_substances(declaration, "M", &substances)?;
-    let claims = [
-        (Rule::Cadmium, "8(b)"),
-        (Rule::Lead, "7(c)-I"),
-        (Rule::Lead, "6(c)"),
-    ];
-    add_claims(declaration, "M", &claims)
-}
-
-#[test]
-fn a_material_keeps_its_substances_and_claims_in_order(rt: HostRuntime) -> Result<(), Fail> {
-    let mut declaration = with_one_material(rt.alloc())?;
-    add_three(&mut declaration)?;
-    is_told(
-        rt.alloc(),
-        Edit::Declare { declaration },
-        "declare|ACME|1|2024-03-02|1|M|Solder|1000000|3|copper|7|lead|0|tin|600000|3|lead|6(c)|lead|7(c)-I|cadmium|8(b)",
-        "D:ACME:1",
-    )
 }
 
 /// Adds 256 materials, from M0 to M255.
@@ -220,30 +139,6 @@ fn takes_64_and_16(declaration: &mut Declaration, alloc: Global) -> Result<(), F
 fn a_material_takes_64_substances_and_16_claims(rt: HostRuntime) -> Result<(), Fail> {
     let mut declaration = with_one_material(rt.alloc())?;
     takes_64_and_16(&mut declaration, rt.alloc())
-}
-
-/// Substances and their masses, and whether M holds too much with each.
-const WEIGHTS: [(&str, u32, bool); 3] = [
-    ("tin", 600_000, false),
-    ("lead", 400_000, false),
-    ("zinc", 1, true),
-];
-
-/// Fails unless M holds too much with those substances of which it is said, and says with which it doesn't go so.
-fn holds_too_much(declaration: &mut Declaration, rows: &[(&str, u32, bool)]) -> Result<(), Fail> {
-    for (substance, mass, too_much) in rows {
-        add_substances(declaration, "M", &[(*substance, *mass)])?;
-        let mut materials = declaration.materials().iter();
-        let found = materials.any(|material| material.holds_too_much());
-        expect_eq(&(substance, found), &(substance, *too_much))?;
-    }
-    Ok(())
-}
-
-#[test]
-fn substances_may_weigh_as_much_as_the_material(rt: HostRuntime) -> Result<(), Fail> {
-    let mut declaration = with_one_material(rt.alloc())?;
-    holds_too_much(&mut declaration, &WEIGHTS)
 }
 
 #[test]

@@ -70,18 +70,6 @@ pub(crate) fn add_64_substances(
     Ok(())
 }
 
-/// Adds substances of these masses to a material.
-pub(crate) fn add_substances(
-    declaration: &mut Declaration,
-    material: &str,
-    rows: &[(&str, u32)],
-) -> Result<(), Fail> {
-    for (substance, mass) in rows {
-        declaration.add_substance(&code(material)?, code(substance)?, u64::from(*mass))?;
-    }
-    Ok(())
-}
-
 /// Adds claims for a material.
 pub(crate) fn add_claims(
     declaration: &mut Declaration,
