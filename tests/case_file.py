@@ -89,10 +89,13 @@ class Case:
     lines: list = dataclasses.field(default_factory=list)
 
     def trials(self):
-        """The trials of the case, one a row: what tells the row, and its steps."""
+        """The trials of the case, one a row: what tells the row, and its values."""
         for row in self.rows or [()]:
-            values = dict(zip(self.names, row))
-            yield " | ".join(row), Reader(self, values).steps()
+            yield " | ".join(row), dict(zip(self.names, row))
+
+    def steps(self, values):
+        """The steps of the trial with these values."""
+        return Reader(self, values).steps()
 
 
 def end_of_hole(text, place):
