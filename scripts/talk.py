@@ -1,16 +1,26 @@
-"""What the scripts share that talk to a running desk: requests as bytes, replies read from a stream, whole sessions."""
+"""What the scripts share that talk to the desk: requests as bytes, replies read from a stream, runs of the program, records of a store."""
+import collections
+import io
 import json
+import sqlite3
 import subprocess
+import time
+
+# A reply: its status, the further lines of its head, its body, and all of it as it came.
+Reply = collections.namedtuple("Reply", "status lines body text")
+# A run that ended: its status, or None where it was killed, what it wrote, and how many seconds it took.
+Ran = collections.namedtuple("Ran", "status wrote seconds")
 
 
-def message(method, path, body=None):
-    """One request of HTTP/1.1, as bytes."""
-    length = "" if body is None else f"Content-Length: {len(body)}\r\n"
-    return f"{method} {path} HTTP/1.1\r\n{length}\r\n".encode() + (body or b"")
+def message(method, target, body=None, lines=(), version="1.1"):
+    """One request, as bytes."""
+    length = [] if body is None else [f"Content-Length: {len(body)}"]
+    head = [f"{method} {target} HTTP/{version}", *lines, *length, "", ""]
+    return "\r\n".join(head).encode() + (body or b"")
 
 
-def question(path):
-    return message("GET", path)
+def question(target):
+    return message("GET", target)
 
 
 def edit(word, ticket, **fields):
@@ -27,29 +37,88 @@ def declare(text):
 
 
 def reply(stream):
-    """The next whole reply as its status and its body, or None where the stream ends before or inside it."""
-    first = stream.readline()
-    if not first.endswith(b"\r\n"):
-        return None
-    length = 0
+    """The next whole reply, or None where the stream ends before or inside it."""
+    lines = []
     for line in iter(stream.readline, b"\r\n"):
         if not line.endswith(b"\r\n"):
             return None
-        name, _, value = line.decode().partition(": ")
-        if name == "Content-Length":
-            length = int(value)
+        lines.append(line)
+    if not lines:
+        return None
+    further = [line.decode().removesuffix("\r\n") for line in lines[1:]]
+    named = dict(line.split(": ", 1) for line in further)
+    length = int(named.get("Content-Length", 0))
     body = stream.read(length)
-    return (int(first.split()[1]), body) if len(body) == length else None
+    if len(body) != length:
+        return None
+    return Reply(int(lines[0].split()[1]), further, body, b"".join([*lines, b"\r\n", body]))
 
 
-def number(body):
-    """The number in the body of an accepted edit."""
-    words = body.split()
+def replies_of(stream):
+    """All whole replies of a stream."""
+    return list(iter(lambda: reply(stream), None))
+
+
+def replies(wrote):
+    """All whole replies in what a session wrote."""
+    return replies_of(io.BytesIO(wrote))
+
+
+def number(told):
+    """The number in the reply to an accepted edit."""
+    words = told.body.split()
     return int(words[words.index(b"accepted") + 1])
 
 
-def session(program, stream, store=None, words=()):
-    """Runs a whole session: its exit status, and the bytes that it wrote."""
-    options = [] if store is None else ["--store", str(store)]
-    ran = subprocess.run([*words, program, "session", *options], input=stream, stdout=subprocess.PIPE)
-    return ran.returncode, ran.stdout
+def over(store):
+    """The words that name a store, or none."""
+    return [] if store is None else ["--store", str(store)]
+
+
+def run(program, words, given=b"", before=(), limit=None, **options):
+    """Runs the program to its end, by the command `before`; it is killed after `limit` seconds."""
+    began = time.monotonic()
+    try:
+        ran = subprocess.run([*before, program, *words], input=given, stdout=subprocess.PIPE, timeout=limit, **options)
+        return Ran(ran.returncode, ran.stdout, time.monotonic() - began)
+    except subprocess.TimeoutExpired as ended:
+        return Ran(None, ended.stdout or b"", time.monotonic() - began)
+
+
+def session(program, stream, store=None, **options):
+    """Runs a whole session."""
+    return run(program, ["session", *over(store)], stream, **options)
+
+
+class Session:
+    """A session that stays open, where a request may wait for the reply to the one before."""
+
+    def __init__(self, program, store=None):
+        self.process = subprocess.Popen([program, "session", *over(store)], stdin=subprocess.PIPE, stdout=subprocess.PIPE)
+
+    def send(self, request):
+        self.process.stdin.write(request)
+        self.process.stdin.flush()
+
+    def reply(self):
+        return reply(self.process.stdout)
+
+    def say(self, request):
+        self.send(request)
+        return self.reply()
+
+    def end(self):
+        """Ends the input, and gives the status and what was still written."""
+        self.process.stdin.close()
+        rest = self.process.stdout.read()
+        self.process.stdout.close()
+        return self.process.wait(), rest
+
+
+def records(store):
+    """The records of a store in order, as SQLite reads them."""
+    base = sqlite3.connect(store)
+    try:
+        return base.execute("select kind, code, body from record order by kind, code").fetchall()
+    finally:
+        base.close()

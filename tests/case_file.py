@@ -1,6 +1,8 @@
 """The form of the case files in tests/cases, which tests/README.md describes: reading them, and what a case says."""
 import dataclasses
+import functools
 import itertools
+import os
 import pathlib
 import re
 import shlex
@@ -87,10 +89,13 @@ class Case:
     lines: list = dataclasses.field(default_factory=list)
 
     def trials(self):
-        """The trials of the case, one a row: what tells the row, and its steps."""
+        """The trials of the case, one a row: what tells the row, and its values."""
         for row in self.rows or [()]:
-            values = dict(zip(self.names, row))
-            yield " | ".join(row), Reader(self, values).steps()
+            yield " | ".join(row), dict(zip(self.names, row))
+
+    def steps(self, values):
+        """The steps of the trial with these values."""
+        return Reader(self, values).steps()
 
 
 def end_of_hole(text, place):
@@ -104,6 +109,11 @@ def end_of_hole(text, place):
     return place
 
 
+@functools.cache
+def compiled(hole):
+    return compile(hole, "$(..)", "eval")
+
+
 def filled(text, values):
     """The text with each $(..) in it computed over the values."""
     parts, place = [], 0
@@ -111,7 +121,7 @@ def filled(text, values):
         end = end_of_hole(text, begin + 2)
         hole = text[begin + 2 : end - 1]
         try:
-            parts += [text[place:begin], str(eval(hole, {"__builtins__": CALLS}, values))]
+            parts += [text[place:begin], str(eval(compiled(hole), {"__builtins__": CALLS}, values))]
         except Exception as error:
             raise Fault(f"$({hole}): {error}") from error
         place = end
@@ -138,7 +148,7 @@ class Reader:
         # What further input, and further output, goes to the end of.
         self.given = self.wanted = None
         self.marks = {
-            "$": self.run, "<": self.input_line, "<\\": self.input_bytes, "<@": self.input_file, "?": self.request,
+            "$": self.run, "$\\": self.run_of_bytes, "<": self.input_line, "<\\": self.input_bytes, "<@": self.input_file, "?": self.request,
             "!": self.reply, ">": self.output_line, ">\\": self.output_bytes, ">@": self.output_file,
             "&": self.told_line, "=": self.status, "%": self.statement, "+": self.record,
         }
@@ -174,6 +184,10 @@ class Reader:
                 return place
         raise Fault("`each` without `end`")
 
+    def run_of_bytes(self, number, text):
+        self.run(number, text)
+        self.done[-1].words = [os.fsdecode(unescaped(word)) for word in self.done[-1].words]
+
     def run(self, _, text):
         words, read_from, write_to = shlex.split(text), None, None
         while len(words) > 1 and words[-2] in ("<", ">"):
@@ -182,7 +196,7 @@ class Reader:
             else:
                 write_to = words[-1]
             del words[-2:]
-        self.done.append(Run(words, read_from, write_to))
+        self.done.append(Run(words, read_from, write_to, told=[] if self.case.needs_launcher else None))
         self.given = self.wanted = None
 
     def give(self, number, text):
@@ -249,7 +263,7 @@ def read_head(case, text):
     if mark == "with":
         case.names = rest.split()
     elif mark == "-":
-        case.rows.append(tuple(it.strip() for it in rest.split(" | ")))
+        case.rows.append(tuple(it.strip() for it in re.split(r"(?:^|(?<=\s))\|(?=\s|$)", rest)))
         if len(case.rows[-1]) != len(case.names):
             raise Fault(f"{len(case.names)} values are wanted")
     elif mark == "cut":

@@ -10,86 +10,16 @@ use std::test::Fail;
 /// What is sent, its body, the status that is answered, and the reply's body.
 type Row = (&'static str, &'static str, &'static str, &'static str);
 
-const PART_A: &str = r#"{"edit":"part","ticket":"t1","code":"A","kind":"assembly","name":"Frame"}"#;
+const PART: &str = r#"{"edit":"part","ticket":"t1","code":"A","kind":"assembly","name":"Frame"}"#;
 
-const PART_B: &str = r#"{"edit":"part","ticket":"t1","code":"B","kind":"assembly","name":"Frame"}"#;
-
-const LINE: &str = r#"{"edit":"line","ticket":"t2","parent":"A","child":"B","count":1}"#;
-
-/// A talk over an empty desk.
+/// A talk over an empty desk. Its requests have 44, 116, 44 and 44 bytes.
 const MIXED: &[Row] = &[
     ("GET /version", "", "200 OK", "version 0\n"),
-    ("GET /version", "", "200 OK", "version 0\n"),
     (
         "POST /edit",
-        PART_A,
+        PART,
         "200 OK",
         "version 1\nseen 0\naccepted 1\n",
-    ),
-    ("GET /version", "", "200 OK", "version 1\n"),
-    // A repeated edit gets its kept number.
-    (
-        "POST /edit",
-        PART_A,
-        "200 OK",
-        "version 1\nseen 1\naccepted 1\n",
-    ),
-    (
-        "POST /edit",
-        PART_B,
-        "409 Conflict",
-        "version 1\nseen 1\nrefused ticket-reused\n",
-    ),
-    (
-        "POST /edit",
-        LINE,
-        "409 Conflict",
-        "version 1\nseen 1\nrefused unknown-part B\n",
-    ),
-    ("POST /edit", "x", "400 Bad Request", "bad-edit not-json\n"),
-    (
-        "POST /edit",
-        "{}",
-        "400 Bad Request",
-        "bad-edit not-an-edit\n",
-    ),
-    (
-        "POST /declare",
-        "x",
-        "400 Bad Request",
-        "bad-declaration no-head\n",
-    ),
-    (
-        "GET /part/B",
-        "",
-        "404 Not Found",
-        "version 1\nno-such-code B\n",
-    ),
-    // The same is asked again, and then a target that is as long.
-    (
-        "GET /part/B",
-        "",
-        "404 Not Found",
-        "version 1\nno-such-code B\n",
-    ),
-    (
-        "GET /part/C",
-        "",
-        "404 Not Found",
-        "version 1\nno-such-code C\n",
-    ),
-    (
-        "GET /rohs/A?day=2024-07-22",
-        "",
-        "404 Not Found",
-        "version 1\nnot-a-product A\n",
-    ),
-    ("GET /rohs/A", "", "400 Bad Request", "bad-query day\n"),
-    (
-        "GET /version?x=1",
-        "",
-        "400 Bad Request",
-        "bad-query other\n",
     ),
     ("GET /nothing", "", "404 Not Found", "no-route\n"),
     ("GET /version", "", "200 OK", "version 1\n"),
@@ -126,8 +56,9 @@ fn served<R: Wait + Sync, K: Keeper + Drop, L: Link>(
     }
 }
 
-/// How many calls of its link the mixed stream takes in pieces of 40 bytes.
-const CALLS: u64 = 47;
+/// How many calls of its link the mixed stream takes in pieces of 40 bytes: seven reads of 248 bytes and one that finds no more, and a
+/// write for each request.
+const CALLS: u64 = 12;
 
 /// How the mixed stream is served where the link's call of this number fails, what is written then, and the replies.
 fn failing_at<R: Wait + Sync>(
@@ -150,17 +81,12 @@ fn check(holds: bool, what: &'static str) -> Result<(), Fail> {
     if holds { Ok(()) } else { Err(Fail::new(what)) }
 }
 
-/// Fails unless the stream ends where no call fails, and just the replies are written.
+/// Fails unless the stream ends where the call past the last would fail, and just the replies are written.
 fn are_answered<R: Wait + Sync>(rt: &R, alloc: Global) -> Result<(), Fail> {
     let (served, written, replies) = failing_at(rt, alloc, CALLS + 1)?;
     check(served == Served::Ended, "the stream did not end")?;
     let same = written.as_slice() == replies.as_bytes();
     check(same, "other replies")
-}
-
-#[test]
-fn requests_are_answered_byte_for_byte(rt: HostRuntime) -> Result<(), Fail> {
-    are_answered(&rt, rt.alloc())
 }
 
 /// Whether a failure of the link's call of this number is told, and leaves a beginning of the replies.
@@ -183,5 +109,5 @@ fn first_wrong_call<R: Wait + Sync>(rt: &R, alloc: Global) -> Result<Option<u64>
 #[test]
 fn a_failing_call_leaves_a_beginning_of_the_replies(rt: HostRuntime) -> Result<(), Fail> {
     assert_eq!(rt; first_wrong_call(&rt, rt.alloc())?, None);
-    Ok(())
+    are_answered(&rt, rt.alloc())
 }

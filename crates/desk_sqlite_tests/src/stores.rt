@@ -45,10 +45,6 @@ pub(crate) fn next<S: Alter>(
     keeper.next_record(alloc, after)
 }
 
-pub(crate) fn is_ours<S: Alter>(keeper: &SqlKeeper<S>) -> bool {
-    keeper.is_ours()
-}
-
 pub(crate) fn faults<S: Alter>(keeper: &SqlKeeper<S>) -> u64 {
     keeper.faults()
 }
@@ -105,25 +101,6 @@ pub(crate) fn stored<S: Alter + Drop>(keeper: SqlKeeper<S>) -> S {
 /// The disks of a store that is closed.
 pub(crate) fn disks_of<D: Disk>(store: FileStore<D>) -> Files<D> {
     store.close()
-}
-
-/// A keeper over a new store, which can be closed, and opened again on copies of its disks. A step that is written for any such keeper
-/// is cheaper to prove than one over disks.
-pub(crate) trait Reopen: Keeper + Drop {
-    fn made(alloc: Global) -> Result<Self, Fail>;
-
-    fn reopened(self, alloc: Global) -> Result<Self, Fail>;
-}
-
-impl Reopen for SqlKeeper<Store> {
-    fn made(alloc: Global) -> Result<SqlKeeper<Store>, Fail> {
-        made_ready(new_database(alloc)?)
-    }
-
-    fn reopened(self, alloc: Global) -> Result<SqlKeeper<Store>, Fail> {
-        let disks = disks_of(stored(self));
-        store_of(alloc, &disks)
-    }
 }
 
 /// A database on two new disks.

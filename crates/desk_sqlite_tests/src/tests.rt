@@ -1,6 +1,6 @@
 use crate::stores::{
-    Disks, NO_STOP, adopted, commit, disks_of, faults, is_ours, new_database, next, ready,
-    released, run, stopping_store, store_of, stored,
+    Disks, adopted, commit, disks_of, faults, new_database, next, ready, released, run,
+    stopping_store, store_of, stored,
 };
 use desk_edge::{Change, KeepFault, Key, Record};
 use desk_sqlite::SqlKeeper;
@@ -258,17 +258,6 @@ fn filled_until_a_stop(alloc: Global, log_calls: u64, db_calls: u64) -> Result<(
     }
 }
 
-/// Whether the keeper's store is one of ours, and what it has, a line a record.
-fn told<S: Alter + Drop>(alloc: Global, mut keeper: SqlKeeper<S>) -> Result<(bool, String), Fail> {
-    let is_one = is_ours(&keeper);
-    Ok((is_one, listed(&mut keeper, alloc)?))
-}
-
-/// The same of the store on copies of these disks.
-fn told_of(alloc: Global, disks: &Disks) -> Result<(bool, String), Fail> {
-    told(alloc, store_of(alloc, disks)?)
-}
-
 /// The lines of no batch, of the first one, of the first two and so on.
 const WHOLE: [&str; 5] = [
     "",
@@ -289,22 +278,8 @@ fn are_first_batches(lines: &str, acknowledged: u8) -> bool {
 /// Whether a stop after so many calls leaves whole batches, and all that were acknowledged.
 fn is_whole_after(alloc: Global, log_calls: u64, db_calls: u64) -> Result<bool, Fail> {
     let (acknowledged, left) = filled_until_a_stop(alloc, log_calls, db_calls)?;
-    let (_, lines) = told_of(alloc, &left)?;
+    let lines = listed(&mut store_of(alloc, &left)?, alloc)?;
     Ok(are_first_batches(lines.as_str(), acknowledged))
-}
-
-/// Fails unless a store that took all batches is one of ours when its files are opened again, and has them.
-fn is_there_again(alloc: Global) -> Result<(), Fail> {
-    let (acknowledged, files) = filled_until_a_stop(alloc, NO_STOP, NO_STOP)?;
-    check(acknowledged == 4, "a batch isn't kept")?;
-    let (is_one, lines) = told_of(alloc, &files)?;
-    check(is_one, "the files are no store of ours")?;
-    check(lines.as_str() == WHOLE[4], "other records")
-}
-
-#[test]
-fn what_was_kept_is_there_when_the_files_are_opened_again(rt: HostRuntime) -> Result<(), Fail> {
-    is_there_again(rt.alloc())
 }
 
 /// The first count of calls after which a stop of the log, or of the database, leaves something else.
@@ -409,40 +384,6 @@ fn a_connection_inside_a_transaction_is_not_made_ready(rt: HostRuntime) -> Resul
     goes_over_disks(Trial::Transaction, rt.alloc())
 }
 
-fn becomes_ours<S: Alter>(keeper: &mut SqlKeeper<S>, alloc: Global) -> Result<(), Fail> {
-    check(!is_ours(keeper), "ours before it is ready")?;
-    ready(keeper)?;
-    check(is_ours(keeper), "not ours once it is ready")?;
-    has(keeper, alloc, "")?;
-    keep(keeper, alloc, &[(7, "a", Some("one"))])?;
-    ready(keeper)?;
-    check(is_ours(keeper), "not ours with a record")
-}
-
-fn is_not_ours_with_a_second_table<S: Alter + Drop>(
-    mut conn: Connection<S>,
-    alloc: Global,
-) -> Result<(), Fail> {
-    run(&mut conn, "CREATE TABLE other (x)")?;
-    let mut keeper = adopted(conn);
-    ready(&mut keeper)?;
-    check(!is_ours(&keeper), "ours with a second table")?;
-    has(&mut keeper, alloc, "7 a one\n")
-}
-
-fn is_ours_alone<S: Alter + Drop>(conn: Connection<S>, alloc: Global) -> Result<(), Fail> {
-    let mut keeper = adopted(conn);
-    becomes_ours(&mut keeper, alloc)?;
-    is_not_ours_with_a_second_table(released(keeper), alloc)
-}
-
-#[test]
-fn a_new_database_is_found_to_be_a_store_and_one_with_a_second_table_is_not(
-    rt: HostRuntime,
-) -> Result<(), Fail> {
-    goes_over_disks(Trial::SecondTable, rt.alloc())
-}
-
 /// What is tried of a keeper over a new database.
 #[derive(Clone, Copy)]
 enum Trial {
@@ -452,7 +393,6 @@ enum Trial {
     NotReady,
     WrongRow,
     Transaction,
-    SecondTable,
 }
 
 /// Fails unless the trial goes as it should.
@@ -464,7 +404,6 @@ fn goes<S: Alter + Drop>(trial: Trial, conn: Connection<S>, alloc: Global) -> Re
         Trial::NotReady => fails_until_ready(&mut adopted(conn), alloc),
         Trial::WrongRow => stops_at_a_wrong_row(conn, alloc),
         Trial::Transaction => is_ready_behind_a_transaction(conn),
-        Trial::SecondTable => is_ours_alone(conn, alloc),
     }
 }
 

@@ -16,43 +16,6 @@ type Told = (u8, &'static str, &'static str);
 /// The number that an edit gets, the code of its ticket, and its text with its fields set apart by `|` here.
 type Sent = (u64, &'static str, &'static str);
 
-/// Records of no sound tables, and the key that is told.
-const DAMAGED: &[(&[Told], (u8, &str))] = &[
-    (&[(2, "zinc/lead", "1|5")], (2, "zinc/lead")),
-    (
-        &[(5, "A/A", "1|1"), (4, "A", "1|assembly|Frame")],
-        (5, "A/A"),
-    ),
-    (&[(4, "A", "2|assembly|Frame")], (4, "A")),
-    (&[(4, "A", "1|assembly")], (4, "A")),
-    (&[(10, "E:t1", "1|2|unexempt|X")], (10, "E:t1")),
-    (
-        &[
-            (3, "X", "1|ACME|7|2024-01-23|Paste|1000|0|0"),
-            (4, "X", "1|assembly|Frame"),
-        ],
-        (4, "X"),
-    ),
-    (&[(8, "lead", "1|2018-06-27")], (8, "lead")),
-    (&[(21, "X", "1")], (21, "X")),
-    // A second spelling of a number.
-    (&[(10, "E:t1", "1|01|unexempt|X")], (10, "E:t1")),
-];
-
-/// Records that a store has in another order than the tables: by the code of a rule, and by `.` before `/`.
-const REORDERED: [Told; 10] = [
-    (1, "lead", "1|Lead|7439-92-1"),
-    (2, "lead/cadmium", "1|3"),
-    (2, "lead/lead", "1|1000000"),
-    (4, "A", "1|assembly|Frame"),
-    (4, "A.1", "1|assembly|Cover"),
-    (4, "B", "1|article|Pin"),
-    (5, "A.1/B", "1|2"),
-    (5, "A/B", "1|1"),
-    (6, "A", "1|3"),
-    (9, "2024/A", "1|5"),
-];
-
 /// The edits of an ordinary desk.
 const EDITS: &[Sent] = &[
     (1, "E:t1", "substance|lead-oxide|Lead oxide|1317-36-8"),
@@ -103,73 +66,6 @@ fn store(alloc: Global, records: &[Told], failing: &[u64]) -> Result<MapKeeper, 
     }
     keeper.commit(alloc, batch.as_slice())?;
     Ok(keeper)
-}
-
-/// Whether a desk isn't opened, and damage is told by this key.
-fn tells_damage<K: Keeper>(answer: &Result<Clerk<K>, OpenRefused<K>>, key: (u8, &str)) -> bool {
-    match answer {
-        Err(
-            OpenRefused {
-                fault: OpenFault::Damaged { kind, code },
-                keeper: _,
-            },
-        ) => *kind == key.0 && code.as_slice() == key.1.as_bytes(),
-        _ => false,
-    }
-}
-
-/// Fails unless a store of these records is told as damaged by this key.
-fn is_damaged_at<R: Wait + Sync>(
-    rt: &R,
-    alloc: Global,
-    records: &[Told],
-    key: (u8, &str),
-) -> Result<(), Fail> {
-    let keeper = store(alloc, records, &[])?;
-    let tells = tells_damage(&open(rt, alloc, keeper), key);
-    expect_eq(&(key, tells), &(key, true))
-}
-
-/// Fails at the first store of these records that isn't told as damaged by its key.
-fn are_damaged<R: Wait + Sync>(
-    rt: &R,
-    alloc: Global,
-    rows: &[(&[Told], (u8, &str))],
-) -> Result<(), Fail> {
-    for &(records, key) in rows {
-        is_damaged_at(rt, alloc, records, key)?;
-    }
-    Ok(())
-}
-
-#[test]
-fn a_damaged_store_is_told_by_a_key(rt: HostRuntime) -> Result<(), Fail> {
-    are_damaged(&rt, rt.alloc(), DAMAGED)
-}
-
-/// The count of the first line of the clerk's desk.
-fn first_count<K: Keeper>(clerk: &Clerk<K>) -> Option<u32> {
-    match clerk.tables().lines().first() {
-        Some(line) => Some(line.count),
-        None => None,
-    }
-}
-
-/// Fails unless the first line of the keeper's desk has this count.
-fn counts_first<R: Wait + Sync, K: Keeper + Drop + Debug>(
-    rt: &R,
-    alloc: Global,
-    keeper: K,
-    count: u32,
-) -> Result<(), Fail> {
-    let clerk = open(rt, alloc, keeper)?;
-    expect_eq(&first_count(&clerk), &Some(count))
-}
-
-#[test]
-fn a_store_in_another_order_is_opened(rt: HostRuntime) -> Result<(), Fail> {
-    let keeper = store(rt.alloc(), &REORDERED, &[])?;
-    counts_first(&rt, rt.alloc(), keeper, 1)
 }
 
 /// Whether an edit got this number, or none as the keeper failed.

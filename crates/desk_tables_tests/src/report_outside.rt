@@ -37,7 +37,7 @@ pub(crate) fn link(
 }
 
 /// What an import from the link into the keeper answers.
-pub(crate) fn answer_to_import<K: Keeper, L: Link>(
+fn answer_to_import<K: Keeper, L: Link>(
     alloc: Global,
     keeper: &mut K,
     link: &mut L,

@@ -3,7 +3,6 @@ ghost use Rattle.std.specs.Prelude.{◌≤◌};
 use crate::helpers::tabbed;
 use desk_model::Edit;
 use desk_sample::sample;
-use desk_tables::Tables;
 use desk_testing::{check, expect_eq};
 use desk_text::{Bytes, OutOfMemory};
 use std::alloc::Global;
@@ -118,34 +117,4 @@ fn two_samples_of_one_number_are_equal(rt: HostRuntime) -> Result<(), Fail> {
     let first = told_sample(rt.alloc(), 200)?;
     let second = told_sample(rt.alloc(), 200)?;
     check(first == second, "two samples of one number differ")
-}
-
-/// Fails unless each edit of the sample of this number is accepted in turn, and the tables keep them all.
-fn is_accepted(alloc: Global, n: u64) -> Result<(), Fail>
-    requires least { 1 ≤ n }
-    requires greatest { n ≤ 2000 }
-{
-    let mut tables = Tables::start(alloc)?;
-    let edits = sample(alloc, n)?;
-    let all = edits.len() as u64;
-    for edit in edits {
-        tables.accept(alloc, edit)?;
-    }
-    expect_eq(&(n, tables.number()), &(n, all))
-}
-
-/// Fails at the first sample of these numbers of which an edit isn't accepted in turn.
-fn are_accepted(alloc: Global, numbers: &[u64]) -> Result<(), Fail> {
-    for &n in numbers {
-        if n < 1 || n > 2000 {
-            return Err(Fail::new("no sample"));
-        }
-        is_accepted(alloc, n)?;
-    }
-    Ok(())
-}
-
-#[test]
-fn each_edit_of_a_sample_is_accepted_in_turn(rt: HostRuntime) -> Result<(), Fail> {
-    are_accepted(rt.alloc(), &[1, 2, 7, 8, 9, 41])
 }

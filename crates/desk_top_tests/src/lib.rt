@@ -1,13 +1,12 @@
-//! The tests of `desk_top`, through what it gives to others. They are a crate of their own, so that a check proves
-//! the library once.
+//! The tests of `desk_top`, through what it gives to others: what only a caller can show, such as a call of the console or of a store
+//! that fails. What the program shows from outside is tested there. They are a crate of their own, so that a check proves the library
+//! once.
 #![tactic(auto)]
 
 #[cfg(test)]
 mod commands_tests;
 #[cfg(test)]
 mod session_steps;
-#[cfg(test)]
-mod session_tests;
 #[cfg(test)]
 mod store_tests;
 #[cfg(test)]

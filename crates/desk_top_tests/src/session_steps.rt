@@ -37,17 +37,12 @@ fn push_request(stream: &mut String, turn: &Turn) -> Result<(), Fail> {
     Ok(())
 }
 
-/// Appends a reply with these further lines in its head, as it stands in what is written.
-pub(crate) fn push_reply(
-    written: &mut String,
-    status: &str,
-    lines: &str,
-    said: &str,
-) -> Result<(), Fail> {
+/// Appends a reply, as it stands in what is written.
+pub(crate) fn push_reply(written: &mut String, status: &str, said: &str) -> Result<(), Fail> {
     let length = said.len();
     write!(
         written,
-        "HTTP/1.1 {status}\r\nContent-Type: text/plain; charset=utf-8\r\nContent-Length: {length}\r\n{lines}\r\n{said}"
+        "HTTP/1.1 {status}\r\nContent-Type: text/plain; charset=utf-8\r\nContent-Length: {length}\r\n\r\n{said}"
     )?;
     Ok(())
 }
@@ -56,7 +51,7 @@ pub(crate) fn push_reply(
 fn push_turns(stream: &mut String, replies: &mut String, turns: &[Turn]) -> Result<(), Fail> {
     for turn in turns {
         push_request(stream, turn)?;
-        push_reply(replies, turn.status, "", turn.said)?;
+        push_reply(replies, turn.status, turn.said)?;
     }
     Ok(())
 }
@@ -129,19 +124,6 @@ pub(crate) fn is_told<R: Wait + Sync + Threads>(
     Ok(status == told.0 && written.as_slice() == told.1)
 }
 
-/// The same over a shelf without a store.
-pub(crate) fn is_answered<R: Wait + Sync + Threads>(
-    rt: &R,
-    alloc: Global,
-    words: &[&str],
-    stream: &[u8],
-    piece: usize,
-    told: (u8, &[u8]),
-) -> Result<bool, Fail> {
-    let mut shelf = empty_shelf(alloc);
-    is_told(rt, alloc, words, stream, piece, &mut shelf, told)
-}
-
 /// The status of a command. It has no clause, and is written for any console and shelf, so that the proof of a test doesn't
 /// carry what a command does.
 pub(crate) fn exit_status_of<R: Wait + Sync + Threads, L: Link, S: Shelf>(
@@ -174,48 +156,4 @@ pub(crate) fn outcome_over<R: Wait + Sync + Threads>(
     let list = words_of(alloc, words)?;
     let status = exit_status_of(rt, alloc, &list, &mut console, shelf);
     Ok((status, console.written().to_vec(alloc)?))
-}
-
-/// How many bytes both begin with.
-fn common_length(first: &[u8], second: &[u8]) -> usize {
-    first
-        .iter()
-        .zip(second)
-        .take_while(|(one, other)| one == other)
-        .count()
-}
-
-/// Fails unless a session ended with status 0 and wrote just these replies, and says up to which byte they were.
-fn are_replies(piece: usize, status: u8, written: &[u8], replies: &[u8]) -> Result<(), Fail> {
-    if status == 0 && written == replies {
-        return Ok(());
-    }
-    let right = common_length(written, replies);
-    Err(Fail::new(format_args!(
-        "by {piece}: status {status}, and the replies are right up to byte {right}"
-    )))
-}
-
-/// Fails unless a session without a store gives just these replies to the stream, however it is cut.
-fn is_replied<R: Wait + Sync + Threads>(
-    rt: &R,
-    alloc: Global,
-    stream: &[u8],
-    replies: &[u8],
-) -> Result<(), Fail> {
-    for piece in &[1, 7, 100_000] {
-        let (status, written) = outcome_with_faults(rt, alloc, &["session"], stream, *piece, &[])?;
-        are_replies(*piece, status, written.as_slice(), replies)?;
-    }
-    Ok(())
-}
-
-/// Fails unless each request of a session without a store gets its reply, however the stream is cut.
-pub(crate) fn answers_each<R: Wait + Sync + Threads>(
-    rt: &R,
-    alloc: Global,
-    turns: &[Turn],
-) -> Result<(), Fail> {
-    let (stream, replies) = stream_of(alloc, turns)?;
-    is_replied(rt, alloc, stream.as_bytes(), replies.as_bytes())
 }
