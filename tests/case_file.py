@@ -86,6 +86,7 @@ class Case:
     cuts: list = dataclasses.field(default_factory=list)
     is_long: bool = False
     needs_launcher: bool = False
+    is_of_program: bool = False
     lines: list = dataclasses.field(default_factory=list)
 
     def trials(self):
@@ -272,6 +273,8 @@ def read_head(case, text):
         case.is_long = True
     elif text == "launcher":
         case.needs_launcher = True
+    elif text == "program":
+        case.is_of_program = True
     else:
         return False
     return True

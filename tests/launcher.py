@@ -50,14 +50,14 @@ class Copy:
 
 
 def program_of(desk):
-    """The bytes of the program that bin/desk becomes for a session."""
+    """The file of the program that bin/desk becomes for a session."""
     process = subprocess.Popen([desk, "session"], stdin=subprocess.PIPE, stdout=subprocess.DEVNULL)
     try:
         shell = os.path.realpath(shutil.which("bash"))
         for _ in range(6000):
             program = os.path.realpath(f"/proc/{process.pid}/exe")
             if program != shell and os.path.basename(program).startswith("desk"):
-                return pathlib.Path(program).read_bytes()
+                return pathlib.Path(program)
             time.sleep(0.01)
         raise RuntimeError("bin/desk doesn't become the program")
     finally:
@@ -197,7 +197,7 @@ def trial_fault(test, given):
 
 def tests(desk):
     """The tests of bin/desk: a name, a function that gives what is wrong or None, and what it is given."""
-    program = program_of(desk)
+    program = program_of(desk).read_bytes()
     given = program, gzip.compress(program, 1)
     found = [
         help_is_written, the_version_names_the_sources, a_changed_source_is_told_without_the_toolchain,
