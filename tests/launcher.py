@@ -165,7 +165,9 @@ def a_signal_ends_the_program_too(copy):
         store = copy.folder.parent / f"{number.name}.db"
         words = [copy.desk, "import", "--store", store]
         started = subprocess.Popen(words, stdin=subprocess.PIPE, stdout=subprocess.PIPE, start_new_session=True)
-        while not store.exists():
+        for _ in range(6000):
+            if store.exists():
+                break
             time.sleep(0.01)
         # (as a terminal gives it: to all programs of the line)
         os.killpg(started.pid, number) if number == signal.SIGINT else started.send_signal(number)
