@@ -191,6 +191,40 @@ def a_store_that_another_desk_has_open_is_told(copy):
     return None if (ran.returncode, ran.stdout) == (4, b"desk: store\n") and ran.stderr.startswith(told) else f"{ran}"
 
 
+def explained(copy, store, as_user=()):
+    """What bin/desk says of a store that can't be used, behind the store's name."""
+    ran = copy.run("export", "--store", str(store), as_user=as_user)
+    told = ran.stderr.decode().partition(f"desk: the store {store} can't be used: ")
+    return told[2].strip() if (ran.returncode, ran.stdout, told[0]) == (4, b"desk: store\n", "") else f"{ran}"
+
+
+def a_store_that_is_cut_short_is_told(copy):
+    store = copy.folder.parent / "cut.db"
+    copy.run("session", "--store", str(store), given=b"")
+    whole = store.read_bytes()
+    store.write_bytes(whole[: len(whole) // 4096 * 2048])
+    told = explained(copy, store)
+    return None if told == "the database is cut short: it has fewer bytes than its head says" else told
+
+
+def a_store_that_may_not_be_used_is_told(copy):
+    folder = copy.folder.parent / "ours"
+    folder.mkdir()
+    store = folder / "store.db"
+    copy.run("session", "--store", str(store), given=b"")
+    for mode, of_folder, wanted in (
+        (0o600, 0o755, "you may not read it"),
+        (0o644, 0o755, "you may not write it, and each command writes a log beside it"),
+        (0o666, 0o755, f"you may not write into the folder {folder}/, where it and its log stand"),
+        (0o666, 0o700, f"you may not enter the folder {folder}/"),
+    ):
+        store.chmod(mode)
+        folder.chmod(of_folder)
+        if (told := explained(copy, store, NOBODY)) != wanted:
+            return told
+    return None
+
+
 def trial_fault(test, given):
     """What a test finds wrong in a copy of its own, or None."""
     with copies(*given) as copy:
@@ -205,10 +239,12 @@ def tests(desk):
         help_is_written, the_version_names_the_sources, a_changed_source_is_told_without_the_toolchain,
         sources_that_are_changed_back_start_at_once, a_copied_folder_starts, a_link_starts,
         an_unpacked_program_that_was_replaced_is_unpacked_again, a_signal_ends_the_program_too,
-        a_store_that_another_desk_has_open_is_told,
+        a_store_that_another_desk_has_open_is_told, a_store_that_is_cut_short_is_told,
     ]
     # (only root can be somebody else)
     if os.geteuid() == 0 and shutil.which("setpriv"):
-        found += [a_folder_that_may_not_be_written_does, a_second_user_runs_what_the_first_unpacked]
+        found += [
+            a_folder_that_may_not_be_written_does, a_second_user_runs_what_the_first_unpacked, a_store_that_may_not_be_used_is_told
+        ]
     for test in found:
         yield f"launcher: {test.__name__.replace('_', ' ')}", trial_fault, (test, given)
