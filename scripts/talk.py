@@ -76,8 +76,9 @@ def over(store):
 
 
 def run(program, words, given=b"", before=(), limit=None, **options):
-    """Runs the program to its end, by the command `before`; it is killed after `limit` seconds."""
+    """Runs the program to its end, by the command `before`; it is killed after `limit` seconds. What bin/desk explains isn't shown."""
     began = time.monotonic()
+    options.setdefault("stderr", subprocess.DEVNULL)
     try:
         ran = subprocess.run([*before, program, *words], input=given, stdout=subprocess.PIPE, timeout=limit, **options)
         return Ran(ran.returncode, ran.stdout, time.monotonic() - began)

@@ -160,11 +160,19 @@ def an_unpacked_program_that_was_replaced_is_unpacked_again(copy):
     return copy.fault_of_check()
 
 
+def take_signals():
+    """Lets a program take the signals that whoever started the tests may ignore."""
+    for number in (signal.SIGINT, signal.SIGTERM, signal.SIGHUP):
+        signal.signal(number, signal.SIG_DFL)
+
+
 def a_signal_ends_the_program_too(copy):
     for number, status in ((signal.SIGINT, 130), (signal.SIGTERM, 143), (signal.SIGHUP, 129)):
         store = copy.folder.parent / f"{number.name}.db"
         words = [copy.desk, "import", "--store", store]
-        started = subprocess.Popen(words, stdin=subprocess.PIPE, stdout=subprocess.PIPE, start_new_session=True)
+        started = subprocess.Popen(
+            words, stdin=subprocess.PIPE, stdout=subprocess.PIPE, start_new_session=True, preexec_fn=take_signals
+        )
         for _ in range(6000):
             if store.exists():
                 break
