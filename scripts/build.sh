@@ -35,19 +35,11 @@ copy_sources() {
         "$top/crates.txt" > "$room/crates.txt"
 }
 
-# How many checks run side by side: one more than there are processors, as far as there are 3.5 GB for each.
-jobs_of_machine() {
-    cat /proc/meminfo /sys/fs/cgroup/memory.max 2> /dev/null | awk -v most=$(($(nproc) + 1)) '
-        /^MemAvailable:/ { free = $2 * 1024 }
-        /^[0-9]+$/ { if ($1 < free) free = $1 }
-        END { jobs = int(free / 3.5e9); if (jobs > most) jobs = most; if (jobs < 1) jobs = 1; print jobs }'
-}
-
 # Runs the toolchain, and tells each step and, at least every ten seconds, that it goes on.
 prove_and_build() {
     local now told='' at=0
     set -m
-    (cd "$room" && RT_JOBS=${RT_JOBS:-$(jobs_of_machine)} TMPDIR=$room/tmp exec rt ci) < /dev/null > "$log" 2>&1 9>&- &
+    (cd "$room" && TMPDIR=$room/tmp exec rt ci) < /dev/null > "$log" 2>&1 9>&- &
     job=$!
     set +m
     while kill -0 "$job" 2> /dev/null; do
