@@ -18,7 +18,7 @@ ANSWER = b"check 2024-01-23 kind 3 supplier ACME declaration 7\ncompliant\n"
 DECLARATION = b"D,1,ACME,7,2024-01-23\n"
 CHECK = ["check", "2024-01-23", "3"]
 # Where the toolchain isn't.
-PLAIN_PATH = "/usr/local/bin:/usr/bin:/bin" if shutil.which("rt") != "/usr/local/bin/rt" else "/usr/bin:/bin"
+PLAIN_PATH = ":".join(it for it in ("/usr/local/bin", "/usr/bin", "/bin") if not os.path.exists(f"{it}/rt"))
 NOBODY = ["setpriv", "--reuid=65534", "--regid=65534", "--clear-groups"]
 
 
