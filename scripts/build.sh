@@ -92,7 +92,7 @@ build() {
         patience=10
     done
     choose_program && return
-    say "that takes up to an hour the first time, and less after a change; the toolchain's own words go to $log"
+    say "that takes an hour on four processors the first time, and less after a change; the toolchain's own words go to $log"
     trap end_build EXIT
     trap 'exit 130' INT
     trap 'exit 143' TERM
