@@ -12,7 +12,7 @@ explain() {
     shift
     case $status in
         2) explain_words "$@" ;;
-        3) explain_console "$@" ;;
+        3) explain_console 4>&1 ;;
         4) explain_store "$@" ;;
         5) explain_damage ;;
     esac
@@ -167,6 +167,7 @@ changes_between() {
 
 # --- Status 3: the console.
 
+# Its descriptor 4 is standard output, for where a command's own is another.
 explain_console() {
     local cause=''
     if [ ! -e /proc/self/fd/0 ]; then
@@ -177,7 +178,7 @@ explain_console() {
         cause='standard output is closed'
     elif [ -p /dev/stdout ]; then
         cause='nobody reads standard output any more'
-    elif [ /dev/stdout -ef /dev/full ] || [ "$(room_for /dev/stdout)" = 0 ]; then
+    elif [ /dev/stdout -ef /dev/full ] || [ "$(room_for /proc/self/fd/4)" = 0 ]; then
         cause='standard output has no room: the disk is full'
     else
         cause="standard input can't be read, or standard output can't be written"
@@ -250,12 +251,12 @@ cause_of_file() {
         printf 'the file is no SQLite database'
     elif holder=$(holder_of "$1") && [ -n "$holder" ]; then
         printf 'it is open in another program, %s, and one desk at a time has a store open' "$holder"
+    elif [ "$(room_for "$2")" = 0 ]; then
+        printf 'the disk is full'
     elif is_truncated "$1"; then
         printf 'the database is cut short: it has fewer bytes than its head says'
     elif [ -s "$1" ] && ! head -c 4096 -- "$1" | grep -aqi 'create table *"\{0,1\}record"\{0,1\}'; then
         printf "the database isn't a desk's: it has no table \`record\`"
-    elif [ "$(room_for "$2")" = 0 ]; then
-        printf 'the disk is full'
     else
         printf "the file is damaged, it isn't a desk's database, or the disk fails or is full"
     fi
@@ -275,7 +276,7 @@ holder_of() {
 # Whether a database has fewer bytes than its head counts: the size of a page, which is written as 1 where it is 65,536, by the pages.
 is_truncated() {
     local -a head
-    read -r -a head < <(od -An -v -tu1 -j16 -N16 -- "$1" | tr '\n' ' ')
+    read -r -a head < <(od -An -v -tu1 -j16 -N16 -- "$1" 2> /dev/null | tr '\n' ' ')
     [ ${#head[@]} = 16 ] || return
     local page=$((head[0] * 256 + head[1]))
     [ $page != 1 ] || page=65536

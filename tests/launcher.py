@@ -233,26 +233,67 @@ def a_store_that_may_not_be_used_is_told(copy):
     return None
 
 
+def mounted(words):
+    return subprocess.run(["mount", *words], capture_output=True).returncode == 0
+
+
+def can_mount():
+    with tempfile.TemporaryDirectory() as room:
+        return mounted(["-t", "tmpfs", "-o", "size=4k", "tmpfs", room]) and not subprocess.run(["umount", room]).returncode
+
+
+def a_full_disk_is_told(copy):
+    disk = copy.folder.parent / "disk"
+    disk.mkdir()
+    if not mounted(["-t", "tmpfs", "-o", "size=300k", "tmpfs", disk]):
+        return "no disk could be mounted"
+    try:
+        # (one page is left for the store, and then none)
+        (disk / "rest").write_bytes(bytes(290_000))
+        words = [str(copy.desk), "export", "--store", str(disk / "store.db")]
+        told = subprocess.run(words, capture_output=True).stderr.decode().splitlines()[-1:]
+        if told != [f"desk: the store {disk}/store.db can't be used: the disk is full"]:
+            return f"{told}"
+        with (disk / "answer").open("wb") as answer:
+            ran = subprocess.run([copy.desk, *CHECK], input=DECLARATION, stdout=answer, stderr=subprocess.PIPE)
+        told = b"desk: standard output has no room: the disk is full; what was written is at most the beginning of an answer\n"
+        return None if (ran.returncode, ran.stderr) == (3, told) else f"{ran}"
+    finally:
+        subprocess.run(["umount", disk])
+
+
 def trial_fault(test, given):
     """What a test finds wrong in a copy of its own, or None."""
     with copies(*given) as copy:
         return test(copy)
 
 
-def tests(desk):
-    """The tests of bin/desk: a name, a function that gives what is wrong or None, and what it is given."""
-    program = program_of(desk).read_bytes()
-    given = program, gzip.compress(program, 1)
-    found = [
+def found_tests():
+    """The tests of bin/desk by what they need: a word for that, whether it is here, and the tests."""
+    is_root = os.geteuid() == 0 and shutil.which("setpriv") is not None
+    yield "nothing", True, [
         help_is_written, the_version_names_the_sources, a_changed_source_is_told_without_the_toolchain,
         sources_that_are_changed_back_start_at_once, a_copied_folder_starts, a_link_starts,
         an_unpacked_program_that_was_replaced_is_unpacked_again, a_signal_ends_the_program_too,
         a_store_that_another_desk_has_open_is_told, a_store_that_is_cut_short_is_told,
     ]
-    # (only root can be somebody else)
-    if os.geteuid() == 0 and shutil.which("setpriv"):
-        found += [
-            a_folder_that_may_not_be_written_does, a_second_user_runs_what_the_first_unpacked, a_store_that_may_not_be_used_is_told
-        ]
-    for test in found:
-        yield f"launcher: {test.__name__.replace('_', ' ')}", trial_fault, (test, given)
+    yield "root and setpriv", is_root, [
+        a_folder_that_may_not_be_written_does, a_second_user_runs_what_the_first_unpacked, a_store_that_may_not_be_used_is_told
+    ]
+    yield "to mount a disk", is_root and can_mount(), [a_full_disk_is_told]
+
+
+def left_out():
+    """What tests need that is not here, each with how many there are."""
+    for need, is_here, tests in found_tests():
+        if not is_here:
+            yield need, len(tests)
+
+
+def tests(desk):
+    """The tests of bin/desk: a name, a function that gives what is wrong or None, and what it is given."""
+    program = program_of(desk).read_bytes()
+    given = program, gzip.compress(program, 1)
+    for _, is_here, tests in found_tests():
+        for test in tests if is_here else []:
+            yield f"launcher: {test.__name__.replace('_', ' ')}", trial_fault, (test, given)
