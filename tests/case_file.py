@@ -149,13 +149,17 @@ class Reader:
         # What further input, and further output, goes to the end of.
         self.given = self.wanted = None
         self.marks = {
-            "$": self.run, "$\\": self.run_of_bytes, "<": self.input_line, "<\\": self.input_bytes, "<@": self.input_file, "?": self.request,
-            "!": self.reply, ">": self.output_line, ">\\": self.output_bytes, ">@": self.output_file,
-            "&": self.told_line, "=": self.status, "%": self.statement, "+": self.record,
+            "$": self.run, "$\\": self.run_of_bytes, "?": self.request, "!": self.reply, "&": self.told_line, "=": self.status,
+            "%": self.statement, "+": self.record,
         }
+        for form in ("", "\\", "@"):
+            self.marks[f"<{form}"] = functools.partial(self.give, form)
+            self.marks[f">{form}"] = functools.partial(self.want, form)
 
     def steps(self):
         self.block(self.case.lines, self.values)
+        if not any(isinstance(step, Run) for step in self.done):
+            raise Fault(f"{self.case.file}:{self.case.line}: nothing is run")
         return self.done
 
     def block(self, lines, values):
@@ -200,20 +204,17 @@ class Reader:
         self.done.append(Run(words, read_from, write_to, told=[] if self.case.needs_launcher else None))
         self.given = self.wanted = None
 
-    def give(self, number, text):
+    def content(self, form, text):
+        """The bytes that a line of input or of output stands for, by the form of its mark."""
+        if form == "@":
+            return (self.case.file.parent / text).read_bytes()
+        return unescaped(text) if form else text.encode() + b"\n"
+
+    def give(self, form, number, text):
         if self.given is None:
             self.given = Plain(number)
             self.done[-1].given.append(self.given)
-        self.given.text += text
-
-    def input_line(self, number, text):
-        self.give(number, text.encode() + b"\n")
-
-    def input_bytes(self, number, text):
-        self.give(number, unescaped(text))
-
-    def input_file(self, number, text):
-        self.give(number, (self.case.file.parent / text).read_bytes())
+        self.given.text += self.content(form, text)
 
     def request(self, number, text):
         method, target, *body = text.split(" ", 2)
@@ -227,20 +228,11 @@ class Reader:
         self.wanted, self.given = Message(number, head=head), None
         self.done[-1].wanted.append(self.wanted)
 
-    def want(self, number, text):
+    def want(self, form, number, text):
         if self.wanted is None:
             self.wanted = Plain(number)
             self.done[-1].wanted.append(self.wanted)
-        self.wanted.text += text
-
-    def output_line(self, number, text):
-        self.want(number, text.encode() + b"\n")
-
-    def output_bytes(self, number, text):
-        self.want(number, unescaped(text))
-
-    def output_file(self, number, text):
-        self.want(number, (self.case.file.parent / text).read_bytes())
+        self.wanted.text += self.content(form, text)
 
     def told_line(self, _, text):
         self.done[-1].told = [*(self.done[-1].told or []), text]
@@ -297,6 +289,9 @@ def read_cases(file):
                     cases[-1].lines.append((number, text))
             except (Fault, ValueError) as error:
                 raise Fault(f"{file}:{number}: {error}") from error
+    for case in cases:
+        if case.names and not case.rows:
+            raise Fault(f"{file}:{case.line}: there are names and no row")
     titles = [case.title for case in cases]
     for one, other in itertools.pairwise(sorted(titles)):
         if one == other:
