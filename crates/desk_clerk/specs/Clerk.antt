@@ -1,5 +1,4 @@
 -- A clerk as contracts see it. Clauses, here and in the crates above, speak of it by these words alone.
-use Rattle.std.specs.Prelude.{ℕ, length}
 use Rattle.desk_model.specs.Lists.{Lists}
 use Rattle.desk_tables.specs.Desk.{Desk}
 
@@ -15,7 +14,3 @@ whole clerk = clerk.desk.lists
 -- the store that the clerk writes
 abbrev pub keeper_of : {K : Type 0} → Clerked K → K
 keeper_of clerk = clerk.keeper
-
--- the number of the tables: how many edits they have accepted
-abbrev pub number_at : Lists → ℕ
-number_at t = length t.tickets

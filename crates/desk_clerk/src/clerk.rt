@@ -1,5 +1,6 @@
 ghost use Rattle.std.specs.Prelude.{◌≡◌, ◌≢◌, ◌≤◌, ℕ, List, Ok, Err, None, Some, is_ok, true, IfOk, IfErr, OnOk, OnErr, IsErrOf};
-ghost use Rattle.desk_clerk.specs.Clerk.{keeper_of, number_at, whole};
+ghost use Rattle.desk_clerk.specs.Clerk.{keeper_of, whole};
+ghost use Rattle.desk_model.specs.Lists.{number_at};
 ghost use Rattle.desk_clerk.specs.Opening.{IsDamagedAt, IsOpenedAs};
 ghost use Rattle.desk_edge.specs.Content.{IsSame};
 ghost use Rattle.desk_edge.specs.Faults.{Rose};

@@ -3,6 +3,7 @@
 use Rattle.std.specs.Prelude.{ℕ, ◌+◌, ◌-◌, if◌then◌else◌, List, length, nat_lt, Option, option_and_then, Result, Ok, Err}
 use Rattle.std.specs.Option.{ok_or}
 use Rattle.csv.specs.Records.{field_at}
+use Rattle.desk_text.specs.Forms.{applied}
 use Rattle.desk_declare.specs.Rows.{Row}
 use Rattle.desk_declare.specs.declared.declare_fault.DeclareFault.{DeclareFault}
 use Rattle.desk_declare.specs.declared.declare_fault.DeclareFault.TheVariants.{BadField}
@@ -23,12 +24,6 @@ pub record Columns (A : Type 0) : Type 0 where
 -- columns that are looked at elsewhere, up to a last one
 abbrev pub after : {A : Type 0} → ℕ → A → Columns A
 after last a = record { last = last; read = λ place row. Ok a }
-
--- what the one makes of the other, or the fault of the one, or else of the other
-abbrev pub applied : {A B : Type 0} → Result (A → B) DeclareFault → Result A DeclareFault → Result B DeclareFault
-applied (Err fault) value = Err fault
-applied (Ok make) (Err fault) = Err fault
-applied (Ok make) (Ok value) = Ok (make value)
 
 -- columns, and then one more of a form
 infixl 10 ◌then◌

@@ -11,7 +11,8 @@ use Rattle.desk_model.specs.declared.edit.Edit.{Edit}
 use Rattle.desk_model.specs.declared.edit.Edit.TheVariants.{Declare}
 use Rattle.desk_declare.specs.Columns.{Columns, after, ◌then◌, field_in, made_by}
 use Rattle.desk_declare.specs.Faults.{unfit}
-use Rattle.desk_declare.specs.Forms.{a_code, a_day, a_declaration_number, a_mass, a_name, a_rule, a_substance_mass, an_exemption_number}
+use Rattle.desk_text.specs.Forms.{a_code, a_day, a_name, an_exemption_number}
+use Rattle.desk_declare.specs.Forms.{a_declaration_number, a_mass, a_rule, a_substance_mass}
 use Rattle.desk_declare.specs.Rows.{Row, rows_of}
 use Rattle.desk_declare.specs.declared.declare_fault.DeclareFault.{DeclareFault}
 use Rattle.desk_declare.specs.declared.declare_fault.DeclareFault.TheVariants.{NotText, NoHead, BadField, RepeatedMaterial, RepeatedRow}

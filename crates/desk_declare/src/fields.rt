@@ -2,7 +2,8 @@ ghost use Rattle.std.specs.Prelude.{◌≡◌, ◌≢◌, ◌≤◌, Err, IfOk, 
 ghost use Rattle.csv.specs.Records.{fields_of};
 ghost use Rattle.desk_declare.specs.Columns.{ending, field_in, read_in};
 ghost use Rattle.desk_declare.specs.Declaration.{is_word};
-ghost use Rattle.desk_declare.specs.Forms.{a_code, a_day, a_name, a_number, a_rule, an_exemption_number};
+ghost use Rattle.desk_text.specs.Forms.{a_code, a_day, a_name, a_number, an_exemption_number};
+ghost use Rattle.desk_declare.specs.Forms.{a_rule};
 
 use crate::DeclareFault;
 use csv::ByteRecord;
@@ -50,7 +51,7 @@ impl<'a> Fields<'a> {
     }
 
     /// The code in a column.
-    #[tactic(auto, unfolding(crate::specs::Columns::read_in, crate::specs::Forms::a_code))]
+    #[tactic(auto, unfolding(crate::specs::Columns::read_in, desk_text::specs::Forms::a_code))]
     pub(crate) fn code(&self, column: u8) -> Result<Code, DeclareFault>
         requires { 1 ≤ column }
         ensures { result ≡ read_in column a_code self.now.place (fields_of self.now.row.now) }
@@ -61,7 +62,7 @@ impl<'a> Fields<'a> {
     }
 
     /// The name in a column.
-    #[tactic(auto, unfolding(crate::specs::Columns::read_in, crate::specs::Forms::a_name))]
+    #[tactic(auto, unfolding(crate::specs::Columns::read_in, desk_text::specs::Forms::a_name))]
     pub(crate) fn name(&self, alloc: Global, column: u8) -> Result<Name, DeclareFault>
         requires { 1 ≤ column }
         ensures { result ≢ Err DeclareFault.OutOfMemory → result ≡ read_in column a_name self.now.place (fields_of self.now.row.now) }
@@ -77,7 +78,7 @@ impl<'a> Fields<'a> {
     }
 
     /// The day in a column.
-    #[tactic(auto, unfolding(crate::specs::Columns::read_in, crate::specs::Forms::a_day))]
+    #[tactic(auto, unfolding(crate::specs::Columns::read_in, desk_text::specs::Forms::a_day))]
     pub(crate) fn day(&self, column: u8) -> Result<Day, DeclareFault>
         requires { 1 ≤ column }
         ensures { result ≡ read_in column a_day self.now.place (fields_of self.now.row.now) }
@@ -99,7 +100,7 @@ impl<'a> Fields<'a> {
     }
 
     /// The number of an exemption in a column.
-    #[tactic(auto, unfolding(crate::specs::Columns::read_in, crate::specs::Forms::an_exemption_number))]
+    #[tactic(auto, unfolding(crate::specs::Columns::read_in, desk_text::specs::Forms::an_exemption_number))]
     pub(crate) fn exemption_number(&self, column: u8) -> Result<ExemptionNumber, DeclareFault>
         requires { 1 ≤ column }
         ensures { result ≡ read_in column an_exemption_number self.now.place (fields_of self.now.row.now) }

@@ -2,7 +2,7 @@ ghost use Rattle.std.specs.Prelude.{◌≡◌, ◌≢◌, Err, IfErr, Ok, OnOk};
 ghost use Rattle.csv.specs.Records.{fields_of};
 ghost use Rattle.desk_declare.specs.Columns.{made_by, read_in};
 ghost use Rattle.desk_declare.specs.Declaration.{claim_columns, head_of, material_columns, row_added, substance_columns, with_addition};
-ghost use Rattle.desk_declare.specs.Forms.{a_code};
+ghost use Rattle.desk_text.specs.Forms.{a_code};
 
 use crate::DeclareFault;
 use crate::fields::Fields;
@@ -93,7 +93,7 @@ fn add_material(
 
 /// The code of the material that a record is about. Such records mostly stand behind the material's own, so its code is looked for
 /// there first: to see that the bytes are the same takes less than to read them.
-#[tactic(auto, unfolding(crate::specs::Columns::read_in, crate::specs::Forms::a_code))]
+#[tactic(auto, unfolding(crate::specs::Columns::read_in, desk_text::specs::Forms::a_code))]
 fn material_of(declaration: &Declaration, fields: &Fields<'_>) -> Result<Code, DeclareFault>
     ensures { result ≡ read_in 2 a_code fields.now.place (fields_of fields.now.row.now) }
 {

@@ -7,6 +7,7 @@ use Rattle.std.specs.Option.{ok_or}
 use Rattle.std.specs.Str.{bytes_eq}
 use Rattle.serde_json.specs.Data.{Data, Members, no_members, member}
 use Rattle.serde_json.specs.Find.{as_null, as_object, get}
+use Rattle.desk_text.specs.Forms.{applied}
 use Rattle.desk_edits.specs.declared.edit_key.EditKey.{EditKey}
 use Rattle.desk_edits.specs.declared.json_fault.JsonFault.{JsonFault}
 use Rattle.desk_edits.specs.declared.json_fault.JsonFault.TheVariants.{MissingKey, ExtraKey, BadValue}
@@ -43,12 +44,6 @@ needs key form = record { keys = Needed key ∷ []; values = needed form key }
 -- a shape of a key that may be absent or null
 abbrev pub may_have : {A : Type 0} → EditKey → (Data → Option A) → Shape (Option A)
 may_have key form = record { keys = Optional key ∷ []; values = optional form key }
-
--- a value made by the one of the other, or the fault of the one, or else of the other
-abbrev pub applied : {A B : Type 0} → Result (A → B) JsonFault → Result A JsonFault → Result B JsonFault
-applied (Err fault) value = Err fault
-applied (Ok make) (Err fault) = Err fault
-applied (Ok make) (Ok value) = Ok (make value)
 
 -- a shape without keys
 abbrev pub makes : {A : Type 0} → A → Shape A

@@ -1,13 +1,10 @@
 -- What the value of an edit's key may be: a text of a form, a whole number of a range, or the kinds of equipment.
 use Rattle.std.specs.Prelude.{ℕ, Bool, true, not, ◌&&◌, if◌then◌else◌, List, [], ◌∷◌, length, nat_lt, Option, Some, None}
 use Rattle.std.specs.Prelude.{option_map, option_and_then}
-use Rattle.std.specs.Result.{result_ok}
 use Rattle.serde_json.specs.Data.{Data, Items, no_items, item}
 use Rattle.serde_json.specs.Find.{as_array, as_number, as_str, as_u64}
-use Rattle.desk_text.specs.Cas.{cas_of}
-use Rattle.desk_text.specs.Code.{code_of, exemption_number_of}
-use Rattle.desk_text.specs.Day.{Date, day_of}
-use Rattle.desk_text.specs.Name.{name_of}
+use Rattle.desk_text.specs.Day.{Date}
+use Rattle.desk_text.specs.Forms as text
 use Rattle.desk_law.specs.declared.annex.Annex.{Annex}
 use Rattle.desk_law.specs.declared.kind.Kind.{Kind}
 use Rattle.desk_law.specs.declared.rule.Rule.{Rule}
@@ -22,23 +19,23 @@ use Rattle.desk_model.specs.Terms.{is_ppm}
 
 -- a code
 unfoldable pub a_code : Data → Option (List ℕ)
-a_code d = option_and_then (λ text. result_ok (code_of text)) (as_str d)
+a_code d = option_and_then text.a_code (as_str d)
 
 -- a name
 unfoldable pub a_name : Data → Option (List ℕ)
-a_name d = option_and_then (λ text. result_ok (name_of text)) (as_str d)
+a_name d = option_and_then text.a_name (as_str d)
 
 -- a CAS number
 unfoldable pub a_cas : Data → Option (List ℕ)
-a_cas d = option_and_then (λ text. result_ok (cas_of text)) (as_str d)
+a_cas d = option_and_then text.a_cas (as_str d)
 
 -- the number of an exemption
 unfoldable pub an_exemption_number : Data → Option (List ℕ)
-an_exemption_number d = option_and_then (λ text. result_ok (exemption_number_of text)) (as_str d)
+an_exemption_number d = option_and_then text.an_exemption_number (as_str d)
 
 -- a day
 unfoldable pub a_day : Data → Option Date
-a_day d = option_and_then (λ text. result_ok (day_of text)) (as_str d)
+a_day d = option_and_then text.a_day (as_str d)
 
 -- a rule, by its code
 unfoldable pub a_rule : Data → Option Rule

@@ -26,7 +26,7 @@ impl FromJson for Code {
 
     ghost form = { a_code };
 
-    #[tactic(auto, unfolding(crate::specs::Values::a_code))]
+    #[tactic(auto, unfolding(crate::specs::Values::a_code, desk_text::specs::Forms::a_code))]
     fn from_json(value: &Value) -> Option<Code> {
         Code::read(value.as_str()?.as_bytes()).ok()
     }
@@ -37,7 +37,7 @@ impl FromJson for ExemptionNumber {
 
     ghost form = { an_exemption_number };
 
-    #[tactic(auto, unfolding(crate::specs::Values::an_exemption_number))]
+    #[tactic(auto, unfolding(crate::specs::Values::an_exemption_number, desk_text::specs::Forms::an_exemption_number))]
     fn from_json(value: &Value) -> Option<ExemptionNumber> {
         ExemptionNumber::read(value.as_str()?.as_bytes()).ok()
     }
@@ -48,7 +48,7 @@ impl FromJson for Cas {
 
     ghost form = { a_cas };
 
-    #[tactic(auto, unfolding(crate::specs::Values::a_cas))]
+    #[tactic(auto, unfolding(crate::specs::Values::a_cas, desk_text::specs::Forms::a_cas))]
     fn from_json(value: &Value) -> Option<Cas> {
         Cas::read(value.as_str()?.as_bytes()).ok()
     }
@@ -59,7 +59,7 @@ impl FromJson for Day {
 
     ghost form = { a_day };
 
-    #[tactic(auto, unfolding(crate::specs::Values::a_day))]
+    #[tactic(auto, unfolding(crate::specs::Values::a_day, desk_text::specs::Forms::a_day))]
     fn from_json(value: &Value) -> Option<Day> {
         Day::read(value.as_str()?.as_bytes()).ok()
     }

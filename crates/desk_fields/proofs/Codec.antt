@@ -9,7 +9,8 @@ use Rattle.std.proofs.lemmas.Option.{cond_some, some_pair_parts}
 use Rattle.desk_text.specs.Number.{number_below}
 use Rattle.desk_text.proofs.FieldLemmas.{IsField, IsField-decimal}
 use Rattle.desk_text.proofs.Fields.{AreFields, AreFields-append, IsReader, number_reader}
-use Rattle.desk_fields.specs.Forms.{a_number, maybe}
+use Rattle.desk_text.specs.Forms.{a_number}
+use Rattle.desk_fields.specs.Forms.{maybe}
 use Rattle.desk_fields.specs.Reading.{Reader, both, counted, made, one, tested, times}
 
 -- what a field is read as, each value from its one text

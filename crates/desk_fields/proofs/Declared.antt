@@ -31,7 +31,8 @@ use Rattle.desk_model.proofs.Order.{rises_from_sorted, sorted_from_rises}
 use Rattle.desk_model.proofs.EditTold.{four_parts, three_parts}
 use Rattle.desk_model.proofs.InForm.{form_parts, from_form_parts}
 use Rattle.desk_fields.specs.EditReading.{claim_in, claims_in, declared_in, exemption_behind, exemption_in, held_cmp, held_in, material_cmp, material_in, substances_in}
-use Rattle.desk_fields.specs.Forms.{a_code, a_day, a_name, a_number, an_annex, an_exemption_number, maybe, some_kinds}
+use Rattle.desk_text.specs.Forms.{a_code, a_day, a_name, a_number, an_exemption_number}
+use Rattle.desk_fields.specs.Forms.{an_annex, maybe, some_kinds}
 use Rattle.desk_fields.specs.Reading.{Reader, both, counted, five, four, in_turn, made, nine, one, rising, two}
 use Rattle.desk_fields.proofs.Codec.{IsCodec, beside, both_codec, codec_same, codec_with, counted_codec, made_codec, making, number_form, one_codec, tested_codec}
 use Rattle.desk_fields.proofs.KindFields.{kinds_form}

@@ -20,7 +20,8 @@ use Rattle.desk_model.proofs.EditTold.{four_parts, three_parts}
 use Rattle.desk_model.specs.declared.edit_word.EditWord.{EditWord}
 use Rattle.desk_model.specs.declared.edit_word.EditWord.TheVariants as word
 use Rattle.desk_fields.specs.EditReading.{edit_by, edit_in, edit_of}
-use Rattle.desk_fields.specs.Forms.{a_cas, a_code, a_day, a_name, a_number, maybe}
+use Rattle.desk_text.specs.Forms.{a_cas, a_code, a_day, a_name, a_number}
+use Rattle.desk_fields.specs.Forms.{maybe}
 use Rattle.desk_fields.specs.Reading.{Reader, both, ended, fields_of, made, one, three, two, whole}
 use Rattle.desk_fields.proofs.Codec.{IsCodec, both_codec, made_of, making, none_some, one_codec, some_same, with_rest}
 use Rattle.desk_fields.proofs.Declared.{Within, code_codec, day_codec, declared_codec, exemption_codec, name_codec, number_codec, rule_codec}

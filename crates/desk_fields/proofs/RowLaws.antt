@@ -24,7 +24,7 @@ use Rattle.desk_fields.specs.declared.row_fault.RowFault.TheVariants as row
 use Rattle.desk_fields.specs.Faults.{row_fault_of}
 use Rattle.desk_fields.specs.EditReading.{edit_in, edit_of}
 use Rattle.desk_fields.specs.EditTexts.{IsEditText}
-use Rattle.desk_fields.specs.Forms.{a_number}
+use Rattle.desk_text.specs.Forms.{a_number}
 use Rattle.desk_fields.specs.Reading.{fields_of, one}
 use Rattle.desk_fields.specs.RowReading.{is_ticket_code, row_of, ticket_of, ticket_row_in}
 use Rattle.desk_fields.specs.RowTexts.{IsRowInForm, IsRowOf, IsTicketRow, body_fields, body_text, version}

@@ -12,7 +12,7 @@ use Rattle.desk_model.specs.Declaration.{is_declaration_number}
 use Rattle.desk_model.specs.EditText.{declared_code, sent_code}
 use Rattle.desk_model.specs.Values.{is_code}
 use Rattle.desk_model.proofs.EditTold.{number_small}
-use Rattle.desk_fields.specs.Forms.{a_code, a_number}
+use Rattle.desk_text.specs.Forms.{a_code, a_number}
 use Rattle.desk_fields.specs.Reading.{both, one, whole}
 use Rattle.desk_fields.specs.RowReading.{are_ticket_parts, is_ticket_code}
 use Rattle.desk_fields.specs.RowTexts.{IsTicketCode}

@@ -19,7 +19,7 @@ use Rattle.desk_fields.specs.declared.text_fault.TextFault.TheVariants.{NotAnEdi
 use Rattle.desk_fields.specs.Faults.{text_fault_of}
 use Rattle.desk_fields.specs.EditReading.{edit_of, ticket_in}
 use Rattle.desk_fields.specs.EditTexts.{IsEditOf, IsEditText}
-use Rattle.desk_fields.specs.Forms.{a_code}
+use Rattle.desk_text.specs.Forms.{a_code}
 use Rattle.desk_fields.proofs.Codec.{none_some, some_same}
 use Rattle.desk_fields.proofs.EditFields.{read_back, read_exact, with_ticket}
 use Rattle.desk_fields.proofs.Values.{code_form}

@@ -30,7 +30,8 @@ use Rattle.desk_model.proofs.EditTold.{sort_told}
 use Rattle.desk_model.specs.declared.edit_word.EditWord.{EditWord}
 use Rattle.desk_model.specs.declared.edit_word.EditWord.TheVariants as word
 use Rattle.desk_model.specs.EditWords.{all_words, edit_word_of, word_text}
-use Rattle.desk_fields.specs.Forms.{a_cas, a_code, a_day, a_name, a_number, an_annex, an_exemption_number, maybe}
+use Rattle.desk_text.specs.Forms.{a_cas, a_code, a_day, a_name, a_number, an_exemption_number}
+use Rattle.desk_fields.specs.Forms.{an_annex, maybe}
 use Rattle.desk_fields.proofs.Codec.{IsForm, maybe_form, number_form, ok_of_some, reader_form}
 
 pub code_form : IsForm a_code (λ code. code) (λ code. is_code code ≡ true)

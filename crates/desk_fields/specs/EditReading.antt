@@ -20,7 +20,8 @@ use Rattle.desk_model.specs.declared.substance_mass.SubstanceMass.{SubstanceMass
 use Rattle.desk_model.specs.Declaration.{Declared}
 use Rattle.desk_model.specs.EditText.{sort_of}
 use Rattle.desk_model.specs.EditWords.{edit_word_of}
-use Rattle.desk_fields.specs.Forms.{a_cas, a_code, a_day, a_name, a_number, an_annex, an_exemption_number, maybe, some_kinds}
+use Rattle.desk_text.specs.Forms.{a_cas, a_code, a_day, a_name, a_number, an_exemption_number}
+use Rattle.desk_fields.specs.Forms.{an_annex, maybe, some_kinds}
 use Rattle.desk_fields.specs.Reading.{Reader, both, fields_of, five, four, made, one, nine, rising, three, two, whole}
 
 -- a substance that a material holds

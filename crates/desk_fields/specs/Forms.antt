@@ -15,31 +15,6 @@ use Rattle.desk_law.specs.Kind.{kind_of}
 use Rattle.desk_law.specs.KindSet.{kinds_text, set_of}
 use Rattle.desk_model.specs.Terms.{are_kinds}
 
--- a code
-unfoldable pub a_code : List ℕ → Option (List ℕ)
-a_code field = result_ok (code_of field)
-
--- a name
-unfoldable pub a_name : List ℕ → Option (List ℕ)
-a_name field = result_ok (name_of field)
-
--- a CAS number
-unfoldable pub a_cas : List ℕ → Option (List ℕ)
-a_cas field = result_ok (cas_of field)
-
--- the number of an exemption
-unfoldable pub an_exemption_number : List ℕ → Option (List ℕ)
-an_exemption_number field = result_ok (exemption_number_of field)
-
--- a day
-unfoldable pub a_day : List ℕ → Option Date
-a_day field = result_ok (day_of field)
-
--- a number of a range, in decimal digits
-unfoldable pub a_number : ℕ → ℕ → List ℕ → Option ℕ
-a_number least greatest field =
-    option_and_then (λ n. if nat_le least n && nat_le n greatest then Some n else None) (result_ok (number_below (2 ^ 64) field))
-
 -- an annex, by its number
 unfoldable pub an_annex : List ℕ → Option Annex
 an_annex field = option_and_then annex_of (result_ok (number_below (2 ^ 64) field))

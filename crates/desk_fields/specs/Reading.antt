@@ -3,7 +3,7 @@ use Rattle.std.specs.Prelude.{ℕ, zero, suc, Bool, true, ◌&&◌, ◌==◌, if
 use Rattle.std.specs.List.{slice_split}
 use Rattle.std.specs.Ordering.{is_lt}
 use Rattle.std.specs.declared.cmp.Ordering.{Ordering}
-use Rattle.desk_fields.specs.Forms.{a_number}
+use Rattle.desk_text.specs.Forms.{a_number}
 
 -- the fields of a text
 unfoldable pub fields_of : List ℕ → List (List ℕ)

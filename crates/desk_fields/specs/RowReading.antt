@@ -19,7 +19,8 @@ use Rattle.desk_model.specs.declared.rows.substance.SubstanceRow.{SubstanceRow}
 use Rattle.desk_model.specs.declared.rows.ticket.TicketRow.{TicketRow}
 use Rattle.desk_model.specs.EditText.{joined, sort_of}
 use Rattle.desk_fields.specs.EditReading.{claims_in, edit_of, exemption_in, substances_in}
-use Rattle.desk_fields.specs.Forms.{a_cas, a_code, a_day, a_name, a_number, maybe}
+use Rattle.desk_text.specs.Forms.{a_cas, a_code, a_day, a_name, a_number}
+use Rattle.desk_fields.specs.Forms.{maybe}
 use Rattle.desk_fields.specs.Reading.{Reader, both, eight, made, one, three, two, whole}
 
 -- a substance, of its code and its fields

@@ -63,7 +63,7 @@ fn has_code(alloc: Global, edit: &Edit, code: &[u8]) -> Result<bool, OutOfMemory
 }
 
 /// The ticket that a sender's code holds behind `E:`. Of any other code it is one that is read and then not asked for.
-#[tactic(auto, unfolding(crate::specs::Forms::a_code))]
+#[tactic(auto, unfolding(desk_text::specs::Forms::a_code))]
 fn ticket_of(code: &[u8]) -> Code
     ensures { result ≡ ticket_in code.now }
 {

@@ -3,7 +3,8 @@ ghost use Rattle.std.specs.List.{slice_split};
 ghost use Rattle.desk_model.specs.declared.limits.TheConstants.{PPM_LIMIT};
 ghost use Rattle.desk_model.specs.Terms.{are_kinds, is_ppm};
 ghost use Rattle.desk_fields.specs.EditReading.{exemption_behind, exemption_in};
-ghost use Rattle.desk_fields.specs.Forms.{a_number, kinds_with, maybe, some_kinds};
+ghost use Rattle.desk_text.specs.Forms.{a_number};
+ghost use Rattle.desk_fields.specs.Forms.{kinds_with, maybe, some_kinds};
 ghost use Rattle.desk_fields.specs.Reading.{one};
 
 use crate::field_fault::FieldFault;
@@ -66,7 +67,7 @@ fn exemption_row(terms: Terms, application: Name) -> Exemption
 }
 
 /// Takes a floor or a cap, which may be absent.
-#[tactic(auto, unfolding(crate::specs::Forms::a_number))]
+#[tactic(auto, unfolding(desk_text::specs::Forms::a_number))]
 fn take_ppm(fields: &mut Fields<'_>) -> Result<Option<u32>, FieldFault>
     ensures ok { IfOk result (λ ppm. one (maybe (a_number 0 PPM_LIMIT)) fields.old ≡ Some (ppm, fields.new)) }
     ensures range { IfOk result (λ ppm. is_ppm ppm ≡ true) }

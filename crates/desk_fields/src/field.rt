@@ -19,33 +19,33 @@ pub(crate) trait Field: Sized + Drop {
 }
 
 impl Field for Code {
-    ghost use Rattle.desk_fields.specs.Forms.{a_code};
+    ghost use Rattle.desk_text.specs.Forms.{a_code};
 
     ghost form = { a_code };
 
-    #[tactic(auto, unfolding(crate::specs::Forms::a_code))]
+    #[tactic(auto, unfolding(desk_text::specs::Forms::a_code))]
     fn from_field(field: &[u8]) -> Option<Code> {
         Code::read(field).ok()
     }
 }
 
 impl Field for ExemptionNumber {
-    ghost use Rattle.desk_fields.specs.Forms.{an_exemption_number};
+    ghost use Rattle.desk_text.specs.Forms.{an_exemption_number};
 
     ghost form = { an_exemption_number };
 
-    #[tactic(auto, unfolding(crate::specs::Forms::an_exemption_number))]
+    #[tactic(auto, unfolding(desk_text::specs::Forms::an_exemption_number))]
     fn from_field(field: &[u8]) -> Option<ExemptionNumber> {
         ExemptionNumber::read(field).ok()
     }
 }
 
 impl Field for Day {
-    ghost use Rattle.desk_fields.specs.Forms.{a_day};
+    ghost use Rattle.desk_text.specs.Forms.{a_day};
 
     ghost form = { a_day };
 
-    #[tactic(auto, unfolding(crate::specs::Forms::a_day))]
+    #[tactic(auto, unfolding(desk_text::specs::Forms::a_day))]
     fn from_field(field: &[u8]) -> Option<Day> {
         Day::read(field).ok()
     }
@@ -103,11 +103,12 @@ impl Field for Annex {
 }
 
 impl Field for Option<Cas> {
-    ghost use Rattle.desk_fields.specs.Forms.{a_cas, maybe};
+    ghost use Rattle.desk_text.specs.Forms.{a_cas};
+    ghost use Rattle.desk_fields.specs.Forms.{maybe};
 
     ghost form = { maybe a_cas };
 
-    #[tactic(auto, unfolding(crate::specs::Forms::a_cas))]
+    #[tactic(auto, unfolding(desk_text::specs::Forms::a_cas))]
     fn from_field(field: &[u8]) -> Option<Option<Cas>> {
         if field.is_empty() {
             return Some(None);
@@ -121,11 +122,11 @@ impl Field for Option<Cas> {
 
 impl Field for Count {
     ghost use Rattle.desk_model.specs.declared.limits.TheConstants.{COUNT_LIMIT};
-    ghost use Rattle.desk_fields.specs.Forms.{a_number};
+    ghost use Rattle.desk_text.specs.Forms.{a_number};
 
     ghost form = { a_number 1 COUNT_LIMIT };
 
-    #[tactic(auto, unfolding(crate::specs::Forms::a_number))]
+    #[tactic(auto, unfolding(desk_text::specs::Forms::a_number))]
     fn from_field(field: &[u8]) -> Option<Count> {
         count_of(read_u64(field).ok()?)
     }
@@ -133,11 +134,11 @@ impl Field for Count {
 
 impl Field for Factor {
     ghost use Rattle.desk_model.specs.declared.limits.TheConstants.{WHOLE_FACTOR};
-    ghost use Rattle.desk_fields.specs.Forms.{a_number};
+    ghost use Rattle.desk_text.specs.Forms.{a_number};
 
     ghost form = { a_number 0 WHOLE_FACTOR };
 
-    #[tactic(auto, unfolding(crate::specs::Forms::a_number))]
+    #[tactic(auto, unfolding(desk_text::specs::Forms::a_number))]
     fn from_field(field: &[u8]) -> Option<Factor> {
         factor_of(read_u64(field).ok()?)
     }
@@ -145,11 +146,11 @@ impl Field for Factor {
 
 impl Field for Year {
     ghost use Rattle.desk_model.specs.declared.limits.TheConstants.{FIRST_SHIPMENT_YEAR, LAST_SHIPMENT_YEAR};
-    ghost use Rattle.desk_fields.specs.Forms.{a_number};
+    ghost use Rattle.desk_text.specs.Forms.{a_number};
 
     ghost form = { a_number FIRST_SHIPMENT_YEAR LAST_SHIPMENT_YEAR };
 
-    #[tactic(auto, unfolding(crate::specs::Forms::a_number))]
+    #[tactic(auto, unfolding(desk_text::specs::Forms::a_number))]
     fn from_field(field: &[u8]) -> Option<Year> {
         year_of(read_u64(field).ok()?)
     }
@@ -157,11 +158,11 @@ impl Field for Year {
 
 impl Field for Units {
     ghost use Rattle.desk_model.specs.declared.limits.TheConstants.{UNITS_LIMIT};
-    ghost use Rattle.desk_fields.specs.Forms.{a_number};
+    ghost use Rattle.desk_text.specs.Forms.{a_number};
 
     ghost form = { a_number 1 UNITS_LIMIT };
 
-    #[tactic(auto, unfolding(crate::specs::Forms::a_number))]
+    #[tactic(auto, unfolding(desk_text::specs::Forms::a_number))]
     fn from_field(field: &[u8]) -> Option<Units> {
         units_of(read_u64(field).ok()?)
     }

@@ -2,7 +2,7 @@ ghost use Rattle.std.specs.Prelude.{◌≡◌, ◌≢◌, ◌≤◌, ◌==◌, [
 ghost use Rattle.std.specs.Prelude.{OnErr, OnOk, position, Some};
 ghost use Rattle.std.specs.List.{join_with_byte, slice_split};
 ghost use Rattle.std.specs.Option.{option_map_or};
-ghost use Rattle.desk_fields.specs.Forms.{a_name, a_number};
+ghost use Rattle.desk_text.specs.Forms.{a_name, a_number};
 ghost use Rattle.desk_fields.specs.Reading.{one};
 
 use crate::field::Field;
@@ -96,7 +96,7 @@ impl<'a, const SEPARATOR: u8> Parts<'a, SEPARATOR> {
     }
 
     /// Takes a number from the least to the greatest that is asked.
-    #[tactic(auto, unfolding(crate::specs::Forms::a_number))]
+    #[tactic(auto, unfolding(desk_text::specs::Forms::a_number))]
     pub(crate) fn take_number(&mut self, least: u64, greatest: u64) -> Result<u64, FieldFault>
         ensures ok { IfOk result (λ number. one (a_number least greatest) self.old ≡ Some (number, self.new)) }
         ensures range { IfOk result (λ number. (least ≤ number) × (number ≤ greatest)) }
@@ -112,7 +112,7 @@ impl<'a, const SEPARATOR: u8> Parts<'a, SEPARATOR> {
     }
 
     /// Takes a name.
-    #[tactic(auto, unfolding(crate::specs::Forms::a_name))]
+    #[tactic(auto, unfolding(desk_text::specs::Forms::a_name))]
     pub(crate) fn take_name(&mut self, alloc: Global) -> Result<Name, FieldFault>
         ensures ok { IfOk result (λ name. one a_name self.old ≡ Some (name, self.new)) }
         ensures shape { result ≡ Err FieldFault.Shape → one a_name self.old ≡ None }

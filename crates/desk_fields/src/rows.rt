@@ -1,5 +1,5 @@
 ghost use Rattle.std.specs.Prelude.{◌≡◌, ◌^◌, ◌-◌, ◌∷◌, Err, false, IfOk, is_some, None, OnOk, Some, true};
-ghost use Rattle.desk_fields.specs.Forms.{a_code, a_number};
+ghost use Rattle.desk_text.specs.Forms.{a_code, a_number};
 ghost use Rattle.desk_fields.specs.Reading.{both, one, whole};
 ghost use Rattle.desk_fields.specs.RowReading.{candidate_row_in, is_ticket_code, line_row_in, material_row_in};
 ghost use Rattle.desk_fields.specs.RowReading.{member_row_in, pair_in, paired, part_row_in, product_row_in, row_of};

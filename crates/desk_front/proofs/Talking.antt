@@ -1,7 +1,7 @@
 -- A conversation with a clerk, and the one list that its replies are from.
 use Rattle.std.proofs.Common.{◌≡◌, ◌≢◌, ◌⊎◌, ℕ, ◌+◌, ◌≤◌, true, List, [], ◌∷◌, ◌++◌, Option, None, Some, Result, Ok, Err, refl, sym, ap, ◌∙◌, subst, inl, inr, append_assoc, arith, length-append}
 use Rattle.std.specs.List.{AllByRecursion}
-use Rattle.desk_clerk.specs.Clerk.{number_at}
+use Rattle.desk_model.specs.Lists.{number_at}
 use Rattle.desk_declare.specs.declared.declare_fault.DeclareFault.{DeclareFault}
 use Rattle.desk_edge.specs.Faults.{Rose}
 use Rattle.desk_edits.specs.declared.json_fault.JsonFault.{JsonFault}

@@ -6,7 +6,7 @@ use Rattle.std.specs.Option.{option_and_then, option_map_or}
 use Rattle.std.specs.Prelude.{codes, option_map}
 use Rattle.std.specs.Str.{bytes_eq}
 use Rattle.desk_law.specs.declared.kind.Kind.{Kind}
-use Rattle.desk_clerk.specs.Clerk.{number_at}
+use Rattle.desk_model.specs.Lists.{number_at}
 use Rattle.desk_http.specs.Query.{Pair, day_in, kind_in, pairs_of}
 use Rattle.desk_http.specs.Routes.{FromQuery, RouteRow, are_named, asked_by, asked_with, asks, behind_word, day, kind, path_of, path_taken, query_of, route_of, routes, route_row, same_method, taken_from_path, path_word}
 use Rattle.desk_http.specs.declared.ask.Ask.{Ask}

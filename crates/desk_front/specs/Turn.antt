@@ -1,7 +1,7 @@
 -- One connection that has a clerk to itself, turn by turn: each answer is at the whole list of its moment.
 use Rattle.std.specs.Prelude.{◌≡◌, ◌≢◌, ℕ, ◌≤◌, ◌⊎◌, is_ok, true, List, [], ◌∷◌, ◌++◌, Option, None, Some, Bool}
 use Rattle.std.specs.List.{AllByRecursion}
-use Rattle.desk_clerk.specs.Clerk.{number_at}
+use Rattle.desk_model.specs.Lists.{number_at}
 use Rattle.desk_edge.specs.Faults.{Rose}
 use Rattle.desk_history.specs.History.{History, IsHistory, after}
 use Rattle.desk_history.specs.Refused.{refused}

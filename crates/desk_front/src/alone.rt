@@ -1,6 +1,7 @@
 ghost use Rattle.std.specs.Prelude.{◌≡◌, ◌≢◌, ◌≤◌, ℕ, List, length};
 ghost use Rattle.std.specs.Io.KnownBytes.{Consumes};
-ghost use Rattle.desk_clerk.specs.Clerk.{keeper_of, number_at, whole};
+ghost use Rattle.desk_clerk.specs.Clerk.{keeper_of, whole};
+ghost use Rattle.desk_model.specs.Lists.{number_at};
 ghost use Rattle.desk_edge.specs.Faults.{Rose};
 ghost use Rattle.desk_front.specs.Last.{IsFresh};
 ghost use Rattle.desk_front.specs.Served.{Serves, stream_limit};

@@ -1,5 +1,6 @@
 ghost use Rattle.std.specs.Prelude.{◌≡◌, ◌≢◌, ◌++◌, ℕ, List, true, Some, IfErr, OnErr, OnOk};
-ghost use Rattle.desk_clerk.specs.Clerk.{keeper_of, number_at, whole};
+ghost use Rattle.desk_clerk.specs.Clerk.{keeper_of, whole};
+ghost use Rattle.desk_model.specs.Lists.{number_at};
 ghost use Rattle.desk_declare.specs.Declaration.{declaration_of};
 ghost use Rattle.desk_edits.specs.Edit.{edit_of};
 ghost use Rattle.desk_front.specs.Asked.{a_question, an_edit, of_csv, of_json};

@@ -8,7 +8,7 @@ use Rattle.desk_model.specs.declared.rows.material.MaterialRow.{MaterialRow}
 use Rattle.desk_findings.specs.Above.{is_candidate}
 use Rattle.desk_findings.specs.Articles.{is_article_sort}
 use Rattle.desk_model.specs.Effect.{entered}
-use Rattle.desk_model.specs.Lists.{Lists, is_part}
+use Rattle.desk_model.specs.Lists.{Lists, is_part, nodes_of}
 use Rattle.desk_findings.specs.Reaches.{lines_of, reaches}
 use Rattle.desk_history.specs.Step.{kept_number}
 
@@ -49,10 +49,6 @@ seeds t edit = if is_some (kept_number t edit) then [] else seeds_of_new t edit
 unfoldable pub is_affected : Lists → Edit → List ℕ → Bool
 is_affected t edit code = list_any (λ seed. same_code code seed || reaches (entered t edit) code seed) (seeds t edit)
 
--- the codes of all materials and parts
-abbrev pub nodes : Lists → List (List ℕ)
-nodes t = map (λ material. material.code) t.materials ++ map (λ part. part.code) t.parts
-
 -- the codes that an edit affects: the seeds, and each part that reaches one, each once
 abbrev pub affected : Lists → Edit → List (List ℕ)
-affected t edit = filter (is_affected t edit) (nodes (entered t edit))
+affected t edit = filter (is_affected t edit) (nodes_of (entered t edit))

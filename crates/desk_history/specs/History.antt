@@ -1,8 +1,8 @@
 -- Histories: opening tables, and the edits that were accepted since, in order.
-use Rattle.std.specs.Prelude.{◌≡◌, ℕ, ◌-◌, true, List, [], ◌∷◌, ◌++◌, None, length, take, ⊤}
+use Rattle.std.specs.Prelude.{◌≡◌, ℕ, ◌-◌, true, List, [], ◌∷◌, ◌++◌, None, take, ⊤}
 use Rattle.desk_model.specs.declared.edit.Edit.{Edit}
 use Rattle.desk_model.specs.Forms.{is_edit_in_form}
-use Rattle.desk_model.specs.Lists.{Lists}
+use Rattle.desk_model.specs.Lists.{Lists, number_at}
 use Rattle.desk_history.specs.Refused.{closes_cycle, refused, refused_by_rows}
 use Rattle.desk_history.specs.Sound.{Sound}
 use Rattle.desk_history.specs.Step.{kept_number, step}
@@ -46,11 +46,11 @@ pub record IsHistory (history : History) : Type 0 where
 
 -- the number of a history is the number of tickets at its end
 abbrev pub number_of : History → ℕ
-number_of history = length (after history).tickets
+number_of history = number_at (after history)
 
 -- the history up to a number: each edit adds one ticket, so a number names one prefix
 abbrev pub up_to : History → ℕ → History
-up_to history number = record history { edits = take (number - length history.opening.tickets) history.edits }
+up_to history number = record history { edits = take (number - number_at history.opening) history.edits }
 
 -- the first history begins the second: both open with the same tables, and the first's edits are the first of the
 -- second's

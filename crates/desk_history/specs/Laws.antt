@@ -1,5 +1,5 @@
 -- Laws of the definitions. Each is the contract of a function without a body in `src/laws.rt`, so that the check proves it.
-use Rattle.std.specs.Prelude.{◌≡◌, ℕ, ◌+◌, ◌*◌, ◌≤◌, true, false, not, ◌&&◌, ◌==◌, ◌⊎◌, List, ◌∷◌, ◌++◌, Some, None, Ok, Err, count_by, length, if◌then◌else◌}
+use Rattle.std.specs.Prelude.{◌≡◌, ℕ, ◌+◌, ◌*◌, ◌≤◌, true, false, not, ◌&&◌, ◌==◌, ◌⊎◌, List, ◌∷◌, ◌++◌, Some, None, Ok, Err, count_by, if◌then◌else◌}
 use Rattle.std.specs.List.{AllByRecursion, list_all}
 use Rattle.desk_text.specs.Code.{same_code}
 use Rattle.desk_law.specs.declared.rule.Rule.{Rule}
@@ -10,7 +10,7 @@ use Rattle.desk_model.specs.declared.rule_fault.RuleFault.{RuleFault}
 use Rattle.desk_model.specs.EditText.{ticket_code}
 use Rattle.desk_model.specs.Effect.{entered, next_number}
 use Rattle.desk_model.specs.Forms.{is_edit_in_form}
-use Rattle.desk_model.specs.Lists.{IsOrdered, Lists, is_kept, material_row, ticket_row}
+use Rattle.desk_model.specs.Lists.{IsOrdered, Lists, is_kept, material_row, number_at, ticket_row}
 use Rattle.desk_model.specs.Start.{start}
 use Rattle.desk_findings.specs.Carried.{carried}
 use Rattle.desk_findings.specs.Chain.{chain}
@@ -43,7 +43,7 @@ pub record RefusalsAreTold : Type 0 where
 pub record AcceptedEditsAreKept : Type 0 where
   pub answer : (t : Lists) (edit : Edit) → IsAccepted t edit → step t edit ≡ (Ok (next_number t), entered t edit)
   pub kept : (t : Lists) (edit : Edit) → kept_number (entered t edit) edit ≡ Some (next_number t)
-  pub one_ticket : (t : Lists) (edit : Edit) → IsAccepted t edit → length (entered t edit).tickets ≡ length t.tickets + 1
+  pub one_ticket : (t : Lists) (edit : Edit) → IsAccepted t edit → number_at (entered t edit) ≡ number_at t + 1
   pub stays : (t : Lists) (kept other : Edit) (number : ℕ) → kept_number t kept ≡ Some number → kept_number (step t other).1 kept ≡ Some number
 
 -- each edit of a history is entered once: the tables that the edits before it leave have no ticket of its code, and those at the end keep
@@ -61,7 +61,7 @@ NumbersStayWhole = (t : Lists) (edit : Edit) → are_numbers t.tickets ≡ true 
 -- each number of a history, from that of its opening tables on, names one beginning of it and no other, which is a history of
 -- that number
 pub record NumbersNamePrefixes : Type 0 where
-  pub number : (history : History) (n : ℕ) → IsHistory history → length history.opening.tickets ≤ n → n ≤ number_of history → number_of (up_to history n) ≡ n
+  pub number : (history : History) (n : ℕ) → IsHistory history → number_at history.opening ≤ n → n ≤ number_of history → number_of (up_to history n) ≡ n
   pub history : (history : History) (n : ℕ) → IsHistory history → IsHistory (up_to history n)
   pub begins : (history : History) (n : ℕ) → Begins (up_to history n) history
   pub only : (history part : History) → IsHistory part → Begins part history → part.edits ≡ (up_to history (number_of part)).edits

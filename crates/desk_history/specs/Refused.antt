@@ -177,11 +177,10 @@ findings_full t edit = refuse_if (has_too_many_findings (entered t edit)) Findin
 unfoldable pub year_too_large : Lists → Edit → Option RuleFault
 year_too_large t edit = option_map YearTooLarge (too_heavy_year (entered t edit))
 
--- what the rules 1 to 19 say of the edit, in order: look-ups and lengths decide them
-abbrev pub rules_of_rows : Lists → Edit → List (Option RuleFault)
-rules_of_rows t edit =
-    ticket_reused t edit
-    ∷ unknown_substance t edit
+-- what the rules 2 to 10 say of the edit, in order: its names decide them
+abbrev pub rules_of_names : Lists → Edit → List (Option RuleFault)
+rules_of_names t edit =
+    unknown_substance t edit
     ∷ unknown_material t edit
     ∷ unknown_part t edit
     ∷ unknown_product t edit
@@ -190,16 +189,27 @@ rules_of_rows t edit =
     ∷ kind_changed t edit
     ∷ wrong_child t edit
     ∷ no_such_line t edit
-    ∷ foreign_material t edit
+    ∷ []
+
+-- what the rules 11 to 17 say of the edit, in order: its values decide them
+abbrev pub rules_of_values : Lists → Edit → List (Option RuleFault)
+rules_of_values t edit =
+    foreign_material t edit
     ∷ stale_declaration t edit
     ∷ masses_exceed t edit
     ∷ exemption_span t edit
     ∷ outside_annex t edit
     ∷ ship_below_zero t edit
     ∷ units_too_large t edit
-    ∷ table_full t edit
-    ∷ text_full t edit
     ∷ []
+
+-- what the rules 18 and 19 say of the edit, in order: the lengths of the tables that it leaves decide them
+abbrev pub rules_of_limits : Lists → Edit → List (Option RuleFault)
+rules_of_limits t edit = table_full t edit ∷ text_full t edit ∷ []
+
+-- what the rules 1 to 19 say of the edit, in order: look-ups and lengths decide them
+abbrev pub rules_of_rows : Lists → Edit → List (Option RuleFault)
+rules_of_rows t edit = ticket_reused t edit ∷ (rules_of_names t edit ++ (rules_of_values t edit ++ rules_of_limits t edit))
 
 -- what the rules 20 to 23 say of the edit, in order: the bill of materials decides them
 abbrev pub rules_of_bill : Lists → Edit → List (Option RuleFault)

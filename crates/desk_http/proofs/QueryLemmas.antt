@@ -20,7 +20,8 @@ use Rattle.desk_http.specs.declared.query.Field.{Field}
 use Rattle.desk_http.specs.declared.query.Field.TheVariants.{Absent, Said}
 use Rattle.desk_http.specs.declared.query.Query.{Query}
 use Rattle.desk_http.specs.Fields.{IsAsked, IsField, is_absent, IsQueryOf, is_other, key_named, names_of}
-use Rattle.desk_http.specs.Query.{Pair, askable_day, values_of}
+use Rattle.desk_text.specs.Forms.{an_askable_day}
+use Rattle.desk_http.specs.Query.{Pair, values_of}
 use Rattle.desk_http.specs.Routes.{are_named}
 
 -- a pair adds its value to those of its name
@@ -84,7 +85,7 @@ module _ (query : Query) (pairs : List Pair) (name value : List ℕ) (is : IsQue
         other = sym (others false (other_by true false names.0 names.1) ∙ same_other query.other);
       }
 
-  pub day_added : (field : Field Date) → key_named name ≡ key.Day → IsField askable_day (values_of (codes "day") pairs ++ value ∷ []) field
+  pub day_added : (field : Field Date) → key_named name ≡ key.Day → IsField an_askable_day (values_of (codes "day") pairs ++ value ∷ []) field
       → IsQueryOf (record { kind = query.kind; day = field; other = query.other }) (pairs ++ (name, value) ∷ [])
   day_added field e f =
       let names : Says key.Day (bytes_eq name (codes "kind")) (bytes_eq name (codes "day")) = by_key e in
@@ -184,7 +185,7 @@ all_named may_kind may_day (pair ∷ pairs) =
 pub only_named : (query : Query) (pairs : List Pair) (may_kind may_day : Bool) → IsQueryOf query pairs
     → (not query.other && (may_kind || is_absent query.kind) && (may_day || is_absent query.day)) ≡ are_named (names_of may_kind may_day) pairs
 only_named query pairs may_kind may_day is =
-    rw (absent kind_of (codes "kind") pairs query.kind is.kind, absent askable_day (codes "day") pairs query.day is.day, is.other) (sym (all_named may_kind may_day pairs))
+    rw (absent kind_of (codes "kind") pairs query.kind is.kind, absent an_askable_day (codes "day") pairs query.day is.day, is.other) (sym (all_named may_kind may_day pairs))
 
 -- the answer where a value was read, and where none was
 module _ {T : Type 0} (next : T → Ask) (answer : Result Ask HttpFault) where

@@ -16,7 +16,8 @@ use Rattle.desk_http.specs.declared.http_fault.HttpFault.{HttpFault}
 use Rattle.desk_http.specs.declared.http_fault.HttpFault.TheVariants.{BadQuery, NoRoute, OutOfMemory, WrongMethod}
 use Rattle.desk_http.specs.declared.http_fault.QueryKey.TheVariants as key
 use Rattle.desk_http.specs.declared.method.Method.{Method}
-use Rattle.desk_http.specs.Query.{Pair, askable_day, day_in, if_askable, kind_in, only, pairs_of, values_of}
+use Rattle.desk_text.specs.Forms.{an_askable_day, if_askable}
+use Rattle.desk_http.specs.Query.{Pair, day_in, kind_in, only, pairs_of, values_of}
 use Rattle.desk_http.specs.Routes.{FromPath, FromQuery, RouteRow, are_named, asked_by, asked_with, asks, behind_word, code, code_in, day, ends, if_year, is_ask_in_range, kind, path_of, path_taken, query_of, route_of, routes, route_row, same_method, taken_from_path, path_word, year, year_in}
 
 -- what is asked in the end is in range, whatever is taken from the query
@@ -57,7 +58,7 @@ rows_good = (
 )
 
 -- a day that a query names may be asked about
-askable_found : (found : Option (List ℕ)) (d : Date) → option_and_then askable_day found ≡ Some d → is_askable d ≡ true
+askable_found : (found : Option (List ℕ)) (d : Date) → option_and_then an_askable_day found ≡ Some d → is_askable d ≡ true
 askable_found None d e = cc
 askable_found (Some value) d e = by (result_ok (day_of value)) e
   where

@@ -1,11 +1,11 @@
 -- What a query says: its pairs of name and value, by the form of `application/x-www-form-urlencoded`.
-use Rattle.std.specs.Prelude.{ℕ, List, [], ◌∷◌, Option, Some, None, codes, filter, map, if◌then◌else◌}
+use Rattle.std.specs.Prelude.{ℕ, List, [], ◌∷◌, Option, Some, None, codes, filter, map}
 use Rattle.std.specs.Option.{option_and_then}
-use Rattle.std.specs.Result.{result_ok}
 use Rattle.std.specs.Str.{bytes_eq}
 use Rattle.std.specs.Str.Lossy.{utf8_lossy}
 use Rattle.form_urlencoded.specs.Form.{decode, raw_pairs}
-use Rattle.desk_text.specs.Day.{Date, day_of, is_askable}
+use Rattle.desk_text.specs.Day.{Date}
+use Rattle.desk_text.specs.Forms.{an_askable_day}
 use Rattle.desk_law.specs.declared.kind.Kind.{Kind}
 use Rattle.desk_law.specs.Kind.{kind_of}
 
@@ -35,18 +35,10 @@ only [] = None
 only (value ∷ []) = Some value
 only (value ∷ second ∷ values) = None
 
--- the day, where it is one that may be asked about
-abbrev pub if_askable : Date → Option Date
-if_askable day = if is_askable day then Some day else None
-
--- the day that may be asked about which the bytes write
-abbrev pub askable_day : List ℕ → Option Date
-askable_day bytes = option_and_then if_askable (result_ok (day_of bytes))
-
 -- the kind of equipment that a query names, exactly once
 abbrev pub kind_in : List Pair → Option Kind
 kind_in pairs = option_and_then kind_of (only (values_of (codes "kind") pairs))
 
 -- the day that a query names, exactly once
 abbrev pub day_in : List Pair → Option Date
-day_in pairs = option_and_then askable_day (only (values_of (codes "day") pairs))
+day_in pairs = option_and_then an_askable_day (only (values_of (codes "day") pairs))

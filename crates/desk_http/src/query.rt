@@ -9,7 +9,8 @@ ghost use Rattle.desk_http.specs.declared.http_fault.QueryKey.TheVariants as key
 ghost use Rattle.desk_law.specs.Kind.{kind_of};
 ghost use Rattle.desk_http.specs.Endpoints.{row_at};
 ghost use Rattle.desk_http.specs.Fields.{IsAsked, IsField, IsQueryOf, by_day, by_kind_and_day, by_nothing, is_absent, key_named, names_of};
-ghost use Rattle.desk_http.specs.Query.{Pair, askable_day, day_in, kind_in, pairs_of};
+ghost use Rattle.desk_text.specs.Forms.{an_askable_day};
+ghost use Rattle.desk_http.specs.Query.{Pair, day_in, kind_in, pairs_of};
 ghost use Rattle.desk_http.specs.Routes.{are_named, asked_at, asked_by};
 
 use crate::ask::Ask;
@@ -225,7 +226,7 @@ fn first_kind(value: &[u8]) -> Field<Kind>
 
 /// What is said of the day once a pair with this value has its name.
 fn day_with(field: Field<Day>, value: &[u8]) -> Field<Day>
-    ensures { (values : List (List ℕ)) → IsField askable_day values field → IsField askable_day (values ++ value.now ∷ []) result }
+    ensures { (values : List (List ℕ)) → IsField an_askable_day values field → IsField an_askable_day (values ++ value.now ∷ []) result }
 {
     match field {
         Field::Absent => first_day(value),
@@ -235,15 +236,7 @@ fn day_with(field: Field<Day>, value: &[u8]) -> Field<Day>
 
 /// What is said of the day where one pair, with this value, has its name.
 fn first_day(value: &[u8]) -> Field<Day>
-    ensures { IsField askable_day (value.now ∷ []) result }
+    ensures { IsField an_askable_day (value.now ∷ []) result }
 {
-    Field::Said(askable_day(value))
-}
-
-/// The day that the bytes write, where it may be asked about.
-fn askable_day(value: &[u8]) -> Option<Day>
-    ensures { result ≡ askable_day value.now }
-{
-    let day = Day::read(value).ok()?;
-    if day.is_askable() { Some(day) } else { None }
+    Field::Said(Day::read_askable(value))
 }

@@ -1,5 +1,5 @@
 -- What an accepted edit makes of the tables.
-use Rattle.std.specs.Prelude.{ℕ, zero, suc, ◌+◌, ◌-◌, List, length, map}
+use Rattle.std.specs.Prelude.{ℕ, zero, suc, ◌+◌, ◌-◌, List, map}
 use Rattle.std.specs.Option.{option_map_or}
 use Rattle.desk_text.specs.Code.{code_cmp}
 use Rattle.desk_law.specs.declared.rule.Rule.{Rule}
@@ -12,7 +12,7 @@ use Rattle.desk_model.specs.declared.material_decl.MaterialDecl.{MaterialDecl}
 use Rattle.desk_model.specs.declared.rows.material.MaterialRow.{MaterialRow}
 use Rattle.desk_model.specs.Declaration.{Declared}
 use Rattle.desk_model.specs.EditText.{edit_text, ticket_code}
-use Rattle.desk_model.specs.Lists.{Lists, line_key, line_key_cmp, member_key, member_key_cmp, shipment_key, shipment_key_cmp, shipment_row}
+use Rattle.desk_model.specs.Lists.{Lists, line_key, line_key_cmp, member_key, member_key_cmp, number_at, shipment_key, shipment_key_cmp, shipment_row}
 
 -- the row of a declared material
 abbrev pub declared_row : Declared → MaterialDecl → MaterialRow
@@ -70,7 +70,7 @@ made t (Unship ticket product year units) = with_units t year product (units_of 
 
 -- the number of the next edit that is accepted: one more than there are tickets
 abbrev pub next_number : Lists → ℕ
-next_number t = length t.tickets + 1
+next_number t = number_at t + 1
 
 -- the tables with the edit made and its ticket entered with the next number
 unfoldable pub entered : Lists → Edit → Lists

@@ -1,5 +1,5 @@
 -- The desk's tables: ten lists of rows, each in the order of its key, and what is kept at a key.
-use Rattle.std.specs.Prelude.{ℕ, Bool, ◌||◌, List, Option, is_some}
+use Rattle.std.specs.Prelude.{ℕ, Bool, ◌||◌, List, ◌++◌, Option, is_some, length, map}
 use Rattle.std.specs.Ordering.{nat_cmp, on, then_cmp}
 use Rattle.std.specs.declared.cmp.Ordering.{Ordering}
 use Rattle.desk_text.specs.Code.{code_cmp}
@@ -29,6 +29,14 @@ pub record Lists : Type 0 where
   pub candidates : List CandidateRow
   pub shipments : List ShipmentRow
   pub tickets : List TicketRow
+
+-- the number of the tables: how many edits they have accepted
+abbrev pub number_at : Lists → ℕ
+number_at t = length t.tickets
+
+-- the nodes of the bill of materials: the codes of the materials and then of the parts, each in order
+abbrev pub nodes_of : Lists → List (List ℕ)
+nodes_of t = map (λ row. row.code) t.materials ++ map (λ row. row.code) t.parts
 
 -- the key of a member: its substance and the number of its rule. In keys, codes are ordered by bytes, rules and years by number
 abbrev pub member_key : MemberRow → List ℕ × ℕ

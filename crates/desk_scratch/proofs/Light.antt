@@ -24,7 +24,7 @@ use Rattle.desk_tables.proofs.HeldMasses.{within_mass}
 use Rattle.desk_totals.specs.Fit.{fit}
 use Rattle.desk_totals.specs.Places.{node_at}
 use Rattle.desk_totals.proofs.Fits.{fit-below}
-use Rattle.desk_scratch.specs.Bill.{nodes_of}
+use Rattle.desk_model.specs.Lists.{nodes_of}
 
 pub none_or_some : (o : Option ℕ) (n : ℕ) → o ≡ None → o ≡ Some n → ⊥
 none_or_some None n e f = cc

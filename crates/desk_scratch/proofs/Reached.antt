@@ -13,7 +13,7 @@ use Rattle.desk_findings.specs.Bill.{are_codes_apart}
 use Rattle.desk_findings.specs.Reaches.{is_or_reaches, reaches}
 use Rattle.desk_findings.proofs.Children.{not_part}
 use Rattle.desk_totals.specs.Places.{node_at}
-use Rattle.desk_scratch.specs.Bill.{nodes_of}
+use Rattle.desk_model.specs.Lists.{nodes_of}
 
 -- each place of a range is below what its end is not past
 pub inside_range : (list : List ℕ) (first place bound : ℕ) → list ≡ range_with_len first (place - first) → first ≤ place → place ≤ bound → (k d : ℕ) → k < length list → get_or list k d < bound

@@ -1,5 +1,4 @@
 pub mod Assessment
-pub mod Bill
 pub mod CheckText
 pub mod Eval
 pub mod Examples

@@ -4,22 +4,16 @@ use Rattle.std.specs.Fmt.{decimal}
 use Rattle.std.specs.List.{flat_map}
 use Rattle.std.specs.Option.{option_map_or}
 use Rattle.desk_law.specs.Kind.{kind_code}
-use Rattle.desk_model.specs.declared.part_sort.PartSort.{PartSort}
-use Rattle.desk_model.specs.declared.part_sort.PartSort.TheVariants.{Article, Assembly}
 use Rattle.desk_model.specs.declared.rows.candidate.CandidateRow.{CandidateRow}
 use Rattle.desk_model.specs.declared.rows.line.LineRow.{LineRow}
 use Rattle.desk_model.specs.declared.rows.part.PartRow.{PartRow}
 use Rattle.desk_model.specs.declared.rows.product.ProductRow.{ProductRow}
+use Rattle.desk_model.specs.EditText.{sort_word}
 use Rattle.desk_model.specs.Lists.{Lists, product_row}
 use Rattle.desk_findings.specs.Carried.{carried}
 use Rattle.desk_findings.specs.Mass.{mass}
 use Rattle.desk_findings.specs.Reaches.{lines_of}
 use Rattle.desk_scratch.specs.SharedLines.{name_line, version_line}
-
--- the word for a sort of part
-abbrev pub sort_word : PartSort → List ℕ
-sort_word Article = codes "article"
-sort_word Assembly = codes "assembly"
 
 -- `part CODE article mass MASS` or `part CODE assembly mass MASS`
 unfoldable pub part_line : Lists → PartRow → List ℕ

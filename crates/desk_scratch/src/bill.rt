@@ -7,7 +7,7 @@ ghost use Rattle.desk_findings.specs.Carried.{carried, own_load};
 ghost use Rattle.desk_findings.specs.Chain.{chain};
 ghost use Rattle.desk_findings.specs.Mass.{mass};
 ghost use Rattle.desk_findings.specs.Reaches.{is_or_reaches, reaches};
-ghost use Rattle.desk_scratch.specs.Bill.{nodes_of};
+ghost use Rattle.desk_model.specs.Lists.{nodes_of};
 ghost use Rattle.desk_totals.specs.Fit.{fit};
 ghost use Rattle.desk_totals.specs.Places.{node_at};
 

@@ -8,7 +8,7 @@ ghost use Rattle.desk_model.specs.Lists.{Lists, is_part};
 ghost use Rattle.desk_findings.specs.Carried.{carried};
 ghost use Rattle.desk_findings.specs.Tonnage.{due_day, first_due, notices, tonnage};
 ghost use Rattle.desk_totals.specs.Fit.{fit};
-ghost use Rattle.desk_scratch.specs.Bill.{nodes_of};
+ghost use Rattle.desk_model.specs.Lists.{nodes_of};
 ghost use Rattle.desk_scratch.specs.Reach7.{asked_year_line, due_text, notice_count_line, notice_line, reach7_text};
 
 use crate::bill::Bill;

@@ -14,7 +14,7 @@ use Rattle.desk_history.specs.Refused.{exemption_span, first_some, foreign_mater
 use Rattle.desk_history.specs.Limits.{has_too_much_text}
 use Rattle.desk_history.specs.Step.{kept_number}
 use Rattle.desk_tables.specs.Change.{changed}
-use Rattle.desk_tables.specs.Judged.{rules_of_names, rules_of_values}
+use Rattle.desk_history.specs.Refused.{rules_of_limits, rules_of_names, rules_of_values}
 use Rattle.desk_tables.specs.Plan.{entered_by}
 use Rattle.desk_tables.specs.Ticket.{ticket_for}
 use Rattle.desk_tables.specs.declared.row_change.RowChange.{RowChange}
@@ -65,7 +65,7 @@ with_tickets t rows = record t { tickets = rows }
 
 module _ (t : Lists) (edit : Edit) where
   unfoldable pub by_limits : List (Option RuleFault)
-  by_limits = table_full t edit ∷ text_full t edit ∷ []
+  by_limits = rules_of_limits t edit
 
   in_groups : refused_by_rows t edit ≡ first_some ((ticket_reused t edit ∷ []) ++ (rules_of_names t edit ++ (rules_of_values t edit ++ by_limits)))
   unfolding refused_by_rows by_limits

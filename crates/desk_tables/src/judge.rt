@@ -1,6 +1,6 @@
 ghost use Rattle.std.specs.Prelude.{◌≡◌};
 ghost use Rattle.desk_history.specs.Refused.{first_some};
-ghost use Rattle.desk_tables.specs.Judged.{rules_of_names, rules_of_values};
+ghost use Rattle.desk_history.specs.Refused.{rules_of_names, rules_of_values};
 
 use crate::Tables;
 use crate::rules::{exemption_span, masses_exceed, outside_annex};

@@ -4,7 +4,8 @@ ghost use Rattle.desk_history.specs.Refused.{first_some, ticket_reused, table_fu
 ghost use Rattle.desk_history.specs.Sound.{Sound};
 ghost use Rattle.desk_history.specs.Step.{kept_number};
 ghost use Rattle.desk_tables.specs.Change.{IsReady};
-ghost use Rattle.desk_tables.specs.Judged.{IsRowsFault, IsRowsPlan, rules_of_names, rules_of_values};
+ghost use Rattle.desk_history.specs.Refused.{rules_of_limits, rules_of_names, rules_of_values};
+ghost use Rattle.desk_tables.specs.Judged.{IsRowsFault, IsRowsPlan};
 ghost use Rattle.desk_tables.specs.Plan.{CanCommit, entered_by};
 ghost use Rattle.desk_tables.specs.Ticket.{ticket_for};
 ghost use Rattle.desk_model.specs.Lists.{ticket_row};
@@ -84,7 +85,7 @@ impl Tables {
         requires ready { IsReady self.now change.now }
         requires new { ticket_row self.now.lists ticket.now.code ≡ None }
         requires leaves { entered_by self.now.lists change.now ticket.now ≡ entered self.now.lists edit.now }
-        ensures { result ≡ first_some (table_full self.now.lists edit.now ∷ text_full self.now.lists edit.now ∷ []) }
+        ensures { result ≡ first_some (rules_of_limits self.now.lists edit.now) }
     {
         if let Some(fault) = self.table_full(change, ticket) {
             return Some(fault);

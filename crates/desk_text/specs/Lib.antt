@@ -3,6 +3,7 @@ pub mod Civil
 pub mod Code
 pub mod Day
 pub mod Faults
+pub mod Forms
 pub mod Name
 pub mod Number
 pub mod Padding

@@ -50,6 +50,7 @@ pub enum DayFault {
 
 impl Day {
     ghost use Rattle.desk_text.specs.Day.{day_of, is_askable, is_day, six_months_after};
+    ghost use Rattle.desk_text.specs.Forms.{an_askable_day};
 
     /// The first day on which a question may be asked.
     pub const FIRST_ASKABLE: Day = Day {
@@ -77,6 +78,14 @@ impl Day {
             return Err(DayFault::OutOfProfile);
         }
         Ok(Day { year, month, day })
+    }
+
+    /// The day that these bytes write, where a question may be asked for it; it is `None` exactly where they write no such day.
+    pub fn read_askable(bytes: &[u8]) -> Option<Day>
+        ensures { result ≡ an_askable_day bytes.now }
+    {
+        let day = Day::read(bytes).ok()?;
+        if day.is_askable() { Some(day) } else { None }
     }
 
     /// The day of a year, month and day of the month that make one.

@@ -1,7 +1,7 @@
 -- What comes of a session: one stream of requests that is served on the console, over the desk of a store or over a new one.
 use Rattle.std.specs.Prelude.{◌≡◌, ◌⊎◌, ℕ, ◌≤◌, List, None, length}
 use Rattle.std.specs.Io.KnownBytes.{Consumes}
-use Rattle.desk_clerk.specs.Clerk.{number_at}
+use Rattle.desk_model.specs.Lists.{number_at}
 use Rattle.desk_clerk.specs.Opening.{IsOpenedAs}
 use Rattle.desk_edge.specs.Content.{Content, IsSame}
 use Rattle.desk_front.specs.Served.{Serves, stream_limit}

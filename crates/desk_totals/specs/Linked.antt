@@ -3,7 +3,7 @@ use Rattle.std.specs.Prelude.{◌≡◌, ℕ, ◌≤◌, Bool, true, not, ◌&&�
 use Rattle.std.specs.List.{list_all, list_any}
 use Rattle.desk_text.specs.Code.{same_code}
 use Rattle.desk_model.specs.declared.rows.line.LineRow.{LineRow}
-use Rattle.desk_model.specs.Lists.{Lists}
+use Rattle.desk_model.specs.Lists.{Lists, nodes_of}
 
 -- the codes of materials and then of parts, how many of them are those of materials, and the lines
 pub record Linked : Type 0 where
@@ -13,7 +13,7 @@ pub record Linked : Type 0 where
 
 -- the bill has the materials, the parts and the lines of these tables
 pub record IsBillOf (bill : Linked) (t : Lists) : Type 0 where
-  pub nodes : bill.nodes ≡ map (λ row. row.code) t.materials ++ map (λ row. row.code) t.parts
+  pub nodes : bill.nodes ≡ nodes_of t
   pub material_count : bill.material_count ≡ length t.materials
   pub lines : bill.lines ≡ t.lines
 

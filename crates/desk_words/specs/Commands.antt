@@ -5,7 +5,8 @@ use Rattle.std.specs.List.{list_any}
 use Rattle.std.specs.Option.{ok_or}
 use Rattle.std.specs.Result.{result_ok}
 use Rattle.std.specs.Str.{bytes_eq}
-use Rattle.desk_text.specs.Day.{Date, day_of, is_askable}
+use Rattle.desk_text.specs.Day.{Date}
+use Rattle.desk_text.specs.Forms.{an_askable_day}
 use Rattle.desk_text.specs.Number.{number_below}
 use Rattle.desk_law.specs.declared.kind.Kind.{Kind}
 use Rattle.desk_law.specs.Kind.{kind_of}
@@ -23,10 +24,6 @@ use Rattle.desk_words.specs.declared.command_fault.CommandFault.{CommandFault}
 use Rattle.desk_words.specs.declared.command_fault.CommandFault.TheVariants.{NoCommand}
 
 -- ---- what a value is read as
-
--- the day that a word spells, where it is one that may be asked about
-abbrev pub askable_day_of : Word → Option Date
-askable_day_of word = option_and_then (λ day. if is_askable day then Some day else None) (result_ok (day_of word))
 
 -- the most bytes in the name of a store
 abbrev pub store_name_limit : ℕ
@@ -66,7 +63,7 @@ check_with None kind = None
 
 -- the check: a day and a kind
 abbrev pub check_of : (Word → Option Word) → Option KindOnDay
-check_of text = check_with (read_by askable_day_of (text (codes "DAY"))) (read_by kind_of (text (codes "KIND")))
+check_of text = check_with (read_by an_askable_day (text (codes "DAY"))) (read_by kind_of (text (codes "KIND")))
 
 -- the session over a store, or without one where no name is given
 abbrev pub session_with : Option Word → Option Session
@@ -92,7 +89,7 @@ audit_with None name = None
 
 -- the audit: a day and the name of its store
 abbrev pub audit_of : (Word → Option Word) → Option Audit
-audit_of text = audit_with (read_by askable_day_of (text (codes "DAY"))) (read_by store_name_of (text (codes "store")))
+audit_of text = audit_with (read_by an_askable_day (text (codes "DAY"))) (read_by store_name_of (text (codes "store")))
 
 -- the sample: its size
 abbrev pub sample_of : (Word → Option Word) → Option Sample

@@ -4,7 +4,8 @@ ghost use Rattle.std.specs.Option.{ok_or};
 ghost use Rattle.clap.specs.Matches.{first_value, found_of};
 ghost use Rattle.desk_text.specs.Day.{is_askable};
 ghost use Rattle.desk_words.specs.Commands.{HasBounds, audit_of, check_of, command_named, export_of, import_of, is_store_name};
-ghost use Rattle.desk_words.specs.Commands.{read_by, sample_of, session_of, store_name_of, askable_day_of, sample_limit};
+ghost use Rattle.desk_words.specs.Commands.{read_by, sample_of, session_of, store_name_of, sample_limit};
+ghost use Rattle.desk_text.specs.Forms.{an_askable_day};
 ghost use Rattle.desk_words.specs.declared.command_fault.CommandFault.TheVariants as fault;
 
 use crate::command::{
@@ -117,15 +118,15 @@ fn read_sample(values: &ArgMatches<'_>) -> Result<Sample, CommandFault>
 /// The day that was given, where it may be asked about.
 fn read_day(values: &ArgMatches<'_>) -> Result<Day, CommandFault>
     ensures value { result
-        ≡ ok_or (read_by askable_day_of (first_value (found_of values.now) (codes "DAY"))) fault.NoCommand }
+        ≡ ok_or (read_by an_askable_day (first_value (found_of values.now) (codes "DAY"))) fault.NoCommand }
     ensures askable { IfOk result (λ day. is_askable day ≡ true) }
 {
     let Some(day) = values.get_str("DAY") else {
         return Err(CommandFault::NoCommand);
     };
-    match Day::read(day.as_bytes()) {
-        Ok(day) if day.is_askable() => Ok(day),
-        _ => Err(CommandFault::NoCommand),
+    match Day::read_askable(day.as_bytes()) {
+        Some(day) => Ok(day),
+        None => Err(CommandFault::NoCommand),
     }
 }
 

@@ -1,6 +1,7 @@
 -- A connection converses with its clerk, which stays the same.
 use Rattle.std.proofs.Common.{◌≤◌, arith}
-use Rattle.desk_clerk.specs.Clerk.{keeper_of, number_at, whole}
+use Rattle.desk_clerk.specs.Clerk.{keeper_of, whole}
+use Rattle.desk_model.specs.Lists.{number_at}
 use Rattle.desk_front.specs.Last.{IsFresh}
 use Rattle.desk_front.specs.Service.{Replies}
 use Rattle.desk_front.specs.Turn.{Converses, Standing}

@@ -4,7 +4,7 @@ use Rattle.std.proofs.lemmas.Result.{IfOk-weaker}
 use Rattle.desk_findings.specs.Carried.{carried, own_load}
 use Rattle.desk_history.proofs.SoundClauses.{bill_of}
 use Rattle.desk_totals.specs.Fit.{fit}
-use Rattle.desk_scratch.specs.Bill.{nodes_of}
+use Rattle.desk_model.specs.Lists.{nodes_of}
 use Rattle.desk_scratch.proofs.bill.Bill.loads.Goals as goal
 
 pub returns : goal.returns

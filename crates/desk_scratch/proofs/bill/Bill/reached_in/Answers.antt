@@ -10,7 +10,7 @@ use Rattle.desk_tables.proofs.FindingSums.{range_push}
 use Rattle.desk_totals.specs.Linked.{IsBillOf}
 use Rattle.desk_totals.specs.Places.{node_at}
 use Rattle.desk_totals.proofs.Walks.{no_part}
-use Rattle.desk_scratch.specs.Bill.{nodes_of}
+use Rattle.desk_model.specs.Lists.{nodes_of}
 use Rattle.desk_scratch.proofs.Reached.{inside_range}
 use Rattle.desk_scratch.proofs.bill.Bill.reached_in.Goals as goal
 

@@ -2,7 +2,7 @@
 use Rattle.std.proofs.Common.{◌≡◌, ◌*◌, ℕ, List, map, sum_by, take}
 use Rattle.desk_findings.specs.Carried.{carried}
 use Rattle.desk_totals.specs.Fit.{fit}
-use Rattle.desk_scratch.specs.Bill.{nodes_of}
+use Rattle.desk_model.specs.Lists.{nodes_of}
 use Rattle.desk_scratch.proofs.bill.Bill.tonnage_of.Given as goal
 
 abbrev pub invariant-loop-shipment : goal.invariant-loop-shipment
