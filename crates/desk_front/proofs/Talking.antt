@@ -28,7 +28,8 @@ use Rattle.desk_model.specs.declared.rule_fault.RuleFault.{RuleFault}
 use Rattle.desk_scratch.specs.Eval.{eval}
 use Rattle.desk_scratch.specs.declared.ask_fault.AskFault.{AskFault}
 use Rattle.desk_front.specs.Asked.{Asked, asked_of, edit, nothing, of_csv, of_json, of_route, question}
-use Rattle.desk_front.specs.Replies.{Reply, all_bytes, answer_at, bytes_of, evaluated, fixed, reply_to_edit}
+use Rattle.desk_http.specs.Reply.{Reply, fixed}
+use Rattle.desk_front.specs.Replies.{all_bytes, answer_at, bytes_of, evaluated, reply_to_edit}
 use Rattle.desk_front.specs.Service.{Replies}
 use Rattle.desk_front.specs.Talk.{Follows, IsJudged, IsTold, IsToldOfMemory, Talk}
 use Rattle.desk_front.specs.Turn.{Conversation, Converses, Standing, Turn, Turns, added_at, if_new}

@@ -17,7 +17,7 @@ use Rattle.desk_http.specs.declared.http_fault.QueryKey.TheVariants as key
 use Rattle.desk_http.specs.declared.method.Method.{Method}
 use Rattle.desk_edge.specs.Faults.{Rose}
 use Rattle.desk_history.specs.Step.{kept_number, step}
-use Rattle.desk_http.specs.Reply.{allow_of, fixed_reply}
+use Rattle.desk_http.specs.Reply.{Reply, allow_of, bytes_with, fixed, fixed_reply, with_body}
 use Rattle.desk_http.specs.declared.fixed.Fixed.{Fixed}
 use Rattle.desk_http.specs.declared.fixed.Fixed.TheVariants as refusal
 use Rattle.desk_http.specs.declared.method.Method.TheVariants as method
@@ -28,7 +28,7 @@ use Rattle.desk_model.specs.declared.rule_fault.RuleFault.{RuleFault}
 use Rattle.desk_scratch.specs.declared.question.Question.{Question}
 use Rattle.desk_front.specs.Asked.{Asked, edit, nothing, question}
 use Rattle.desk_front.specs.Last.{IsFresh, IsReplyAt, Kept}
-use Rattle.desk_front.specs.Replies.{Reply, accepted_body, answer_at, bytes_with, fixed, reply_to_edit, refused_body, with_body}
+use Rattle.desk_front.specs.Replies.{accepted_body, answer_at, reply_to_edit, refused_body}
 use Rattle.desk_front.specs.Turn.{Says, Standing, added_at}
 
 pub fixed_bytes : (refused : Fixed) (close : Bool) → fixed_reply refused close ≡ bytes_with close (fixed refused)

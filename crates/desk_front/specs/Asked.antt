@@ -11,7 +11,8 @@ use Rattle.desk_http.specs.declared.ask.Ask.TheVariants as ask
 use Rattle.desk_http.specs.declared.http_fault.HttpFault.{HttpFault}
 use Rattle.desk_model.specs.declared.edit.Edit.{Edit}
 use Rattle.desk_scratch.specs.declared.question.Question.{Question}
-use Rattle.desk_front.specs.Replies.{Reply, bad_declaration_body, bad_edit_body, no_ask, with_body}
+use Rattle.desk_http.specs.Reply.{Reply, with_body}
+use Rattle.desk_front.specs.Replies.{bad_declaration_body, bad_edit_body, no_ask}
 
 -- what is asked: a question of the tables, or that an edit is made; or nothing, and then this is the reply, whatever the tables hold
 pub data Asked : Type 0 where

@@ -5,7 +5,8 @@ use Rattle.desk_http.specs.declared.ask.Ask.TheVariants as ask
 use Rattle.desk_http.specs.declared.method.Method.{Method}
 use Rattle.desk_model.specs.Lists.{Lists}
 use Rattle.desk_scratch.specs.declared.question.Question.{Question}
-use Rattle.desk_front.specs.Replies.{answer_at, bytes_with}
+use Rattle.desk_http.specs.Reply.{bytes_with}
+use Rattle.desk_front.specs.Replies.{answer_at}
 
 -- a method and a target, and the bytes that answered them
 pub record Kept : Type 0 where

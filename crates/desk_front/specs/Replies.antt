@@ -1,19 +1,16 @@
 -- Replies: what is told of a request, and the bodies that tell it.
-use Rattle.std.specs.Prelude.{ℕ, Bool, List, [], ◌∷◌, ◌++◌, Option, None, Result, Ok, Err, codes}
+use Rattle.std.specs.Prelude.{ℕ, List, [], ◌∷◌, ◌++◌, Result, Ok, Err, codes}
 use Rattle.std.specs.Fmt.{decimal}
-use Rattle.httparse.specs.Ascii.{line_feed}
 use Rattle.desk_declare.specs.Faults.{declare_fault_words}
 use Rattle.desk_declare.specs.declared.declare_fault.DeclareFault.{DeclareFault}
 use Rattle.desk_edits.specs.Faults.{json_fault_words}
 use Rattle.desk_edits.specs.declared.json_fault.JsonFault.{JsonFault}
 use Rattle.desk_http.specs.Faults.{http_fault_words}
-use Rattle.desk_http.specs.Reply.{allow_of, refusal_word, reply, status_of}
+use Rattle.desk_http.specs.Reply.{Reply, bytes_with, fixed, with_body}
 use Rattle.desk_http.specs.Rest.{Message}
-use Rattle.desk_http.specs.declared.fixed.Fixed.{Fixed}
 use Rattle.desk_http.specs.declared.fixed.Fixed.TheVariants as refusal
 use Rattle.desk_http.specs.declared.http_fault.HttpFault.{HttpFault}
 use Rattle.desk_http.specs.declared.http_fault.HttpFault.TheVariants as fault
-use Rattle.desk_http.specs.declared.method.Method.{Method}
 use Rattle.desk_model.specs.Lists.{Lists}
 use Rattle.desk_model.specs.Refusals.{refusal_words}
 use Rattle.desk_model.specs.declared.rule_fault.RuleFault.{RuleFault}
@@ -22,16 +19,6 @@ use Rattle.desk_scratch.specs.Faults.{ask_fault_words}
 use Rattle.desk_scratch.specs.SharedLines.{version_line}
 use Rattle.desk_scratch.specs.declared.ask_fault.AskFault.{AskFault}
 use Rattle.desk_scratch.specs.declared.question.Question.{Question}
-
--- a reply: its status, the method that it allows where it names one, and its body
-pub record Reply : Type 0 where
-  pub status : ℕ
-  pub allow : Option Method
-  pub body : List ℕ
-
--- the bytes of a reply; where the connection ends with it, it says so
-abbrev pub bytes_with : Bool → Reply → List ℕ
-bytes_with close said = reply said.status said.body said.allow close
 
 -- the bytes of the reply to a request: the connection ends with it where the request closes
 abbrev pub bytes_of : Message → Reply → List ℕ
@@ -42,14 +29,6 @@ abbrev pub all_bytes : List Message → List Reply → List ℕ
 all_bytes (request ∷ requests) (said ∷ replies) = bytes_of request said ++ all_bytes requests replies
 all_bytes [] replies = []
 all_bytes (request ∷ requests) [] = []
-
--- a reply that allows no method
-abbrev pub with_body : ℕ → List ℕ → Reply
-with_body status body = record { status = status; allow = None; body = body }
-
--- the reply of a refusal whose body is one word
-abbrev pub fixed : Fixed → Reply
-fixed refused = record { status = status_of refused; allow = allow_of refused; body = refusal_word refused ++ line_feed ∷ [] }
 
 -- `bad-query KEY`
 unfoldable pub bad_query_body : HttpFault → List ℕ

@@ -9,7 +9,8 @@ use Rattle.desk_model.specs.Lists.{Lists}
 use Rattle.desk_model.specs.declared.edit.Edit.{Edit}
 use Rattle.desk_model.specs.declared.rule_fault.RuleFault.{RuleFault}
 use Rattle.desk_front.specs.Asked.{Asked, asked_of, edit, nothing, question}
-use Rattle.desk_front.specs.Replies.{Reply, answer_at, fixed, reply_to_edit}
+use Rattle.desk_http.specs.Reply.{Reply, fixed}
+use Rattle.desk_front.specs.Replies.{answer_at, reply_to_edit}
 
 -- the number is one of the list's, and no smaller than what was met before
 abbrev pub Follows : History → ℕ → ℕ → Type 0

@@ -13,7 +13,8 @@ use Rattle.desk_model.specs.Lists.{Lists}
 use Rattle.desk_model.specs.declared.edit.Edit.{Edit}
 use Rattle.desk_model.specs.declared.rule_fault.RuleFault.{RuleFault}
 use Rattle.desk_front.specs.Asked.{Asked, asked_of, edit, nothing, question}
-use Rattle.desk_front.specs.Replies.{Reply, all_bytes, answer_at, bytes_with, fixed, reply_to_edit}
+use Rattle.desk_http.specs.Reply.{Reply, bytes_with, fixed}
+use Rattle.desk_front.specs.Replies.{all_bytes, answer_at, reply_to_edit}
 use Rattle.desk_front.specs.Talk.{Talk}
 
 -- how a connection stands: the tables after the clerk's whole list, the number of the longest list that it has met, and how many

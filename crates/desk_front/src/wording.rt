@@ -1,7 +1,7 @@
 ghost use Rattle.std.specs.Prelude.{◌≡◌, ◌≢◌, ◌++◌, ◌⊎◌, true, Some, IsTrue, Err, IfErr, OnErr, OnOk};
-ghost use Rattle.desk_front.specs.Replies.{accepted_body, answer_at, bad_declaration_body, bad_edit_body, bad_query_body, bytes_with, fixed, no_answer_body, no_ask, refused_body, with_body};
+ghost use Rattle.desk_http.specs.Reply.{allow_of, bytes_with, fixed, is_reply_status, with_body};
+ghost use Rattle.desk_front.specs.Replies.{accepted_body, answer_at, bad_declaration_body, bad_edit_body, bad_query_body, no_answer_body, no_ask, refused_body};
 ghost use Rattle.desk_history.specs.Sound.{Sound};
-ghost use Rattle.desk_http.specs.Reply.{allow_of, is_reply_status};
 ghost use Rattle.desk_http.specs.declared.fixed.Fixed.TheVariants as refusal;
 ghost use Rattle.desk_http.specs.declared.http_fault.HttpFault.TheVariants as cause;
 ghost use Rattle.desk_http.specs.declared.method.Method.{Method};

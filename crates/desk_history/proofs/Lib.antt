@@ -1,4 +1,5 @@
 pub mod Affects
+pub mod Beginnings
 pub mod ChangedTables
 pub mod ExampleProofs
 pub mod FindingSums

@@ -66,6 +66,18 @@ pub record NumbersNamePrefixes : Type 0 where
   pub begins : (history : History) (n : ℕ) → Begins (up_to history n) history
   pub only : (history part : History) → IsHistory part → Begins part history → part.edits ≡ (up_to history (number_of part)).edits
 
+-- histories are ordered by which begins which, and their numbers with them: a beginning has no greater number, of two numbers the smaller
+-- names a beginning of what the other names, and a number names the same beginning of every longer history
+pub record BeginningsAreNumbered : Type 0 where
+  pub itself : (history : History) → Begins history history
+  pub onward : (first second third : History) → Begins first second → Begins second third → Begins first third
+  pub opening : (history : History) → IsHistory history → number_at history.opening ≤ number_of history
+  pub number : (part history : History) → IsHistory part → IsHistory history → Begins part history → number_of part ≤ number_of history
+  pub all : (history : History) → IsHistory history → up_to history (number_of history) ≡ history
+  pub smaller : (history : History) (m n : ℕ) → m ≤ n → Begins (up_to history m) (up_to history n)
+  pub longer : (part history : History) (n : ℕ) → IsHistory part → IsHistory history → Begins part history → number_at part.opening ≤ n → n ≤ number_of part
+      → up_to history n ≡ up_to part n
+
 -- the start tables hold together, and an edit that passes the rules 1 to 20 leaves tables that do: what is left to be seen is
 -- whether they keep their sums. An accepted edit passes these rules
 pub record TablesStayConsistent : Type 0 where

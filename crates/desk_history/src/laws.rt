@@ -1,6 +1,6 @@
 //! Laws of the definitions in `specs/`, each proved as the contract of a function that does nothing.
 
-ghost use Rattle.desk_history.specs.Laws.{AcceptedEditsAreKept, AffectedAreListed, EditsAreEnteredOnce, NumbersNamePrefixes, NumbersStayWhole, OnlyNewEditsChange, OnlySomeSumsRise, OthersStay, RefusalsAreTold, SumsDecideTheRest, TablesStayConsistent, TablesStaySound, UnsoundIsTold, YearsChangeByTheirOwn};
+ghost use Rattle.desk_history.specs.Laws.{AcceptedEditsAreKept, AffectedAreListed, BeginningsAreNumbered, EditsAreEnteredOnce, NumbersNamePrefixes, NumbersStayWhole, OnlyNewEditsChange, OnlySomeSumsRise, OthersStay, RefusalsAreTold, SumsDecideTheRest, TablesStayConsistent, TablesStaySound, UnsoundIsTold, YearsChangeByTheirOwn};
 
 /// A refused edit changes nothing, and neither does a repeated one, which gets its kept number.
 pub fn only_new_edits_change()
@@ -30,6 +30,11 @@ pub fn numbers_stay_whole()
 /// Each number of a history names one beginning of it and no other, which is a history of that number.
 pub fn numbers_name_prefixes()
     ensures { NumbersNamePrefixes }
+{}
+
+/// A beginning of a history has no greater number, and a number names the same beginning of every longer history.
+pub fn beginnings_are_numbered()
+    ensures { BeginningsAreNumbered }
 {}
 
 /// The start tables hold together, and an edit that passes the rules 1 to 20 leaves tables that do, and that keep their limits.

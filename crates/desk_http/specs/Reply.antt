@@ -107,6 +107,24 @@ allow_of (WrongMethod allow) = Some allow
 allow_of StoreFault = None
 allow_of Memory = None
 
--- the reply of a refusal whose body is fixed
+-- a reply: its status, the method that it allows where it names one, and its body
+pub record Reply : Type 0 where
+  pub status : ℕ
+  pub allow : Option Method
+  pub body : List ℕ
+
+-- the bytes of a reply; where the connection ends with it, it says so
+abbrev pub bytes_with : Bool → Reply → List ℕ
+bytes_with close said = reply said.status said.body said.allow close
+
+-- a reply that allows no method
+abbrev pub with_body : ℕ → List ℕ → Reply
+with_body status body = record { status = status; allow = None; body = body }
+
+-- the reply of a refusal whose body is one word
+abbrev pub fixed : Fixed → Reply
+fixed refused = record { status = status_of refused; allow = allow_of refused; body = refusal_word refused ++ line_feed ∷ [] }
+
+-- the bytes of that reply
 unfoldable pub fixed_reply : Fixed → Bool → List ℕ
-fixed_reply fixed close = reply (status_of fixed) (refusal_word fixed ++ line_feed ∷ []) (allow_of fixed) close
+fixed_reply refused close = bytes_with close (fixed refused)

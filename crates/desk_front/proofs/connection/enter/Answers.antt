@@ -8,7 +8,8 @@ use Rattle.desk_clerk.specs.declared.accepted.Accepted.{Accepted}
 use Rattle.desk_http.specs.declared.fixed.Fixed.TheVariants as refusal
 use Rattle.desk_model.specs.declared.rule_fault.RuleFault.{RuleFault}
 use Rattle.desk_front.specs.Asked.{edit}
-use Rattle.desk_front.specs.Replies.{accepted_body, bytes_with, refused_body, with_body}
+use Rattle.desk_http.specs.Reply.{bytes_with, with_body}
+use Rattle.desk_front.specs.Replies.{accepted_body, refused_body}
 use Rattle.desk_front.specs.Turn.{Standing}
 use Rattle.desk_front.proofs.Turning.{says_accepted, says_failed, says_made, says_refused, says_unmade}
 use Rattle.desk_front.proofs.connection.enter.Goals as goal

@@ -6,7 +6,8 @@ use Rattle.desk_declare.specs.declared.declare_fault.DeclareFault.{DeclareFault}
 use Rattle.desk_declare.specs.declared.declare_fault.DeclareFault.TheVariants as fault
 use Rattle.desk_model.specs.declared.edit.Edit.{Edit}
 use Rattle.desk_front.specs.Asked.{of_csv}
-use Rattle.desk_front.specs.Replies.{bad_declaration_body, with_body}
+use Rattle.desk_http.specs.Reply.{with_body}
+use Rattle.desk_front.specs.Replies.{bad_declaration_body}
 use Rattle.desk_front.specs.Turn.{Standing}
 use Rattle.desk_front.proofs.Turning.{says_memory_of, says_told}
 use Rattle.desk_front.proofs.connection.enter_csv.Goals as goal

@@ -6,7 +6,8 @@ use Rattle.desk_edits.specs.declared.json_fault.JsonFault.{JsonFault}
 use Rattle.desk_edits.specs.declared.json_fault.JsonFault.TheVariants as fault
 use Rattle.desk_model.specs.declared.edit.Edit.{Edit}
 use Rattle.desk_front.specs.Asked.{of_json}
-use Rattle.desk_front.specs.Replies.{bad_edit_body, with_body}
+use Rattle.desk_http.specs.Reply.{with_body}
+use Rattle.desk_front.specs.Replies.{bad_edit_body}
 use Rattle.desk_front.specs.Turn.{Standing}
 use Rattle.desk_front.proofs.Turning.{says_memory_of, says_told}
 use Rattle.desk_front.proofs.connection.enter_json.Goals as goal

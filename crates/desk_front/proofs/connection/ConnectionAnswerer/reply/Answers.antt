@@ -2,7 +2,7 @@
 use Rattle.std.proofs.Common.{◌≡◌, ◌≢◌, ◌∙◌, ◌++◌, ap, drop, false, length, subst, sym, refl, Result, Err, Ok}
 use Rattle.std.proofs.Math.Seq.{drop-append_seam}
 use Rattle.desk_clerk.specs.Clerk.{keeper_of, whole}
-use Rattle.desk_http.specs.Reply.{fixed_reply}
+use Rattle.desk_http.specs.Reply.{bytes_with, fixed_reply}
 use Rattle.desk_http.specs.Taken.{message_of, span_bytes}
 use Rattle.desk_declare.specs.Declaration.{declaration_of}
 use Rattle.desk_edits.specs.Edit.{edit_of}
@@ -16,7 +16,7 @@ use Rattle.desk_http.specs.declared.method.Method.{Method}
 use Rattle.desk_scratch.specs.declared.question.Question.{Question}
 use Rattle.desk_front.specs.Asked.{asked_of, of_csv, of_json, of_route}
 use Rattle.desk_front.specs.Last.{IsFresh, Kept}
-use Rattle.desk_front.specs.Replies.{answer_at, bytes_with, no_ask}
+use Rattle.desk_front.specs.Replies.{answer_at, no_ask}
 use Rattle.desk_front.specs.Turn.{Says, Standing}
 use Rattle.desk_front.proofs.Turning.{allows_known, fresh_kept, if_err_both, if_err_weaker, on_ok_weaker, says_answer, says_refusal, says_unmade}
 use Rattle.desk_front.proofs.connection.ConnectionAnswerer.reply.Goals as goal
