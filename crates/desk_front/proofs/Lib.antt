@@ -1,4 +1,6 @@
 pub mod Buffers
+pub mod InOrder
+pub mod Meeting
 pub mod Sending
 pub mod Serving
 pub mod Streaming

@@ -15,22 +15,20 @@ use Rattle.desk_http.specs.Stream.{End, IsStream, is_ended, is_refusal}
 use Rattle.desk_http.specs.Stream as stream
 use Rattle.desk_http.proofs.FrontLemmas.{ends_refused, leads_later, leads_onward, leads_stream}
 use Rattle.std.proofs.lemmas.List.{drop-drop}
+use Rattle.std.proofs.lemmas.List.Folds.{concat-append}
+use Rattle.std.specs.List.{concat}
 use Rattle.desk_front.specs.declared.first.First.TheVariants as first
 use Rattle.desk_front.specs.declared.round.Round.TheVariants as round
 use Rattle.desk_front.specs.Service.{AreFirst, BeginsSo, BreaksOff, GoesOn, GoesSo, IsBroken, IsOver, Replies, Sends, Service}
+use Rattle.desk_front.proofs.InOrder.{in_order_onward}
 use Rattle.desk_front.proofs.Sending.{breaks_onward, sends_nothing, sends_onward}
 
 pub replies_onward : {A : Type 0} (R : A → Message → List ℕ → A → Type 0) (old mid new : A) (ms ns : List Message) (said more : List ℕ)
     → Replies R old ms said mid → Replies R mid ns more new → Replies R old (ms ++ ns) (said ++ more) new
-replies_onward R old mid new [] ns said more x y =
-    subst (λ l. Replies R old ns l new) (ap (λ l. l ++ more) (sym x.0)) (subst (λ a. Replies R a ns more new) x.1 y)
-replies_onward R old mid new (m ∷ ms) ns said more x y = (
-  x.0,
-  x.1,
-  x.2 ++ more,
-  x.3,
-  replies_onward R x.0 mid new ms ns x.2 more x.4 y,
-  ap (λ l. l ++ more) x.5 ∙ append_assoc x.1 x.2 more,
+replies_onward R old mid new ms ns said more x y = (
+  x.0 ++ y.0,
+  in_order_onward R old mid new ms ns x.0 y.0 x.1 y.1,
+  ap (λ l. l ++ more) x.2 ∙ ap (λ l. concat x.0 ++ l) y.2 ∙ sym (concat-append x.0 y.0),
 )
 
 pub ended_behind : (ms ns : List Message) (end : End) → IsTrue (is_ended ns end) → IsTrue (is_ended (ms ++ ns) end)
@@ -42,7 +40,7 @@ ended_behind (m ∷ ms) ns end x = or_right m.close (is_ended (ms ++ ns) end) (e
     or_right false b h = h
 
 pub goes_nowhere : {A : Type 0} (R : A → Message → List ℕ → A → Type 0) (bytes : List ℕ) (old : Service A) → GoesOn R bytes old old bytes
-goes_nowhere R bytes old = record { requests = []; said = []; front = refl; replies = (refl, refl); sent = sends_nothing old.out }
+goes_nowhere R bytes old = record { requests = []; said = []; front = refl; replies = ([], refl, refl); sent = sends_nothing old.out }
 
 pub goes_onward : {A : Type 0} (R : A → Message → List ℕ → A → Type 0) (bytes behind rest : List ℕ) (old mid new : Service A)
     → GoesOn R bytes old mid behind → GoesOn R behind mid new rest → GoesOn R bytes old new rest
@@ -96,7 +94,7 @@ broken_onward R bytes behind old mid new x y = record {
 -- ---- one request at the front
 
 pub one_replied : {A : Type 0} (R : A → Message → List ℕ → A → Type 0) (old new : A) (m : Message) (said : List ℕ) → R old m said new → Replies R old (m ∷ []) said new
-one_replied R old new m said x = (new, said, [], x, (refl, refl), sym (append-nil said))
+one_replied R old new m said x = (said ∷ [], (new, x, refl), sym (append-nil said))
 
 pub one_goes : {A : Type 0} (R : A → Message → List ℕ → A → Type 0) (bytes rest : List ℕ) (old new : Service A) (m : Message) (said : List ℕ)
     → BeginsWith bytes m rest → m.close ≡ false → R old.who m said new.who → Sends old.out said new.out → GoesOn R bytes old new rest
@@ -178,7 +176,7 @@ refused_over R bytes old new taken refused x e same sent =
       said = [];
       stream = ends.1;
       ended = refused_end ends.0 refused ends.2;
-      replies = (refl, same);
+      replies = ([], same, refl);
       sent = subst (λ l. Sends old.out l new.out) (sym ends.3) sent;
     }
 
@@ -191,7 +189,7 @@ refused_broken R bytes old new taken refused x e same sent =
       last = last_reply ends.0;
       said = [];
       are_first = inr (ends.0, ends.1, refused_end ends.0 refused ends.2, refl);
-      replies = (refl, same);
+      replies = ([], same, refl);
       sent = subst (λ l. BreaksOff old.out l new.out) (sym ends.3) sent;
     }
 

@@ -1,6 +1,6 @@
 -- A conversation with a clerk, and the one list that its replies are from.
 use Rattle.std.proofs.Common.{◌≡◌, ◌≢◌, ◌⊎◌, ℕ, ◌+◌, ◌≤◌, true, List, [], ◌∷◌, ◌++◌, Option, None, Some, Result, Ok, Err, refl, sym, ap, ◌∙◌, subst, inl, inr, append_assoc, arith, length-append}
-use Rattle.std.specs.List.{AllByRecursion}
+use Rattle.std.specs.List.{AllByRecursion, concat}
 use Rattle.desk_model.specs.Lists.{number_at}
 use Rattle.desk_declare.specs.declared.declare_fault.DeclareFault.{DeclareFault}
 use Rattle.desk_edge.specs.Faults.{Rose}
@@ -31,8 +31,10 @@ use Rattle.desk_front.specs.Asked.{Asked, asked_of, edit, nothing, of_csv, of_js
 use Rattle.desk_http.specs.Reply.{Reply, fixed}
 use Rattle.desk_front.specs.Replies.{all_bytes, answer_at, bytes_of, evaluated, reply_to_edit}
 use Rattle.desk_front.specs.Service.{Replies}
-use Rattle.desk_front.specs.Talk.{Follows, IsJudged, IsTold, IsToldOfMemory, Talk}
-use Rattle.desk_front.specs.Turn.{Conversation, Converses, Standing, Turn, Turns, added_at, if_new}
+use Rattle.desk_front.specs.InOrder.{InOrder}
+use Rattle.desk_front.specs.Talk.{Follows, IsAnswered, IsJudged, IsTold, IsToldOfMemory}
+use Rattle.desk_front.specs.Turn.{Conversation, Converses, Standing, Told, Turn, Turns, added_at, added_by, if_new, replies_of}
+use Rattle.desk_front.proofs.InOrder.{in_order_relates}
 
 -- ---- what a turn adds to the list
 
@@ -71,16 +73,15 @@ turn_grows old new asked reply added (inr (inl (memory, inl x))) = grows_nothing
 turn_grows old new asked reply added (inr (inl (memory, inr x))) = grows_edit old.whole new.whole x.0 added x.2 x.3 (ap (λ s. s.whole) x.4)
 turn_grows old new asked reply added (inr (inr x)) = grows_nothing old.whole new.whole added x.3 (ap (λ s. s.whole) x.6)
 
-pub conversation_grows : (old new : Standing) (ms : List Message) (replies : List Reply) (added : List Edit) → Conversation old ms replies added new → Grows old.whole added new.whole
-conversation_grows old new [] [] added x = grows_nothing old.whole new.whole added x.0 (ap (λ s. s.whole) x.1)
-conversation_grows old new [] (reply ∷ replies) added x = absurd x
-conversation_grows old new (m ∷ ms) [] added x = absurd x
-conversation_grows old new (m ∷ ms) (reply ∷ replies) added x =
-    let first = turn_grows old x.0 (asked_of m) reply x.1 x.3 in
-    let others = conversation_grows x.0 new ms replies x.2 x.4 in
-    subst (λ l. Grows old.whole l new.whole) (sym x.5) (
-      accepted_on old.whole x.1 x.2 first.0 (subst (λ t. AreAccepted t x.2) (sym first.1) others.0),
-      after_on old.whole x.1 x.2 ∙ ap (λ t. tables_after t x.2) first.1 ∙ others.1,
+pub conversation_grows : (old new : Standing) (ms : List Message) (told : List Told) → Conversation old ms told new → Grows old.whole (added_by told) new.whole
+conversation_grows old new [] [] x = grows_nothing old.whole new.whole [] refl (ap (λ s. s.whole) x)
+conversation_grows old new [] (one ∷ told) x = absurd x
+conversation_grows old new (m ∷ ms) [] x = absurd x
+conversation_grows old new (m ∷ ms) (one ∷ told) x =
+    let first = turn_grows old x.0 (asked_of m) one.reply one.added x.1 in
+    let others = conversation_grows x.0 new ms told x.2 in (
+      accepted_on old.whole one.added (added_by told) first.0 (subst (λ t. AreAccepted t (added_by told)) (sym first.1) others.0),
+      after_on old.whole one.added (added_by told) ∙ ap (λ t. tables_after t (added_by told)) first.1 ∙ others.1,
     )
 
 -- ---- numbers
@@ -107,6 +108,7 @@ turn_meets old new asked reply added (inr (inr x)) h = subst (λ s. (old.met ≤
 -- the tables of a moment are those that the list names by their number
 record Moment (list : History) (t : Lists) : Type 0 where
   named : after (up_to list (number_at t)) ≡ t
+  opened : number_at list.opening ≤ number_at t
   within : number_at t ≤ number_of list
 
 moment : (t : Lists) (before rest : List Edit) → Sound t → AreAccepted t (before ++ rest) → AreAccepted t before
@@ -117,6 +119,7 @@ moment t before rest sound all some =
     let begins : Begins part list = record { opening = refl; rest = rest; edits = refl } in
     record {
       named = ap (tables_after t) (sym (up_to-only list part (record { sound = sound; accepted = some }) begins));
+      opened = omega (arith, tickets-tables_after t before some);
       within = omega (arith, tickets-tables_after t (before ++ rest) all, tickets-tables_after t before some, length-append before rest);
     }
 
@@ -146,7 +149,7 @@ turn_tells list old new (nothing told) reply added (inl x) h before now = inl (x
 turn_tells list old new (question asked) reply added (inl x) h before now =
     let met : new.met ≡ number_at old.whole = ap (λ s. s.met) x.2 in
     inl (
-      subst (Follows list old.met) (sym met) (h, before.within),
+      subst (Follows list old.met) (sym met) (before.opened, h, before.within),
       subst (λ n. reply ≡ answer_at (after (up_to list n)) asked) (sym met) (x.0 ∙ ap (λ t. answer_at t asked) (sym before.named)),
     )
 turn_tells list old new (edit made) reply added (inl x) h before now =
@@ -155,7 +158,7 @@ turn_tells list old new (edit made) reply added (inl x) h before now =
     let at : Moment list (step old.whole made).1 = subst (Moment list) left now in
     let more = grown_number old.whole (step old.whole made).1 (added_at old.whole made) (grows_at old.whole made x.0) in
     inl (inl (
-      subst (Follows list old.met) (sym met) (omega (arith, h, more), at.within),
+      subst (Follows list old.met) (sym met) (at.opened, omega (arith, h, more), at.within),
       subst (λ n. IsJudged (after (up_to list n)) n old.met made reply) (sym met)
           (subst (λ t. IsJudged t (number_at (step old.whole made).1) old.met made reply) (sym at.named)
           (judged_so old.whole old.met made reply (kept_number old.whole made) (refused old.whole made) refl refl x.1)),
@@ -168,23 +171,23 @@ turn_tells list old new asked reply added (inr (inr x)) h before now =
     inl (subst (λ a. IsTold list a old.met reply new.met) (sym x.1) (inr (x.2, ap (λ s. s.met) x.6)))
 
 -- a conversation from a moment of the list on is a talk over the list
-talks : (t : Lists) (all before : List Edit) (old new : Standing) (ms : List Message) (replies : List Reply) (added : List Edit)
-    → Sound t → AreAccepted t all → all ≡ before ++ added → AreAccepted t before → tables_after t before ≡ old.whole → old.met ≤ number_at old.whole
-    → Conversation old ms replies added new → Talk (record { opening = t; edits = all }) old.met ms replies
-talks t all before old new [] [] added sound fine split some at h x = tt
-talks t all before old new [] (reply ∷ replies) added sound fine split some at h x = absurd x
-talks t all before old new (m ∷ ms) [] added sound fine split some at h x = absurd x
-talks t all before old new (m ∷ ms) (reply ∷ replies) added sound fine split some at h x =
+talks : (t : Lists) (all before : List Edit) (old new : Standing) (ms : List Message) (told : List Told)
+    → Sound t → AreAccepted t all → all ≡ before ++ added_by told → AreAccepted t before → tables_after t before ≡ old.whole → old.met ≤ number_at old.whole
+    → Conversation old ms told new → InOrder (IsAnswered (record { opening = t; edits = all })) old.met ms (replies_of told) new.met
+talks t all before old new [] [] sound fine split some at h x = ap (λ s. s.met) x
+talks t all before old new [] (one ∷ told) sound fine split some at h x = absurd x
+talks t all before old new (m ∷ ms) [] sound fine split some at h x = absurd x
+talks t all before old new (m ∷ ms) (one ∷ told) sound fine split some at h x =
     let list : History = record { opening = t; edits = all } in
-    let grown = turn_grows old x.0 (asked_of m) reply x.1 x.3 in
-    let further : AreAccepted t (before ++ x.1) = accepted_on t before x.1 some (subst (λ u. AreAccepted u x.1) (sym at) grown.0) in
-    let left : tables_after t (before ++ x.1) ≡ x.0.whole = after_on t before x.1 ∙ ap (λ u. tables_after u x.1) at ∙ grown.1 in
-    let parts : all ≡ (before ++ x.1) ++ x.2 = split ∙ ap (λ l. before ++ l) x.5 ∙ sym (append_assoc before x.1 x.2) in
-    let here : Moment list old.whole = subst (Moment list) at (moment_of t all before added sound fine split some) in
-    let there : Moment list x.0.whole = subst (Moment list) left (moment_of t all (before ++ x.1) x.2 sound fine parts further) in (
+    let grown = turn_grows old x.0 (asked_of m) one.reply one.added x.1 in
+    let further : AreAccepted t (before ++ one.added) = accepted_on t before one.added some (subst (λ u. AreAccepted u one.added) (sym at) grown.0) in
+    let left : tables_after t (before ++ one.added) ≡ x.0.whole = after_on t before one.added ∙ ap (λ u. tables_after u one.added) at ∙ grown.1 in
+    let parts : all ≡ (before ++ one.added) ++ added_by told = split ∙ sym (append_assoc before one.added (added_by told)) in
+    let here : Moment list old.whole = subst (Moment list) at (moment_of t all before (one.added ++ added_by told) sound fine split some) in
+    let there : Moment list x.0.whole = subst (Moment list) left (moment_of t all (before ++ one.added) (added_by told) sound fine parts further) in (
       x.0.met,
-      turn_tells list old x.0 (asked_of m) reply x.1 x.3 h here there,
-      talks t all (before ++ x.1) x.0 new ms replies x.2 sound fine parts further left (turn_meets old x.0 (asked_of m) reply x.1 x.3 h).1 x.4,
+      turn_tells list old x.0 (asked_of m) one.reply one.added x.1 h here there,
+      talks t all (before ++ one.added) x.0 new ms told sound fine parts further left (turn_meets old x.0 (asked_of m) one.reply one.added x.1 h).1 x.2,
     )
   where
     moment_of : (t : Lists) (all before rest : List Edit) → Sound t → AreAccepted t all → all ≡ before ++ rest → AreAccepted t before
@@ -239,12 +242,10 @@ turn_faults old new asked reply added (inr (inl (memory, inl x))) = omega (arith
 turn_faults old new asked reply added (inr (inl (memory, inr x))) = omega (arith, ap (λ s. s.faults) x.4)
 turn_faults old new asked reply added (inr (inr x)) = x.4
 
-pub conversation_faults : (old new : Standing) (ms : List Message) (replies : List Reply) (added : List Edit) → Conversation old ms replies added new → old.faults ≤ new.faults
-conversation_faults old new [] [] added x = omega (arith, ap (λ s. s.faults) x.1)
-conversation_faults old new [] (reply ∷ replies) added x = absurd x
-conversation_faults old new (m ∷ ms) [] added x = absurd x
-conversation_faults old new (m ∷ ms) (reply ∷ replies) added x =
-    omega (arith, turn_faults old x.0 (asked_of m) reply x.1 x.3, conversation_faults x.0 new ms replies x.2 x.4)
+pub conversation_faults : (old new : Standing) (ms : List Message) (told : List Told) → Conversation old ms told new → old.faults ≤ new.faults
+conversation_faults =
+    in_order_relates (λ old m one new. Turn old (asked_of m) one.reply one.added new) (λ a b. a.faults ≤ b.faults) (λ a. omega arith)
+    (λ a b c x y. omega (arith, x, y)) (λ a b m one x. turn_faults a b (asked_of m) one.reply one.added x)
 
 turn_kept : (old new : Standing) (asked : Asked) (reply : Reply) (added : List Edit) → IsNotOfStore asked → Turn old asked reply added new
     → (Rose old.faults new.faults → ⊥) → reply.status ≢ 503
@@ -256,61 +257,63 @@ turn_kept old new (edit made) reply added other (inl x) steady =
 turn_kept old new asked reply added other (inr (inl x)) steady = same_other reply (fixed refusal.Memory) x.0 (λ e. absurd (omega (arith, e)))
 turn_kept old new asked reply added other (inr (inr x)) steady = absurd (steady x.5)
 
-pub conversation_kept : (old new : Standing) (ms : List Message) (replies : List Reply) (added : List Edit) → Conversation old ms replies added new
-    → (Rose old.faults new.faults → ⊥) → AllByRecursion (λ reply. reply.status ≢ 503) replies
-conversation_kept old new [] [] added x steady = tt
-conversation_kept old new [] (reply ∷ replies) added x steady = absurd x
-conversation_kept old new (m ∷ ms) [] added x steady = absurd x
-conversation_kept old new (m ∷ ms) (reply ∷ replies) added x steady =
-    let first = turn_faults old x.0 (asked_of m) reply x.1 x.3 in
-    let others = conversation_faults x.0 new ms replies x.2 x.4 in (
-      turn_kept old x.0 (asked_of m) reply x.1 (route_not_of_store m.body (route_of m.method m.target)) x.3 (λ rose. steady (omega (arith, rose, others))),
-      conversation_kept x.0 new ms replies x.2 x.4 (λ rose. steady (omega (arith, rose, first))),
+pub conversation_kept : (old new : Standing) (ms : List Message) (told : List Told) → Conversation old ms told new → (Rose old.faults new.faults → ⊥)
+    → AllByRecursion (λ reply. reply.status ≢ 503) (replies_of told)
+conversation_kept old new [] [] x steady = tt
+conversation_kept old new [] (one ∷ told) x steady = absurd x
+conversation_kept old new (m ∷ ms) [] x steady = absurd x
+conversation_kept old new (m ∷ ms) (one ∷ told) x steady =
+    let first = turn_faults old x.0 (asked_of m) one.reply one.added x.1 in
+    let others = conversation_faults x.0 new ms told x.2 in (
+      turn_kept old x.0 (asked_of m) one.reply one.added (route_not_of_store m.body (route_of m.method m.target)) x.1 (λ rose. steady (omega (arith, rose, others))),
+      conversation_kept x.0 new ms told x.2 (λ rose. steady (omega (arith, rose, first))),
     )
 
 -- ---- all of it
 
-pub converses : (start : Standing) (left : Lists) (last_met counted : ℕ) (ms : List Message) (replies : List Reply) (added : List Edit) (said : List ℕ)
-    → Sound start.whole → start.met ≤ number_at start.whole → Conversation start ms replies added (record { whole = left; met = last_met; faults = counted })
-    → said ≡ all_bytes ms replies → Converses start left counted ms said
-converses start left last_met counted ms replies added said sound met x e =
+pub converses : (start : Standing) (left : Lists) (last_met counted : ℕ) (ms : List Message) (told : List Told) (said : List ℕ)
+    → Sound start.whole → start.met ≤ number_at start.whole → Conversation start ms told (record { whole = left; met = last_met; faults = counted })
+    → said ≡ all_bytes ms (replies_of told) → Converses start left counted ms said
+converses start left last_met counted ms told said sound met x e =
     let finish : Standing = record { whole = left; met = last_met; faults = counted } in
-    let grown = conversation_grows start finish ms replies added x in
+    let grown = conversation_grows start finish ms told x in
     record {
-      replies = replies;
-      added = added;
+      told = told;
       last_met = last_met;
       bytes = e;
       turns = x;
       grown = (record { sound = sound; accepted = grown.0 }, grown.1);
-      talk = talks start.whole added [] start finish ms replies added sound grown.0 refl tt refl met x;
-      kept = conversation_kept start finish ms replies added x;
+      talk = (last_met, talks start.whole (added_by told) [] start finish ms told sound grown.0 refl tt refl met x);
+      kept = conversation_kept start finish ms told x;
     }
 
 -- what answers by turns converses, where each turn is right as long as this holds, and keeps it
-pub conversation_of : {A : Type 0} (R : A → Message → List ℕ → A → Type 0) (standing : A → Standing) (P : A → Type 0)
-    → ((a b : A) (m : Message) (said : List ℕ) → R a m said b → P a → P b × Turns (standing a) m said (standing b))
-    → (old new : A) (ms : List Message) (said : List ℕ) → Replies R old ms said new → P old
-    → (replies : List Reply) × (added : List Edit) × Conversation (standing old) ms replies added (standing new) × (said ≡ all_bytes ms replies)
-conversation_of R standing P turns old new [] said x ready = ([], [], (refl, ap standing x.1), x.0)
-conversation_of R standing P turns old new (m ∷ ms) said x ready =
-    let turn = turns old x.0 m x.1 x.3 ready in
-    let first = turn.1 in
-    let others = conversation_of R standing P turns x.0 new ms x.2 x.4 turn.0 in (
-      first.0 ∷ others.0,
-      first.1 ++ others.1,
-      (standing x.0, first.1, others.1, first.2, others.2, refl),
-      x.5 ∙ ap (λ l. l ++ x.2) first.3 ∙ ap (λ l. bytes_of m first.0 ++ l) others.3,
-    )
+module _ {A : Type 0} (R : A → Message → List ℕ → A → Type 0) (standing : A → Standing) (P : A → Type 0)
+    (turns : (a b : A) (m : Message) (said : List ℕ) → R a m said b → P a → P b × Turns (standing a) m said (standing b)) where
+  conversation_of_each : (old new : A) (ms : List Message) (each : List (List ℕ)) → InOrder R old ms each new → P old
+      → (told : List Told) × Conversation (standing old) ms told (standing new) × (concat each ≡ all_bytes ms (replies_of told))
+  conversation_of_each old new [] [] x ready = ([], ap standing x, refl)
+  conversation_of_each old new [] (said ∷ each) x ready = absurd x
+  conversation_of_each old new (m ∷ ms) [] x ready = absurd x
+  conversation_of_each old new (m ∷ ms) (said ∷ each) x ready =
+      let turn = turns old x.0 m said x.1 ready in
+      let first = turn.1 in
+      let others = conversation_of_each x.0 new ms each x.2 turn.0 in (
+        record { reply = first.0; added = first.1 } ∷ others.0,
+        (standing x.0, first.2, others.1),
+        ap (λ l. l ++ concat each) first.3 ∙ ap (λ l. bytes_of m first.0 ++ l) others.2,
+      )
+
+  pub conversation_of : (old new : A) (ms : List Message) (said : List ℕ) → Replies R old ms said new → P old
+      → (told : List Told) × Conversation (standing old) ms told (standing new) × (said ≡ all_bytes ms (replies_of told))
+  conversation_of old new ms said x ready = let y = conversation_of_each old new ms x.0 x.1 ready in (y.0, y.1, x.2 ∙ y.2)
 
 -- what each turn keeps is kept
 pub kept_throughout : {A X : Type 0} (R : A → Message → List ℕ → A → Type 0) (name : A → X) → ((a b : A) (m : Message) (said : List ℕ) → R a m said b → name b ≡ name a)
     → (old new : A) (ms : List Message) (said : List ℕ) → Replies R old ms said new → name new ≡ name old
-kept_throughout R name keeps old new [] said x = ap name x.1
-kept_throughout R name keeps old new (m ∷ ms) said x = kept_throughout R name keeps x.0 new ms x.2 x.4 ∙ keeps old x.0 m x.1 x.3
+kept_throughout R name keeps old new ms said x = in_order_relates R (λ a b. name b ≡ name a) (λ a. refl) (λ a b c f g. g ∙ f) keeps old new ms x.0 x.1
 
 -- what each turn leads back from the end to the start is led back through all
 pub told_throughout : {A : Type 0} (R : A → Message → List ℕ → A → Type 0) (P : A → Type 0) → ((a b : A) (m : Message) (said : List ℕ) → R a m said b → P b → P a)
     → (old new : A) (ms : List Message) (said : List ℕ) → Replies R old ms said new → P new → P old
-told_throughout R P back old new [] said x told = subst P x.1 told
-told_throughout R P back old new (m ∷ ms) said x told = back old x.0 m x.1 x.3 (told_throughout R P back x.0 new ms x.2 x.4 told)
+told_throughout R P back old new ms said x = in_order_relates R (λ a b. P b → P a) (λ a p. p) (λ a b c f g p. f (g p)) back old new ms x.0 x.1

@@ -1,6 +1,8 @@
 pub mod Asked
 pub mod Held
+pub mod InOrder
 pub mod Last
+pub mod Laws
 pub mod Replies
 pub mod Served
 pub mod Service

@@ -1,12 +1,14 @@
 -- What serving a stream does, whatever it is that answers: `R old request said new` says that the request is answered by these bytes,
 -- and that what answers is changed so.
-use Rattle.std.specs.Prelude.{◌≡◌, ℕ, ◌<◌, ◌≤◌, ◌⊎◌, List, [], ◌∷◌, ◌++◌, IsTrue, Option, drop, length}
+use Rattle.std.specs.Prelude.{◌≡◌, ℕ, ◌<◌, ◌≤◌, ◌⊎◌, List, [], ◌++◌, IsTrue, Option, drop, length}
+use Rattle.std.specs.List.{concat}
 use Rattle.std.specs.Io.KnownBytes.{Appends}
 use Rattle.desk_edge.specs.Faults.{Rose}
 use Rattle.desk_edge.specs.Transfer.{AppendsPart}
 use Rattle.desk_http.specs.Front.{LeadsTo, last_reply}
 use Rattle.desk_http.specs.Rest.{IsNotYet, Message}
 use Rattle.desk_http.specs.Stream.{End, IsStream, is_ended}
+use Rattle.desk_front.specs.InOrder.{InOrder}
 use Rattle.desk_front.specs.declared.first.First.{First}
 use Rattle.desk_front.specs.declared.first.First.TheVariants as first
 use Rattle.desk_front.specs.declared.round.Round.{Round}
@@ -30,9 +32,7 @@ BreaksOff old said new =
 
 -- the requests are answered in order by these bytes
 abbrev pub Replies : {A : Type 0} → (A → Message → List ℕ → A → Type 0) → A → List Message → List ℕ → A → Type 0
-Replies R old [] said new = (said ≡ []) × (new ≡ old)
-Replies {A} R old (request ∷ requests) said new =
-    (next : A) × (one : List ℕ) × (others : List ℕ) × R old request one next × Replies R next requests others new × (said ≡ one ++ others)
+Replies R old requests said new = (each : List (List ℕ)) × InOrder R old requests each new × (said ≡ concat each)
 
 -- what answers, and what was said so far
 pub record Service (A : Type 0) : Type 0 where

@@ -1,6 +1,6 @@
 -- One connection that has a clerk to itself, turn by turn: each answer is at the whole list of its moment.
-use Rattle.std.specs.Prelude.{◌≡◌, ◌≢◌, ℕ, ◌≤◌, ◌⊎◌, is_ok, true, List, [], ◌∷◌, ◌++◌, Option, None, Some, Bool}
-use Rattle.std.specs.List.{AllByRecursion}
+use Rattle.std.specs.Prelude.{◌≡◌, ◌≢◌, ℕ, ◌≤◌, ◌⊎◌, is_ok, true, List, [], ◌∷◌, Option, None, Some, Bool, map}
+use Rattle.std.specs.List.{AllByRecursion, flat_map}
 use Rattle.desk_model.specs.Lists.{number_at}
 use Rattle.desk_edge.specs.Faults.{Rose}
 use Rattle.desk_history.specs.History.{History, IsHistory, after}
@@ -14,6 +14,7 @@ use Rattle.desk_model.specs.declared.edit.Edit.{Edit}
 use Rattle.desk_model.specs.declared.rule_fault.RuleFault.{RuleFault}
 use Rattle.desk_front.specs.Asked.{Asked, asked_of, edit, nothing, question}
 use Rattle.desk_http.specs.Reply.{Reply, bytes_with, fixed}
+use Rattle.desk_front.specs.InOrder.{InOrder}
 use Rattle.desk_front.specs.Replies.{all_bytes, answer_at, reply_to_edit}
 use Rattle.desk_front.specs.Talk.{Talk}
 
@@ -71,14 +72,22 @@ Says old asked close said new = (reply : Reply) × (added : List Edit) × Turn o
 abbrev pub Turns : Standing → Message → List ℕ → Standing → Type 0
 Turns old request said new = Says old (asked_of request) request.close said new
 
--- a conversation: a turn for each request, in order. These edits were added to the list, in order, and no other
-abbrev pub Conversation : Standing → List Message → List Reply → List Edit → Standing → Type 0
-Conversation old [] [] added new = (added ≡ []) × (new ≡ old)
-Conversation old [] (reply ∷ replies) added new = ⊥
-Conversation old (request ∷ requests) [] added new = ⊥
-Conversation old (request ∷ requests) (reply ∷ replies) added new =
-    (next : Standing) × (first : List Edit) × (others : List Edit) × Turn old (asked_of request) reply first next
-    × Conversation next requests replies others new × (added ≡ first ++ others)
+-- what a request was told, and the edits that this added to the list
+pub record Told : Type 0 where
+  pub reply : Reply
+  pub added : List Edit
+
+-- the replies to requests that were told so, in order
+abbrev pub replies_of : List Told → List Reply
+replies_of told = map (λ one. one.reply) told
+
+-- the edits that were added to the list by all of them, in order, and no other
+abbrev pub added_by : List Told → List Edit
+added_by told = flat_map (λ one. one.added) told
+
+-- a conversation: a turn for each request, in order
+abbrev pub Conversation : Standing → List Message → List Told → Standing → Type 0
+Conversation old requests told new = InOrder (λ before request one next. Turn before (asked_of request) one.reply one.added next) old requests told new
 
 -- the list at entry, followed by the edits that were added
 abbrev pub list_with : Standing → List Edit → History
@@ -86,16 +95,15 @@ list_with start added = record { opening = start.whole; edits = added }
 
 -- Requests are answered by these bytes, from the first standing on, and leave the tables of the whole list and the store's count so.
 pub record Converses (start : Standing) (left : Lists) (counted : ℕ) (requests : List Message) (said : List ℕ) : Type 0 where
-  pub replies : List Reply
-  pub added : List Edit
+  pub told : List Told
   pub last_met : ℕ
   -- the bytes are those of the replies
-  pub bytes : said ≡ all_bytes requests replies
+  pub bytes : said ≡ all_bytes requests (replies_of told)
   -- each reply is at the whole list of its moment
-  pub turns : Conversation start requests replies added (record { whole = left; met = last_met; faults = counted })
+  pub turns : Conversation start requests told (record { whole = left; met = last_met; faults = counted })
   -- the whole list at the end is the one at entry followed by the new accepted edits of the requests, in order, and by no other
-  pub grown : IsHistory (list_with start added) × (after (list_with start added) ≡ left)
+  pub grown : IsHistory (list_with start (added_by told)) × (after (list_with start (added_by told)) ≡ left)
   -- each reply is from that one list, at a number that is no smaller than those met before
-  pub talk : Talk (list_with start added) start.met requests replies
+  pub talk : Talk (list_with start (added_by told)) start.met requests (replies_of told)
   -- where the store counted no fault, no reply tells of one
-  pub kept : (Rose start.faults counted → ⊥) → AllByRecursion (λ reply. reply.status ≢ 503) replies
+  pub kept : (Rose start.faults counted → ⊥) → AllByRecursion (λ reply. reply.status ≢ 503) (replies_of told)

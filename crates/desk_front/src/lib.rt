@@ -7,6 +7,7 @@ mod connection;
 mod first;
 mod held;
 mod last_reply;
+pub mod laws;
 mod outbox;
 mod round;
 mod served;

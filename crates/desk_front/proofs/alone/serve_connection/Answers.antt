@@ -37,7 +37,7 @@ returns-clause-keeper_never_falls g c =
     let y = conversation_of R (λ a. record { whole = whole a.clerk.now; met = a.met; faults = g.K.Keeper.faults (keeper_of a.clerk.now) }) (λ a. IsFresh (whole a.clerk.now) a.last.now) (λ a b m said turn. turn.2)
     c.args.connection.now c.serve.new.answerer x.0 x.1 x.2 c.requires.fresh
     in
-    conversation_faults old new x.0 y.0 y.1 y.2
+    conversation_faults old new x.0 y.0 y.1
 
 pub returns-clause-served : goal.returns-clause-served
 returns-clause-served g c other =
@@ -56,6 +56,6 @@ returns-clause-served g c other =
           let y = conversation_of R (λ a. record { whole = whole a.clerk.now; met = a.met; faults = g.K.Keeper.faults (keeper_of a.clerk.now) }) (λ a. IsFresh (whole a.clerk.now) a.last.now) (λ a b m said turn. turn.2)
           c.args.connection.now c.serve.new.answerer ms said replies c.requires.fresh
           in
-          converses old left c.serve.new.answerer.met counted ms y.0 y.1 said c.requires.sound met y.2 y.3)
+          converses old left c.serve.new.answerer.met counted ms y.0 said c.requires.sound met y.1 y.2)
           x.3,
     )

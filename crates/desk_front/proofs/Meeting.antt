@@ -1,0 +1,122 @@
+-- What each answer of a talk is at, and what stays told.
+use Rattle.std.proofs.Common.{◌≡◌, ◌⊎◌, ℕ, ◌≤◌, List, [], ◌∷◌, refl, sym, ap, ◌∙◌, subst, inl, inr, arith}
+use Rattle.desk_history.specs.History.{Begins, History, IsHistory, after, number_of, up_to}
+use Rattle.desk_history.proofs.Beginnings.{begins_number, opening_number, up_to_longer, up_to_up_to}
+use Rattle.desk_history.proofs.Histories.{number_of-up_to, up_to-IsHistory}
+use Rattle.desk_http.specs.Reply.{Reply, fixed}
+use Rattle.desk_http.specs.Rest.{Message}
+use Rattle.desk_http.specs.declared.fixed.Fixed.TheVariants as refusal
+use Rattle.desk_model.specs.Lists.{number_at}
+use Rattle.desk_front.specs.Asked.{Asked, asked_of, edit, nothing, question}
+use Rattle.desk_front.specs.InOrder.{InOrder}
+use Rattle.desk_front.specs.Laws.{BeginsWithAllMet, IsAnsweredAt}
+use Rattle.desk_front.specs.Replies.{answer_at}
+use Rattle.desk_front.specs.Talk.{Follows, IsAnswered, IsJudged, IsTold, IsToldOfMemory, Talk}
+
+-- ---- what is met is a number of the list, and never falls
+
+abbrev Rises : History → ℕ → ℕ → Type 0
+Rises list met now = (met ≤ now) × (now ≤ number_of list)
+
+told_rises : (list : History) (asked : Asked) (met : ℕ) (reply : Reply) (now : ℕ) → met ≤ number_of list → IsTold list asked met reply now → Rises list met now
+told_rises list (nothing told) met reply now h y = (omega (arith, y.1), omega (arith, y.1, h))
+told_rises list (question asked) met reply now h y = (y.0.1, y.0.2)
+told_rises list (edit made) met reply now h (inl y) = (y.0.1, y.0.2)
+told_rises list (edit made) met reply now h (inr y) = (omega (arith, y.1), omega (arith, y.1, h))
+
+moved_rises : (list : History) (met now : ℕ) → met ≤ number_of list → (now ≡ met) ⊎ Follows list met now → Rises list met now
+moved_rises list met now h (inl e) = (omega (arith, e), omega (arith, e, h))
+moved_rises list met now h (inr f) = (f.1, f.2)
+
+memory_rises : (list : History) (asked : Asked) (met : ℕ) (reply : Reply) (now : ℕ) → met ≤ number_of list → IsToldOfMemory list asked met reply now → Rises list met now
+memory_rises list (nothing told) met reply now h y = moved_rises list met now h (inl y.1)
+memory_rises list (question asked) met reply now h y = moved_rises list met now h y.1
+memory_rises list (edit made) met reply now h y = moved_rises list met now h y.1
+
+answered_rises : (list : History) (m : Message) (met : ℕ) (reply : Reply) (now : ℕ) → met ≤ number_of list → IsAnswered list met m reply now → Rises list met now
+answered_rises list m met reply now h (inl y) = told_rises list (asked_of m) met reply now h y
+answered_rises list m met reply now h (inr y) = memory_rises list (asked_of m) met reply now h y
+
+-- ---- answers by their lists
+
+told_at : (list : History) (asked : Asked) (met : ℕ) (reply : Reply) (now : ℕ) → number_of (up_to list met) ≡ met → number_of (up_to list now) ≡ now
+    → IsTold list asked met reply now → IsAnsweredAt (up_to list met) asked reply (up_to list now)
+told_at list (nothing told) met reply now a b y = (y.0, ap (up_to list) y.1)
+told_at list (question asked) met reply now a b y = y.1
+told_at list (edit made) met reply now a b (inl y) =
+    inl (subst (λ n. IsJudged (after (up_to list now)) n (number_of (up_to list met)) made reply) (sym b)
+    (subst (λ n. IsJudged (after (up_to list now)) now n made reply) (sym a) y.1))
+told_at list (edit made) met reply now a b (inr y) = inr (y.0, ap (up_to list) y.1)
+
+memory_told : (list : History) (asked : Asked) (met : ℕ) (reply : Reply) (now : ℕ) → IsToldOfMemory list asked met reply now → reply ≡ fixed refusal.Memory
+memory_told list (nothing told) met reply now y = y.0
+memory_told list (question asked) met reply now y = y.0
+memory_told list (edit made) met reply now y = y.0
+
+answered_at : (list : History) (m : Message) (met : ℕ) (reply : Reply) (now : ℕ) → number_of (up_to list met) ≡ met → number_of (up_to list now) ≡ now
+    → IsAnswered list met m reply now → IsAnsweredAt (up_to list met) (asked_of m) reply (up_to list now) ⊎ (reply ≡ fixed refusal.Memory)
+answered_at list m met reply now a b (inl y) = inl (told_at list (asked_of m) met reply now a b y)
+answered_at list m met reply now a b (inr y) = inr (memory_told list (asked_of m) met reply now y)
+
+begins_each : (list : History) (met last : ℕ) (ms : List Message) (replies : List Reply) → IsHistory list → number_at list.opening ≤ met → met ≤ number_of list
+    → InOrder (IsAnswered list) met ms replies last → InOrder (BeginsWithAllMet list) (up_to list met) ms replies (up_to list last)
+begins_each list met last [] [] h low high x = ap (up_to list) x
+begins_each list met last [] (reply ∷ replies) h low high x = absurd x
+begins_each list met last (m ∷ ms) [] h low high x = absurd x
+begins_each list met last (m ∷ ms) (reply ∷ replies) h low high x =
+    let rises = answered_rises list m met reply x.0 high x.1 in
+    let opened : number_at list.opening ≤ x.0 = omega (arith, low, rises.0) in
+    let before = number_of-up_to list met h low high in
+    let now = number_of-up_to list x.0 h opened rises.1 in (
+      up_to list x.0,
+      record {
+        history = up_to-IsHistory list x.0 h;
+        named = ap (up_to list) (sym now);
+        begins = up_to_up_to list met x.0 rises.0;
+        answered = answered_at list m met reply x.0 before now x.1;
+      },
+      begins_each list x.0 last ms replies h opened rises.1 x.2,
+    )
+
+pub begin_with_all_met : (list : History) (met : ℕ) (ms : List Message) (replies : List Reply) → IsHistory list → number_at list.opening ≤ met → met ≤ number_of list
+    → Talk list met ms replies → (last : History) × InOrder (BeginsWithAllMet list) (up_to list met) ms replies last
+begin_with_all_met list met ms replies h low high x = (up_to list x.0, begins_each list met x.0 ms replies h low high x.1)
+
+-- ---- longer lists
+
+module _ (list longer : History) (a : IsHistory list) (b : IsHistory longer) (begins : Begins list longer) where
+  follows_longer : (met now : ℕ) → Follows list met now → Follows longer met now
+  follows_longer met now f = (omega (arith, f.0, ap number_at begins.opening), f.1, omega (arith, f.2, begins_number list longer a b begins))
+
+  told_longer : (asked : Asked) (met : ℕ) (reply : Reply) (now : ℕ) → IsTold list asked met reply now → IsTold longer asked met reply now
+  told_longer (nothing told) met reply now y = y
+  told_longer (question asked) met reply now y =
+      let same = up_to_longer list longer now a b begins y.0.0 y.0.2 in
+      (follows_longer met now y.0, y.1 ∙ ap (λ l. answer_at (after l) asked) (sym same))
+  told_longer (edit made) met reply now (inl y) =
+      let same = up_to_longer list longer now a b begins y.0.0 y.0.2 in
+      inl (follows_longer met now y.0, subst (λ l. IsJudged (after l) now met made reply) (sym same) y.1)
+  told_longer (edit made) met reply now (inr y) = inr y
+
+  moved_longer : (met now : ℕ) → (now ≡ met) ⊎ Follows list met now → (now ≡ met) ⊎ Follows longer met now
+  moved_longer met now (inl e) = inl e
+  moved_longer met now (inr f) = inr (follows_longer met now f)
+
+  memory_longer : (asked : Asked) (met : ℕ) (reply : Reply) (now : ℕ) → IsToldOfMemory list asked met reply now → IsToldOfMemory longer asked met reply now
+  memory_longer (nothing told) met reply now y = y
+  memory_longer (question asked) met reply now y = (y.0, moved_longer met now y.1)
+  memory_longer (edit made) met reply now y = (y.0, moved_longer met now y.1)
+
+  answered_longer : (m : Message) (met : ℕ) (reply : Reply) (now : ℕ) → IsAnswered list met m reply now → IsAnswered longer met m reply now
+  answered_longer m met reply now (inl y) = inl (told_longer (asked_of m) met reply now y)
+  answered_longer m met reply now (inr y) = inr (memory_longer (asked_of m) met reply now y)
+
+  each_longer : (met last : ℕ) (ms : List Message) (replies : List Reply) → InOrder (IsAnswered list) met ms replies last → InOrder (IsAnswered longer) met ms replies last
+  each_longer met last [] [] x = x
+  each_longer met last [] (reply ∷ replies) x = absurd x
+  each_longer met last (m ∷ ms) [] x = absurd x
+  each_longer met last (m ∷ ms) (reply ∷ replies) x = (x.0, answered_longer m met reply x.0 x.1, each_longer x.0 last ms replies x.2)
+
+pub talks_longer : (list longer : History) (met : ℕ) (ms : List Message) (replies : List Reply) → IsHistory list → IsHistory longer → Begins list longer
+    → Talk list met ms replies → Talk longer met ms replies
+talks_longer list longer met ms replies a b begins x = (x.0, each_longer list longer a b begins met x.0 ms replies x.1)
