@@ -110,7 +110,6 @@ module _ (t : Lists) (product : ProductRow) (day : Date) where
       let s = stand i d inside reached rule e in
       record {
         before = s.before;
-        chain = chain t product.part material.code;
         after = s.after;
         told = s.is ∙ simp append_assoc;
         begins = chain-begins t product.part material.code;

@@ -11,10 +11,10 @@ use Rattle.desk_model.specs.declared.rows.product.ProductRow.{ProductRow}
 use Rattle.desk_model.specs.Declaration.{Declared}
 use Rattle.desk_model.specs.Effect.{declared_row}
 use Rattle.desk_model.specs.Lists.{Lists, material_row, product_row}
-use Rattle.desk_findings.specs.Bill.{IsBill}
-use Rattle.desk_findings.specs.Chain.{are_linked, begins_with, ends_with}
+use Rattle.desk_findings.specs.Chain.{are_linked, begins_with, chain, ends_with}
 use Rattle.desk_findings.specs.Reaches.{reaches}
 use Rattle.desk_findings.specs.Verdicts.{verdict_on}
+use Rattle.desk_history.specs.Sound.{Sound}
 use Rattle.desk_scratch.specs.declared.question.Question.TheVariants.{Material, Rohs}
 use Rattle.desk_scratch.specs.CheckText.{EndsIn, check_text}
 use Rattle.desk_scratch.specs.Eval.{eval}
@@ -34,16 +34,15 @@ ReachesNoBreach t kind day part = All (λ material. reaches t part material.code
 abbrev pub IsToldCompliant : List ℕ → Type 0
 IsToldCompliant text = EndsIn text (codes "\ncompliant\n")
 
--- behind the line the text tells a chain: it begins with the part, ends with the target, and each two neighbours in it are the
--- parent and the child of a kept line
+-- behind the line the text tells the chain from the part to the target: it begins with the part, ends with the target, and each two
+-- neighbours in it are the parent and the child of a kept line
 pub record IsFollowedByChain (t : Lists) (part target line text : List ℕ) : Type 0 where
   pub before : List ℕ
-  pub chain : List (List ℕ)
   pub after : List ℕ
-  pub told : text ≡ before ++ line ++ chain_line chain ++ after
-  pub begins : begins_with part chain ≡ true
-  pub ends : ends_with target chain ≡ true
-  pub linked : are_linked t chain ≡ true
+  pub told : text ≡ before ++ line ++ chain_line (chain t part target) ++ after
+  pub begins : begins_with part (chain t part target) ≡ true
+  pub ends : ends_with target (chain t part target) ≡ true
+  pub linked : are_linked t (chain t part target) ≡ true
 
 -- each breach has its line in the text, with a chain from the product to the material behind it
 abbrev pub AreBreachesChained : Lists → Kind → Date → List ℕ → List ℕ → Type 0
@@ -56,7 +55,7 @@ AreBreachesChained t kind day product text =
 pub record CompliantMeans : Type 0 where
   pub rohs : (t : Lists) (code : List ℕ) (day : Date) (product : ProductRow) (text : List ℕ) → product_row t code ≡ Some product
       → eval t (Rohs code day) ≡ Ok text → IsToldCompliant text ↔ ReachesNoBreach t product.kind day code
-  pub chained : (t : Lists) → IsBill t → (code : List ℕ) (day : Date) (product : ProductRow) (text : List ℕ) → product_row t code ≡ Some product
+  pub chained : (t : Lists) → Sound t → (code : List ℕ) (day : Date) (product : ProductRow) (text : List ℕ) → product_row t code ≡ Some product
       → eval t (Rohs code day) ≡ Ok text → AreBreachesChained t product.kind day code text
   pub material : (t : Lists) (code : List ℕ) (kind : Kind) (day : Date) (material : MaterialRow) (text : List ℕ) → material_row t code ≡ Some material
       → eval t (Material code kind day) ≡ Ok text → IsToldCompliant text ↔ BreachesNone t kind day material
