@@ -1,10 +1,8 @@
 -- Substances, claims, materials, declarations and exemption rows are read from their fields.
 use Rattle.std.proofs.Common.{◌≡◌, ℕ, ◌-◌, ◌≤◌, ◌<◌, ◌^◌, true, ◌&&◌, List, [], ◌∷◌, ◌++◌, length, map, Option, Some, None, option_and_then, refl, sym, ◌∙◌, arith, Ordering}
 use Rattle.std.specs.Prelude.{decimal, nat_le, nat_lt}
-use Rattle.std.specs.Cmp.{IsTotalOrder}
 use Rattle.std.specs.List.{AllByRecursion, flat_map, list_all}
 use Rattle.std.proofs.lemmas.Bool.{and_from, and_parts, le-leb, leb-true, lt-ltb, ltb-true}
-use Rattle.std.proofs.lemmas.Cmp.{nat_list_cmp_total, on_total}
 use Rattle.desk_text.specs.Code.{code_cmp}
 use Rattle.desk_text.specs.Day.{Date, date_text, is_day}
 use Rattle.desk_law.specs.declared.annex.Annex.{Annex}
@@ -33,10 +31,10 @@ use Rattle.desk_model.proofs.InForm.{form_parts, from_form_parts}
 use Rattle.desk_fields.specs.EditReading.{claim_in, claims_in, declared_in, exemption_behind, exemption_in, held_cmp, held_in, material_cmp, material_in, substances_in}
 use Rattle.desk_text.specs.Forms.{a_code, a_day, a_name, a_number, an_exemption_number}
 use Rattle.desk_fields.specs.Forms.{an_annex, maybe, some_kinds}
-use Rattle.desk_fields.specs.Reading.{Reader, both, counted, five, four, in_turn, made, nine, one, rising, two}
+use Rattle.desk_fields.specs.Reading.{Reader, both, counted, five, four, made, nine, one, rising, two}
 use Rattle.desk_fields.proofs.Codec.{IsCodec, beside, both_codec, codec_same, codec_with, counted_codec, made_codec, making, number_form, one_codec, tested_codec}
 use Rattle.desk_fields.proofs.KindFields.{kinds_form}
-use Rattle.desk_fields.proofs.Rising.{rises_from_turn, rises_on, turn_from_rises}
+use Rattle.desk_fields.proofs.Rising.{rises_on}
 use Rattle.desk_fields.proofs.Values.{annex_form, code_form, day_form, exemption_number_form, name_form, ppm_form, rule_form}
 
 -- single fields
@@ -63,14 +61,10 @@ pub number_codec : (least greatest : ℕ) → greatest < 2 ^ 64 → IsCodec (one
 number_codec least greatest small = one_codec (a_number least greatest) decimal (Within least greatest) (number_form least greatest small)
 
 -- a list that rises
-pub rising_codec : {A : Type 0} (order : A → A → Ordering) → IsTotalOrder order → (limit : ℕ) → limit < 2 ^ 64
-    → (read : Reader A) (f : A → List (List ℕ)) (P : A → Type 0) → IsCodec read f P
+pub rising_codec : {A : Type 0} (order : A → A → Ordering) (limit : ℕ) → limit < 2 ^ 64 → (read : Reader A) (f : A → List (List ℕ)) (P : A → Type 0) → IsCodec read f P
     → IsCodec (rising order limit read) (λ xs. decimal (length xs) ∷ flat_map f xs) (λ xs. ((length xs ≤ limit) × AllByRecursion P xs) × (rises order xs ≡ true))
-rising_codec order total limit small read f P c =
-    codec_with (rising order limit read) (λ xs. decimal (length xs) ∷ flat_map f xs) (λ xs. ((length xs ≤ limit) × AllByRecursion P xs) × (in_turn order xs ≡ true)) (λ xs. ((length xs ≤ limit) × AllByRecursion P xs) × (rises order xs ≡ true))
-    (tested_codec (in_turn order) (counted limit read) (λ xs. decimal (length xs) ∷ flat_map f xs) (λ xs. (length xs ≤ limit) × AllByRecursion P xs) (counted_codec read f P c limit small))
-    (λ xs is. (is.0, rises_from_turn order total xs is.1))
-    (λ xs is. (is.0, turn_from_rises order total xs is.1))
+rising_codec order limit small read f P c =
+    tested_codec (rises order) (counted limit read) (λ xs. decimal (length xs) ∷ flat_map f xs) (λ xs. (length xs ≤ limit) × AllByRecursion P xs) (counted_codec read f P c limit small)
 
 -- a substance of a material
 IsHeld : SubstanceMass → Type 0
@@ -100,7 +94,7 @@ AreHeld held = (are_substances held ≡ true) × (list_all (λ one. is_code one.
 pub substances_codec : IsCodec substances_in substance_fields AreHeld
 unfolding IsHeld
 substances_codec =
-    codec_with substances_in substance_fields Read AreHeld (rising_codec held_cmp (on_total (λ one. one.substance) nat_list_cmp_total) CONTENT_LIMIT (omega arith) held_in (λ one. one.substance ∷ decimal one.mass ∷ []) IsHeld held_codec)
+    codec_with substances_in substance_fields Read AreHeld (rising_codec held_cmp CONTENT_LIMIT (omega arith) held_in (λ one. one.substance ∷ decimal one.mass ∷ []) IsHeld held_codec)
     to from
   where
     Read : List SubstanceMass → Type 0
@@ -134,7 +128,7 @@ AreClaims claims = (are_claims claims ≡ true) × (list_all (λ claim. is_exemp
 pub claims_codec : IsCodec claims_in claim_fields AreClaims
 unfolding IsClaim
 claims_codec =
-    codec_with claims_in claim_fields Read AreClaims (rising_codec claim_cmp claim_total CLAIM_LIMIT (omega arith) claim_in (λ claim. rule_code claim.rule ∷ claim.number ∷ []) IsClaim claim_codec)
+    codec_with claims_in claim_fields Read AreClaims (rising_codec claim_cmp CLAIM_LIMIT (omega arith) claim_in (λ claim. rule_code claim.rule ∷ claim.number ∷ []) IsClaim claim_codec)
     to from
   where
     Read : List Claim → Type 0
@@ -238,7 +232,7 @@ declared_codec =
     (both (one a_code) (both (one (a_number 1 (2 ^ 64 - 1))) (both (one a_day) (rising material_cmp DECLARED_LIMIT material_in))))
     (λ x. (x.0 ∷ []) ++ ((decimal x.1.0 ∷ []) ++ ((date_text x.1.1.0 ∷ []) ++ (decimal (length x.1.1.1) ∷ flat_map material_fields x.1.1.1)))) DeclaredRead
     (both_codec _ _ _ _ _ _ code_codec (both_codec _ _ _ _ _ _ (number_codec 1 (2 ^ 64 - 1) (omega arith)) (both_codec _ _ _ _ _ _ day_codec
-    (rising_codec material_cmp (on_total (λ material. material.code) nat_list_cmp_total) DECLARED_LIMIT (omega arith) material_in material_fields IsMaterial material_codec)))))
+    (rising_codec material_cmp DECLARED_LIMIT (omega arith) material_in material_fields IsMaterial material_codec)))))
     declared_good declared_read
 
 -- an exemption row

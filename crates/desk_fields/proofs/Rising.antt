@@ -1,5 +1,5 @@
 -- Values that rise one after the other rise in all.
-use Rattle.std.proofs.Common.{◌≡◌, true, List, [], ◌∷◌, map, refl, ap, ◌∙◌, Ordering, Less, Equal, Greater, is_lt}
+use Rattle.std.proofs.Common.{◌≡◌, Bool, true, false, List, [], ◌∷◌, map, refl, sym, ap, ◌∙◌, Ordering, Less, Equal, Greater, is_lt}
 use Rattle.std.specs.Prelude.{◌&&◌}
 use Rattle.std.specs.Cmp.{IsTotalOrder}
 use Rattle.std.specs.List.{list_all}
@@ -7,7 +7,12 @@ use Rattle.std.specs.Ordering.{on}
 use Rattle.std.proofs.lemmas.Bool.{and_from, and_parts, false≢true}
 use Rattle.std.proofs.lemmas.List.Folds.{list_all-map}
 use Rattle.desk_model.specs.Content.{rises}
-use Rattle.desk_fields.specs.Reading.{in_turn}
+
+-- each value is below the one behind it
+abbrev pub in_turn : {A : Type 0} → (A → A → Ordering) → List A → Bool
+in_turn order [] = true
+in_turn order (a ∷ []) = true
+in_turn order (a ∷ b ∷ rest) = is_lt (order a b) && in_turn order (b ∷ rest)
 
 is_less : (o : Ordering) → is_lt o ≡ true → o ≡ Less
 is_less Less e = refl
@@ -40,6 +45,15 @@ module _ {A : Type 0} (order : A → A → Ordering) (total : IsTotalOrder order
       and_from (is_lt (order a b)) (in_turn order (b ∷ rest)) (and_parts (is_lt (order a b)) (list_all (λ later. is_lt (order a later)) rest) parts.0).0 (turn_from_rises (b ∷ rest) parts.1)
 
 -- by their keys
+  -- so a list whose values rise one after the other is one whose values rise
+  pub rises_in_turn : (xs : List A) → rises order xs ≡ in_turn order xs
+  rises_in_turn xs = same (rises order xs) (in_turn order xs) (turn_from_rises xs) (rises_from_turn xs)
+    where
+      same : (a b : Bool) → (a ≡ true → b ≡ true) → (b ≡ true → a ≡ true) → a ≡ b
+      same true b there back = sym (there refl)
+      same false true there back = back refl
+      same false false there back = refl
+
 pub rises_on : {A K : Type 0} (key : A → K) (cmp : K → K → Ordering) (xs : List A) → rises cmp (map key xs) ≡ rises (on key cmp) xs
 rises_on key cmp [] = refl
 rises_on key cmp (x ∷ xs) =

@@ -58,15 +58,9 @@ times (suc n) read fields = option_and_then (λ x. option_map (λ y. (x.0 ∷ y.
 abbrev pub counted : {A : Type 0} → ℕ → Reader A → Reader (List A)
 counted limit read fields = option_and_then (λ n. times n.0 read n.1) (one (a_number 0 limit) fields)
 
--- each value is below the one behind it
-abbrev pub in_turn : {A : Type 0} → (A → A → Ordering) → List A → Bool
-in_turn order [] = true
-in_turn order (a ∷ []) = true
-in_turn order (a ∷ b ∷ rest) = is_lt (order a b) && in_turn order (b ∷ rest)
-
 -- a counted list whose values rise
 abbrev pub rising : {A : Type 0} → (A → A → Ordering) → ℕ → Reader A → Reader (List A)
-rising order limit read = tested (in_turn order) (counted limit read)
+rising order limit read = tested (rises order) (counted limit read)
 
 -- a value is all that was read
 abbrev pub ended : {A : Type 0} → A × List (List ℕ) → Option A

@@ -1,5 +1,6 @@
 ghost use Rattle.std.specs.Prelude.{◌≡◌, Err, IfOk, None, Some};
-ghost use Rattle.desk_fields.specs.Reading.{in_turn, rising, times};
+ghost use Rattle.desk_fields.specs.Reading.{rising, times};
+ghost use Rattle.desk_model.specs.Content.{rises};
 
 use crate::field_fault::FieldFault;
 use crate::fields::Fields;
@@ -15,6 +16,7 @@ pub(crate) trait Item: Sized + Drop {
     ghost order: { Self → Self → Ordering };
 
     ghost use Rattle.std.specs.Prelude.{◌≡◌, ℕ, Err, IfOk, List, None, Option, Some};
+    ghost use Rattle.std.specs.Cmp.{IsTotalOrder};
     ghost use Rattle.std.specs.declared.cmp.Ordering.{Ordering};
     ghost use Rattle.desk_fields.specs.declared.field_fault.FieldFault.TheVariants as fault;
 
@@ -26,6 +28,9 @@ pub(crate) trait Item: Sized + Drop {
     /// How the value stands to another.
     fn order(&self, other: &Self) -> Ordering
         ensures { result ≡ order self.now other.now };
+
+    // Values that stand in it are ordered by it.
+    ghost total: { IsTotalOrder order };
 }
 
 /// A list of values that rise: at most so many, with how many there are in front.
@@ -59,9 +64,9 @@ fn items<T: Item>(alloc: Global, fields: &mut Fields<'_>, count: u64) -> Result<
     Ok(list)
 }
 
-/// Whether each value is below the one behind it.
+/// Whether the values rise.
 fn in_turn<T: Item>(list: &[T]) -> bool
-    ensures { result ≡ in_turn T.Item.order list.now }
+    ensures { result ≡ rises T.Item.order list.now }
 {
     for place in 1..list.len() {
         if list[place - 1].order(&list[place]).is_ge() {

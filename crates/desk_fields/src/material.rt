@@ -12,11 +12,14 @@ use std::alloc::Global;
 use std::cmp::Ordering;
 
 impl Item for SubstanceMass {
+    ghost use Rattle.std.proofs.lemmas.Cmp.{nat_list_cmp_total, on_total};
     ghost use Rattle.desk_fields.specs.EditReading.{held_cmp, held_in};
 
     ghost reader = { held_in };
 
     ghost order = { held_cmp };
+
+    ghost total = { on_total (λ held. held.substance) nat_list_cmp_total };
 
     #[tactic(auto, unfolding(crate::specs::EditReading::held_in))]
     fn from_fields(_alloc: Global, fields: &mut Fields<'_>) -> Result<SubstanceMass, FieldFault> {
@@ -33,11 +36,14 @@ impl Item for SubstanceMass {
 
 impl Item for Claim {
     ghost use Rattle.desk_law.specs.Claim.{claim_cmp};
+    ghost use Rattle.desk_model.proofs.Claims.{claim_total};
     ghost use Rattle.desk_fields.specs.EditReading.{claim_in};
 
     ghost reader = { claim_in };
 
     ghost order = { claim_cmp };
+
+    ghost total = { claim_total };
 
     #[tactic(auto, unfolding(crate::specs::EditReading::claim_in))]
     fn from_fields(_alloc: Global, fields: &mut Fields<'_>) -> Result<Claim, FieldFault> {
@@ -53,11 +59,14 @@ impl Item for Claim {
 }
 
 impl Item for MaterialDecl {
+    ghost use Rattle.std.proofs.lemmas.Cmp.{nat_list_cmp_total, on_total};
     ghost use Rattle.desk_fields.specs.EditReading.{material_cmp, material_in};
 
     ghost reader = { material_in };
 
     ghost order = { material_cmp };
+
+    ghost total = { on_total (λ material. material.code) nat_list_cmp_total };
 
     #[tactic(auto, unfolding(crate::specs::EditReading::material_in))]
     fn from_fields(alloc: Global, fields: &mut Fields<'_>) -> Result<MaterialDecl, FieldFault> {

@@ -11,7 +11,7 @@ use Rattle.std.specs.Ordering.{is_eq}
 use Rattle.desk_graph.specs.Graph.{Graph, is_line, label_cmp}
 use Rattle.desk_graph.specs.Edits.{is_taken}
 use Rattle.desk_graph.specs.Order.{AreBothEnds, AreMarkedUp, AreSweptUp, IsInOrder, IsSwept, has_mark}
-use Rattle.desk_graph.specs.Planned.{BillEdit, HasMadeWayFor, IsBillPlan, changed_lines, changed_users, plan_answer, planned, with_empty, with_next}
+use Rattle.desk_graph.specs.Planned.{BillEdit, HasMadeWayFor, IsBillPlan, as_planned, changed_lines, changed_users, plan_answer, planned, with_empty, with_next}
 use Rattle.desk_graph.specs.Reaches.{AreAffected, AreChildrenFirst}
 use Rattle.desk_graph.proofs.ChangedLines.{StaysKept, changed-kept, length-labels, more-kept, with_labels, with_labels-is, with_nodes-is}
 use Rattle.desk_graph.proofs.Kept.{bill_falls, bill_swept}
@@ -77,15 +77,15 @@ module _ (edit : BillEdit) (g : Graph) (label : List ℕ) where
   taken_in = ap (λ l. is_taken l label) labels_are ∙ taken_after edit.labels g.labels label
 
   pub answer_taken : (is_taken g.labels label || is_taken edit.labels label) ≡ true → plan_answer label (planned edit g) ≡ Err (Node Taken)
-  answer_taken e = cond-true (is_taken (planned edit g).labels label) (Err (Node Taken)) (cond (nat_le 24576 (length (planned edit g).labels)) (Err (Node Full)) (Ok (length (planned edit g).labels))) (taken_in ∙ e)
+  answer_taken e = ap as_planned (cond-true (is_taken (planned edit g).labels label) (Err Taken) (cond (nat_le 24576 (length (planned edit g).labels)) (Err Full) (Ok (length (planned edit g).labels))) (taken_in ∙ e))
 
   pub answer_full : (is_taken g.labels label || is_taken edit.labels label) ≡ false → 24576 ≤ length g.labels + length edit.labels → plan_answer label (planned edit g) ≡ Err (Node Full)
   answer_full e h =
-      cond-false (is_taken (planned edit g).labels label) (Err (Node Taken)) (cond (nat_le 24576 (length (planned edit g).labels)) (Err (Node Full)) (Ok (length (planned edit g).labels))) (taken_in ∙ e)
-      ∙ cond-true (nat_le 24576 (length (planned edit g).labels)) (Err (Node Full)) (Ok (length (planned edit g).labels)) (le-leb 24576 (length (planned edit g).labels) (omega (arith, h, count_after)))
+      ap as_planned (cond-false (is_taken (planned edit g).labels label) (Err Taken) (cond (nat_le 24576 (length (planned edit g).labels)) (Err Full) (Ok (length (planned edit g).labels))) (taken_in ∙ e)
+      ∙ cond-true (nat_le 24576 (length (planned edit g).labels)) (Err Full) (Ok (length (planned edit g).labels)) (le-leb 24576 (length (planned edit g).labels) (omega (arith, h, count_after))))
 
   pub answer_ok : (is_taken g.labels label || is_taken edit.labels label) ≡ false → length g.labels + length edit.labels < 24576 → plan_answer label (planned edit g) ≡ Ok (length g.labels + length edit.labels)
   answer_ok e h =
-      cond-false (is_taken (planned edit g).labels label) (Err (Node Taken)) (cond (nat_le 24576 (length (planned edit g).labels)) (Err (Node Full)) (Ok (length (planned edit g).labels))) (taken_in ∙ e)
-      ∙ cond-false (nat_le 24576 (length (planned edit g).labels)) (Err (Node Full)) (Ok (length (planned edit g).labels)) (lt-leb 24576 (length (planned edit g).labels) (omega (arith, h, count_after)))
-      ∙ ap (λ n. Ok n) count_after
+      ap as_planned (cond-false (is_taken (planned edit g).labels label) (Err Taken) (cond (nat_le 24576 (length (planned edit g).labels)) (Err Full) (Ok (length (planned edit g).labels))) (taken_in ∙ e)
+      ∙ cond-false (nat_le 24576 (length (planned edit g).labels)) (Err Full) (Ok (length (planned edit g).labels)) (lt-leb 24576 (length (planned edit g).labels) (omega (arith, h, count_after)))
+      ∙ ap (λ n. Ok n) count_after)

@@ -1,10 +1,10 @@
 -- What one edit does to a bill, and the bill as it will be.
-use Rattle.std.specs.Prelude.{◌≡◌, ℕ, zero, suc, ◌+◌, ◌<◌, ◌≤◌, false, List, [], ◌∷◌, ◌++◌, Option, Some, None, Result, Ok, Err, length, slice_set, nat_le, if◌then◌else◌}
+use Rattle.std.specs.Prelude.{◌≡◌, ℕ, zero, suc, ◌+◌, ◌<◌, ◌≤◌, false, List, [], ◌∷◌, ◌++◌, Option, Some, None, Result, Ok, Err, length, slice_set}
 use Rattle.desk_graph.specs.declared.line.BillLine.{BillLine}
 use Rattle.desk_graph.specs.declared.bill_plan.LineChange.{LineChange}
 use Rattle.desk_graph.specs.Graph.{AreUsers, Graph, IsByLabel, count_at, line_count, lines_of}
-use Rattle.desk_graph.specs.Edits.{is_taken, with_node}
-use Rattle.desk_graph.specs.declared.fault.NodeFault.TheVariants.{Taken, Full}
+use Rattle.desk_graph.specs.Edits.{is_taken, node_answer, with_node}
+use Rattle.desk_graph.specs.declared.fault.NodeFault.{NodeFault}
 use Rattle.desk_graph.specs.declared.fault.PlanFault.{PlanFault}
 use Rattle.desk_graph.specs.declared.fault.PlanFault.TheVariants.{Node}
 use Rattle.desk_graph.specs.Order.{HasMadeWay}
@@ -59,10 +59,14 @@ abbrev pub HasChild : List (List BillLine) → Option LineChange → Type 0
 HasChild lists None = Unit {0}
 HasChild lists (Some change) = change.child < length lists
 
+-- what is answered to a plan of a node that is answered so
+abbrev pub as_planned : Result ℕ NodeFault → Result ℕ PlanFault
+as_planned (Ok number) = Ok number
+as_planned (Err fault) = Err (Node fault)
+
 -- the number of a new node, or why it can't be planned
 abbrev pub plan_answer : List ℕ → Graph → Result ℕ PlanFault
-plan_answer label g =
-    if is_taken g.labels label then Err (Node Taken) else (if nat_le 24576 (length g.labels) then Err (Node Full) else Ok (length g.labels))
+plan_answer label g = as_planned (node_answer label g)
 
 -- the change is one of this bill: both nodes are there, the child doesn't reach the parent, the lines fit, no line of the parent but the
 -- one to the child differs, the users of the child are those of the new lines, and both lists stand in the order of their labels
