@@ -80,7 +80,7 @@ module _ (t : Lists) (product : ProductRow) (day : Date) where
   breached v e = rw e refl
 
   -- the line on a breach and its chain
-  lines-of-breach : (material : MaterialRow) (rule : Rule) → verdict_on t product.kind day material rule ≡ Breach
+  pub lines-of-breach : (material : MaterialRow) (rule : Rule) → verdict_on t product.kind day material rule ≡ Breach
       → over_lines t product day material rule ≡ over_line t product.kind day material rule ++ chain_line (chain t product.part material.code)
   unfolding over_lines
   lines-of-breach material rule e = rw (breached (verdict_on t product.kind day material rule) e) refl

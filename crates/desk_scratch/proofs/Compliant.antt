@@ -29,13 +29,14 @@ use Rattle.desk_scratch.specs.declared.question.Question.TheVariants.{Material, 
 use Rattle.desk_scratch.specs.CheckText.{check_text}
 use Rattle.desk_scratch.specs.Eval.{eval}
 use Rattle.desk_scratch.specs.Judgement.{has_breach, is_breached, reaches_breach}
-use Rattle.desk_scratch.specs.Laws.{AreBreachesChained, BreachesNone, IsToldCompliant, ReachesNoBreach}
+use Rattle.desk_scratch.specs.Laws.{AreBreachesChained, BreachesNone, IsOfPieces, IsToldCompliant, ReachesNoBreach}
 use Rattle.desk_scratch.specs.Material.{material_text}
 use Rattle.desk_scratch.specs.MaterialBlock.{judged_words, material_block}
 use Rattle.desk_scratch.specs.Rohs.{asked_product_line, over_line, over_lines, rohs_text}
 use Rattle.desk_scratch.specs.SharedLines.{chain_line, version_line}
 use Rattle.desk_scratch.proofs.Breaches.{both, none-at, none-breached, none-reached}
 use Rattle.desk_scratch.proofs.Chained.{chained}
+use Rattle.desk_scratch.proofs.Pieces.{of_pieces}
 use Rattle.desk_scratch.proofs.LastLine.{EndsLine, compliant-last, ends-after, last-line, material_block-ends}
 
 -- an answer that is given is the text that it is made of
@@ -109,6 +110,9 @@ module _ (t : Lists) where
     rohs-means =
         subst (λ (c : List ℕ). IsToldCompliant text ↔ ReachesNoBreach t product.kind day c) part-is
         (subst (λ (x : List ℕ). IsToldCompliant x ↔ ReachesNoBreach t product.kind day product.part) text-is (rohs-told product day))
+
+    pub rohs-pieces : IsOfPieces t product day text
+    rohs-pieces = subst (IsOfPieces t product day) text-is (of_pieces t product day)
 
     pub rohs-chained : IsBill t → AreBreachesChained t product.kind day code text
     rohs-chained bill =

@@ -11,6 +11,7 @@ pub mod LastLine
 pub mod Light
 pub mod Lines
 pub mod Overs
+pub mod Pieces
 pub mod Reached
 pub mod TermsInOrder
 pub mod Years

@@ -1,12 +1,12 @@
 -- Lines that stand in several answers. Each ends with a line feed.
-use Rattle.std.specs.Prelude.{ℕ, Bool, true, false, List, ◌++◌, codes, length}
+use Rattle.std.specs.Prelude.{ℕ, Bool, true, false, List, ◌++◌, codes}
 use Rattle.std.specs.Fmt.{decimal}
 use Rattle.std.specs.List.{flat_map}
-use Rattle.desk_model.specs.Lists.{Lists}
+use Rattle.desk_model.specs.Lists.{Lists, number_at}
 
 -- `version N`: the tables' number is the number of their tickets
 unfoldable pub version_line : Lists → List ℕ
-version_line t = codes "version " ++ decimal (length t.tickets) ++ codes "\n"
+version_line t = codes "version " ++ decimal (number_at t) ++ codes "\n"
 
 -- `name NAME`
 unfoldable pub name_line : List ℕ → List ℕ
