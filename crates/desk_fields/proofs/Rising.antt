@@ -7,12 +7,7 @@ use Rattle.std.specs.Ordering.{on}
 use Rattle.std.proofs.lemmas.Bool.{and_from, and_parts, false≢true}
 use Rattle.std.proofs.lemmas.List.Folds.{list_all-map}
 use Rattle.desk_model.specs.Content.{rises}
-
--- each value is below the one behind it
-abbrev pub in_turn : {A : Type 0} → (A → A → Ordering) → List A → Bool
-in_turn order [] = true
-in_turn order (a ∷ []) = true
-in_turn order (a ∷ b ∷ rest) = is_lt (order a b) && in_turn order (b ∷ rest)
+use Rattle.desk_fields.specs.Reading.{in_turn}
 
 is_less : (o : Ordering) → is_lt o ≡ true → o ≡ Less
 is_less Less e = refl

@@ -4,8 +4,7 @@ use Rattle.std.specs.Prelude.{◌&&◌}
 use Rattle.std.specs.Ordering.{is_lt}
 use Rattle.std.specs.declared.cmp.Ordering.{Ordering}
 use Rattle.std.proofs.lemmas.List.{append-nil, drop_more}
-use Rattle.desk_fields.specs.Reading.{Reader, times}
-use Rattle.desk_fields.proofs.Rising.{in_turn}
+use Rattle.desk_fields.specs.Reading.{Reader, in_turn, times}
 
 -- what is read behind values that were read before
 abbrev pub behind : {A : Type 0} → List A → Option (List A × List (List ℕ)) → Option (List A × List (List ℕ))

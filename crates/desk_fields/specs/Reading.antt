@@ -4,6 +4,7 @@ use Rattle.std.specs.List.{slice_split}
 use Rattle.std.specs.Ordering.{is_lt}
 use Rattle.std.specs.declared.cmp.Ordering.{Ordering}
 use Rattle.desk_text.specs.Forms.{a_number}
+use Rattle.desk_model.specs.Content.{rises}
 
 -- the fields of a text
 unfoldable pub fields_of : List ℕ → List (List ℕ)
@@ -57,6 +58,12 @@ times (suc n) read fields = option_and_then (λ x. option_map (λ y. (x.0 ∷ y.
 -- a list of at most so many values, with how many there are in front
 abbrev pub counted : {A : Type 0} → ℕ → Reader A → Reader (List A)
 counted limit read fields = option_and_then (λ n. times n.0 read n.1) (one (a_number 0 limit) fields)
+
+-- each value is below the one behind it, which is what a loop over neighbours finds: in an order these are the lists that rise
+abbrev pub in_turn : {A : Type 0} → (A → A → Ordering) → List A → Bool
+in_turn order [] = true
+in_turn order (a ∷ []) = true
+in_turn order (a ∷ b ∷ rest) = is_lt (order a b) && in_turn order (b ∷ rest)
 
 -- a counted list whose values rise
 abbrev pub rising : {A : Type 0} → (A → A → Ordering) → ℕ → Reader A → Reader (List A)

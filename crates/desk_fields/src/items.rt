@@ -1,5 +1,5 @@
 ghost use Rattle.std.specs.Prelude.{◌≡◌, Err, IfOk, None, Some};
-ghost use Rattle.desk_fields.specs.Reading.{rising, times};
+ghost use Rattle.desk_fields.specs.Reading.{in_turn, rising, times};
 ghost use Rattle.desk_model.specs.Content.{rises};
 
 use crate::field_fault::FieldFault;
@@ -45,7 +45,7 @@ pub(crate) fn rising<T: Item>(
 {
     let count = fields.take_number(0, limit)?;
     let list = items(alloc, fields, count)?;
-    if in_turn(list.as_slice()) {
+    if rises(list.as_slice()) {
         Ok(list)
     } else {
         Err(FieldFault::Shape)
@@ -65,8 +65,15 @@ fn items<T: Item>(alloc: Global, fields: &mut Fields<'_>, count: u64) -> Result<
 }
 
 /// Whether the values rise.
-fn in_turn<T: Item>(list: &[T]) -> bool
+fn rises<T: Item>(list: &[T]) -> bool
     ensures { result ≡ rises T.Item.order list.now }
+{
+    in_turn(list)
+}
+
+/// Whether each value is below the one behind it.
+fn in_turn<T: Item>(list: &[T]) -> bool
+    ensures { result ≡ in_turn T.Item.order list.now }
 {
     for place in 1..list.len() {
         if list[place - 1].order(&list[place]).is_ge() {

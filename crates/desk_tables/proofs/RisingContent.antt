@@ -1,36 +1,23 @@
 -- What rises one after the other rises in all.
 use Rattle.std.proofs.Common.{◌≡◌, ℕ, zero, suc, ◌+◌, ◌-◌, ◌<◌, ◌≤◌, Bool, true, false, ◌&&◌, List, [], ◌∷◌, length, drop, get_or, is_lt, map, refl, sym, ap, arith, ◌∙◌}
 use Rattle.std.proofs.lemmas.List.{get_or_default}
-use Rattle.std.specs.Cmp.{IsTotalOrder}
 use Rattle.std.specs.Ordering.{on}
 use Rattle.std.specs.declared.cmp.Ordering.{Ordering}
 use Rattle.std.proofs.lemmas.Cmp.{nat_list_cmp_total, on_total}
-use Rattle.std.specs.Cmp.Rules.{comparing}
-use Rattle.std.proofs.Common.{rules}
 use Rattle.desk_text.specs.Code.{code_cmp}
 use Rattle.desk_law.specs.declared.claim.Claim.{Claim}
 use Rattle.desk_law.specs.Claim.{claim_cmp}
 use Rattle.desk_model.specs.declared.substance_mass.SubstanceMass.{SubstanceMass}
 use Rattle.desk_model.specs.Content.{rises}
 use Rattle.desk_fields.specs.Reading.{in_turn}
-use Rattle.desk_fields.proofs.Rising.{rises_from_turn, rises_on, turn_from_rises}
-
-both : (a b : Bool) → (a ≡ true → b ≡ true) → (b ≡ true → a ≡ true) → a ≡ b
-both true b f g = sym (f refl)
-both false true f g = g refl
-both false false f g = refl
-
-turn_is_rises : {A : Type 0} (order : A → A → Ordering) → IsTotalOrder order → (xs : List A) → in_turn order xs ≡ rises order xs
-turn_is_rises order total xs = both (in_turn order xs) (rises order xs) (rises_from_turn order total xs) (turn_from_rises order total xs)
+use Rattle.desk_model.proofs.Claims.{claim_total}
+use Rattle.desk_fields.proofs.Rising.{rises_in_turn, rises_on}
 
 pub codes_rise : (held : List SubstanceMass) → in_turn (on (λ one. one.substance) code_cmp) held ≡ rises code_cmp (map (λ one. one.substance) held)
-codes_rise held = turn_is_rises (on (λ one. one.substance) code_cmp) (on_total (λ one. one.substance) nat_list_cmp_total) held ∙ sym (rises_on (λ one. one.substance) code_cmp held)
-
-claim_order : IsTotalOrder claim_cmp
-claim_order = search (comparing, rules)
+codes_rise held = sym (rises_in_turn (on (λ one. one.substance) code_cmp) (on_total (λ one. one.substance) nat_list_cmp_total) held) ∙ sym (rises_on (λ one. one.substance) code_cmp held)
 
 pub claims_rise : (claims : List Claim) → in_turn claim_cmp claims ≡ rises claim_cmp claims
-claims_rise claims = turn_is_rises claim_cmp claim_order claims
+claims_rise claims = sym (rises_in_turn claim_cmp claim_total claims)
 
 turn_at : {A : Type 0} (order : A → A → Ordering) (xs : List A) (j : ℕ) (d : A) → suc j < length xs
     → in_turn order (drop j xs) ≡ (is_lt (order (get_or xs j d) (get_or xs (suc j) d)) && in_turn order (drop (suc j) xs))
