@@ -1,0 +1,87 @@
+"""The commands that the documents show, as tests: each is run, in the order of its document, and answers as the document says.
+
+A document's commands stand in blocks of the language `sh`. They are run by one shell in a copy of `examples/` and `scripts/`, with the
+tested program as `bin/desk`. A block without a language right behind one has what it writes, or, where it begins with `-- `, a part of
+that. The commands of `bare` are run elsewhere: the gate and these tests themselves.
+"""
+import pathlib
+import re
+import shutil
+import subprocess
+import tempfile
+
+top = pathlib.Path(__file__).resolve().parent.parent
+DOCUMENTS = ("README.md", "docs/GUIDE.md", "docs/SUPPLIERS.md", "docs/FORMATS.md", "docs/RULES.md", "docs/ARCHITECTURE.md", "docs/PROOF.md")
+BARE = re.compile(r"^(tests/run|\.ci/run|rt |scripts/)")
+# What a reader has that these commands take for granted: a table that a spreadsheet saved.
+GIVEN = {"export.csv": "examples/padded.csv"}
+
+
+def blocks_of(document):
+    """The blocks of commands, each with the block of output behind it, or None."""
+    found = re.findall(r"^```(\w*)\n(.*?)^```$", (top / document).read_text(), re.M | re.S)
+    for place, (language, text) in enumerate(found):
+        if language == "sh":
+            follows = found[place + 1] if place + 1 < len(found) else ("sh", "")
+            yield text, None if follows[0] else follows[1]
+
+
+def is_there(command):
+    """Whether the machine has what a block of commands begins with; only the tools of others may be missing."""
+    return command.split()[0] != "sqlite3" or shutil.which("sqlite3")
+
+
+def commands_of(document):
+    return [(text, wanted) for text, wanted in blocks_of(document) if not BARE.match(text) and is_there(text)]
+
+
+def lay_out(room, program):
+    """What the commands find: the examples, the scripts, and the tested program."""
+    for name in ("examples", "scripts", "docs"):
+        shutil.copytree(top / name, room / name)
+    for name, source in GIVEN.items():
+        shutil.copy(top / source, room / name)
+    (room / "bin").mkdir()
+    (room / "bin/desk").write_text('#!/bin/sh\nexec ' + " ".join(f"'{word}'" for word in program) + ' "$@"\n')
+    (room / "bin/desk").chmod(0o755)
+
+
+def fault_of(text, wanted, status, written):
+    """What is wrong with a block that was run, or None."""
+    shown = text.strip().splitlines()[0]
+    if status not in (0, 6):
+        return f"`{shown}` ends with status {status}"
+    if wanted is None or wanted == written:
+        return None
+    if wanted.startswith("-- ") and wanted in written:
+        return None
+    return f"`{shown}` writes {written[:200]!r}, and the document shows {wanted[:200]!r}"
+
+
+def document_fault(program, document):
+    """Runs the commands of a document in one shell: what is wrong, or None."""
+    commands = commands_of(document)
+    with tempfile.TemporaryDirectory(prefix="desk-test.") as folder:
+        room = pathlib.Path(folder) / "room"
+        room.mkdir()
+        lay_out(room, program)
+        lines = []
+        for place, (text, _) in enumerate(commands):
+            lines.append(f"{{\n{text}}} > {folder}/{place}.out\necho $? > {folder}/{place}.status")
+        script = pathlib.Path(folder) / "commands.sh"
+        script.write_text("\n".join(lines) + "\n")
+        subprocess.run(["bash", script], cwd=room, stdin=subprocess.DEVNULL, stderr=subprocess.DEVNULL, timeout=300)
+        for place, (text, wanted) in enumerate(commands):
+            status = pathlib.Path(folder) / f"{place}.status"
+            if not status.is_file():
+                return f"`{text.strip().splitlines()[0]}` isn't reached"
+            if fault := fault_of(text, wanted, int(status.read_text()), (pathlib.Path(folder) / f"{place}.out").read_text()):
+                return fault
+    return None
+
+
+def tests(program):
+    """The tests of all documents that show commands: a name, a function that gives what is wrong or None, and what it is given."""
+    for document in DOCUMENTS:
+        if commands_of(document):
+            yield f"{document} shows commands that do what it says", document_fault, (program, document)
