@@ -11,12 +11,12 @@ use Rattle.desk_declare.specs.Columns.{read_in}
 use Rattle.desk_declare.specs.Declaration.{declaration_in}
 use Rattle.desk_declare.specs.Examples.Rows.{FaultExamples, ReadExamples}
 use Rattle.desk_declare.specs.Faults.{declare_fault_words}
-use Rattle.desk_text.specs.Forms.{a_code, a_day, a_name, an_exemption_number}
+use Rattle.desk_text.specs.Forms.{a_code, a_day, a_name, a_number, an_exemption_number}
 use Rattle.desk_declare.specs.Forms.{a_declaration_number, a_mass, a_rule, a_substance_mass}
 
 -- what the examples compute with
 unfoldable pub examples : Bool
-unfolding a_code a_day a_declaration_number a_mass a_name a_rule a_substance_mass an_exemption_number claim_added code_of day_of declaration_in declare_fault_words digits exemption_number_of field_at material_added number_below read_in rule_code rule_number rule_of substance_added
+unfolding a_code a_day a_declaration_number a_mass a_name a_number a_rule a_substance_mass an_exemption_number claim_added code_of day_of declaration_in declare_fault_words digits exemption_number_of field_at material_added number_below read_in rule_code rule_number rule_of substance_added
 examples = true
 
 pub read_examples : ReadExamples

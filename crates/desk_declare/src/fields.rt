@@ -111,7 +111,7 @@ impl<'a> Fields<'a> {
     }
 
     /// The number in a column, from a least one to a greatest one.
-    #[tactic(auto, unfolding(crate::specs::Columns::read_in))]
+    #[tactic(auto, unfolding(crate::specs::Columns::read_in, desk_text::specs::Forms::a_number))]
     pub(crate) fn number(&self, column: u8, least: u64, greatest: u64) -> Result<u64, DeclareFault>
         requires { 1 ≤ column }
         ensures value { result ≡ read_in column (a_number least greatest) self.now.place (fields_of self.now.row.now) }

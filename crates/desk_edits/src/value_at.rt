@@ -54,7 +54,7 @@ pub(crate) fn optional<T: FromJson>(object: &Value, key: EditKey) -> Result<Opti
 }
 
 /// The name that the value of a key is, which has to be there. Memory is wanting only for a value that is a name.
-#[tactic(auto, unfolding(crate::specs::Shape::needed, crate::specs::Values::a_name))]
+#[tactic(auto, unfolding(crate::specs::Shape::needed, crate::specs::Values::a_name, desk_text::specs::Forms::a_name))]
 pub(crate) fn needed_name(alloc: Global, object: &Value, key: EditKey) -> Result<Name, JsonFault>
     ensures name { result ≢ Err JsonFault.OutOfMemory → result ≡ needed a_name key (view object.now) }
     ensures memory { result ≡ Err JsonFault.OutOfMemory → is_ok (needed a_name key (view object.now)) ≡ true }
