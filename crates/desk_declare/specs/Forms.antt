@@ -1,10 +1,6 @@
 -- What a field of a declaration may be: a text of a form, or a whole number of a range.
-use Rattle.std.specs.Prelude.{ℕ, ◌^◌, ◌-◌, ◌&&◌, if◌then◌else◌, List, nat_le, Option, None, Some, option_and_then}
-use Rattle.std.specs.Result.{result_ok}
-use Rattle.desk_text.specs.Code.{code_of, exemption_number_of}
-use Rattle.desk_text.specs.Day.{Date, day_of}
-use Rattle.desk_text.specs.Name.{name_of}
-use Rattle.desk_text.specs.Number.{number_below}
+use Rattle.std.specs.Prelude.{ℕ, ◌^◌, ◌-◌, List, Option}
+use Rattle.desk_text.specs.Forms.{a_number}
 use Rattle.desk_law.specs.declared.rule.Rule.{Rule}
 use Rattle.desk_law.specs.Rule.{rule_of}
 use Rattle.desk_model.specs.declared.limits.TheConstants.{MASS_LIMIT}
