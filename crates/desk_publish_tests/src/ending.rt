@@ -16,12 +16,13 @@ pub struct Ended {
     pub learnt: u64,
 }
 
-/// So many seats are given up before the press is closed, the others after, and a news last of all where no seat is left for it.
+/// The press is closed while so many seats are kept. The others are given up before, these after, and a news last of all where no seat
+/// is left to learn it.
 pub fn end<J: Naming<Counting>, R: Wait>(
     rt: &R,
     alloc: Global,
     blank: BlankBook<Counting>,
-    given_up: usize,
+    kept: usize,
 ) -> Result<Ended, OutOfMemory>
     requires book { blank ≡ J.book }
     requires opening { J.opening.count ≡ 0 }
@@ -34,7 +35,7 @@ pub fn end<J: Naming<Counting>, R: Wait>(
         empty(),
         SEATS,
     )?;
-    seats.truncate(SEATS - given_up);
+    seats.truncate(kept);
     let before = let_in(seats.as_mut_slice());
     write_one(rt, &mut press, 0);
     let news = press.tell();

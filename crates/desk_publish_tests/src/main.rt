@@ -65,10 +65,10 @@ fn tell_settled(rt: &impl Print, found: Result<Settled, OutOfMemory>) -> io::Res
     }
 }
 
-fn tell_end(rt: &impl Print, given_up: usize, found: Result<Ended, OutOfMemory>) -> io::Result<()> {
+fn tell_end(rt: &impl Print, kept: usize, found: Result<Ended, OutOfMemory>) -> io::Result<()> {
     match found {
         Ok(found) => println!(rt;
-            "ending: {given_up} of {SEATS} seats were given up first; {} looks before the press was closed, {} after; {} learnt",
+            "ending: {kept} of {SEATS} seats were kept; {} looks were let in before the press was closed, {} after; {} entry was learnt then",
             found.before, found.after, found.learnt
         ),
         Err(_) => println!(rt; "ending: no memory"),

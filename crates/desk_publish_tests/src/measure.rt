@@ -59,7 +59,7 @@ fn time_looks<J: Naming<Counting> + Send + Sync, R: Threads + Sync + Clock>(
     rt: &R,
     seats: &mut [Seat<Counting, J>],
 ) -> io::Result<u128> {
-    let threads = seats.len();
+    let threads = seats.len().max(1);
     let start = Instant::now(rt)?;
     for_each_mut(
         rt,
@@ -78,27 +78,42 @@ fn time_settles<J: Naming<Counting> + Send + Sync, R: Threads + Wait + Sync + Cl
     press: &mut Press<Counting, J>,
     seats: &mut [Seat<Counting, J>],
 ) -> io::Result<u128> {
-    let (threads, ended) = (seats.len(), AtomicU64::new(0));
+    let ended = AtomicU64::new(0);
     let start = Instant::now(rt)?;
     join(
         rt,
-        || {
-            for entry in 0..SETTLES {
-                write_one(rt, press, entry);
-            }
-            ended.store(1, Ordering::SeqCst);
-        },
-        || for_each_mut(
-            rt,
-            seats,
-            threads,
-            &|_, seat| for _ in rt.forever() {
-                look_once(seat);
-                if ended.load(Ordering::SeqCst) == 1 {
-                    break;
-                }
-            },
-        ),
+        || write_on(rt, press, &ended),
+        || look_on(rt, seats, &ended),
     );
     Ok(start.elapsed(rt)?.as_nanos() / SETTLES as u128)
+}
+
+fn write_on<J: Naming<Counting>, R: Wait>(
+    rt: &R,
+    press: &mut Press<Counting, J>,
+    ended: &AtomicU64,
+) {
+    for entry in 0..SETTLES {
+        write_one(rt, press, entry);
+    }
+    ended.store(1, Ordering::SeqCst);
+}
+
+fn look_on<J: Naming<Counting> + Send + Sync, R: Threads + Wait + Sync>(
+    rt: &R,
+    seats: &mut [Seat<Counting, J>],
+    ended: &AtomicU64,
+) {
+    let threads = seats.len().max(1);
+    for_each_mut(
+        rt,
+        seats,
+        threads,
+        &|_, seat| for _ in rt.forever() {
+            look_once(seat);
+            if ended.load(Ordering::SeqCst) == 1 {
+                break;
+            }
+        },
+    );
 }

@@ -1,6 +1,7 @@
 use std::sync::atomic::{AtomicU64, Ordering};
 
 /// What the looks of all seats met that may not be. Threads share it.
+#[derive(Drop)]
 pub struct Met {
     not_entered: AtomicU64,
     fell: AtomicU64,
