@@ -13,7 +13,10 @@ use std::thread::{Threads, for_each_mut, join};
 use std::time::{Clock, Instant};
 
 /// How often each thread looks.
-const LOOKS: u64 = 1_000_000;
+const LOOKS: u64 = 10_000_000;
+
+/// How often a seat looks at most while the writer publishes.
+const MOST_LOOKS: u64 = 1_000_000_000;
 
 /// How often the writer puts an entry and publishes it.
 const SETTLES: u64 = 20_000;
@@ -88,6 +91,7 @@ fn time_settles<J: Naming<Counting> + Send + Sync, R: Threads + Wait + Sync + Cl
     Ok(start.elapsed(rt)?.as_nanos() / SETTLES as u128)
 }
 
+/// Puts and publishes entries, and then tells that the writer has ended.
 fn write_on<J: Naming<Counting>, R: Wait>(
     rt: &R,
     press: &mut Press<Counting, J>,
@@ -99,7 +103,8 @@ fn write_on<J: Naming<Counting>, R: Wait>(
     ended.store(1, Ordering::SeqCst);
 }
 
-fn look_on<J: Naming<Counting> + Send + Sync, R: Threads + Wait + Sync>(
+/// Lets the seats look, each in a thread of its own, until the writer has ended.
+fn look_on<J: Naming<Counting> + Send + Sync, R: Threads + Sync>(
     rt: &R,
     seats: &mut [Seat<Counting, J>],
     ended: &AtomicU64,
@@ -109,7 +114,7 @@ fn look_on<J: Naming<Counting> + Send + Sync, R: Threads + Wait + Sync>(
         rt,
         seats,
         threads,
-        &|_, seat| for _ in rt.forever() {
+        &|_, seat| for _ in 0..MOST_LOOKS {
             look_once(seat);
             if ended.load(Ordering::SeqCst) == 1 {
                 break;

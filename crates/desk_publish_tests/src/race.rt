@@ -16,6 +16,9 @@ pub const SEATS: usize = 8;
 
 const ENTRIES: u64 = 10_000;
 
+/// So often each seat looks at most, so that the race ends also where no thread was left for the writer.
+const LOOKS: u64 = 1_000_000;
+
 /// The writer tells each time that it has published so many entries more. Between them it settles without pause.
 const TOLD: u64 = 50;
 
@@ -84,7 +87,7 @@ fn watch<J: Naming<Counting>, R: Wait>(
     ended: &AtomicU64,
     met: &Met,
 ) {
-    for _ in rt.forever() {
+    for _ in 0..LOOKS {
         let is_last = ended.load(Ordering::SeqCst) == 1;
         let known = seat.seen();
         met.note(known, look_once(seat));
