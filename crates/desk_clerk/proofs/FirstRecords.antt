@@ -142,14 +142,14 @@ read_on content after records kept agree later first so key not =
 
     by : is_past_all records key ≡ true → (a : Ordering) → key_cmp key (key_of kept) ≡ a → content key ≡ content_in (records ++ kept ∷ []) key
     by behind Less e =
-        first.1 key (agree key ∙ behind) (ap is_lt e)
+        first.0.1 key (agree key ∙ behind) (ap is_lt e)
         ∙ sym (here behind ∙ ap (λ o. option_map (λ r. r.body) (cond (is_eq o) (Some kept) None)) (key_order.antisymm (key_of kept) key ∙ ap flip e))
       where
         flip : Ordering → Ordering
         flip Less = Greater
         flip Equal = Equal
         flip Greater = Less
-    by behind Equal e = subst (λ k. content k ≡ content_in (records ++ kept ∷ []) k) (sym (one_key key (key_of kept) (ap is_eq e))) (first.0 ∙ sym (at_kept (sym e)))
+    by behind Equal e = subst (λ k. content k ≡ content_in (records ++ kept ∷ []) k) (sym (one_key key (key_of kept) (ap is_eq e))) (first.0.0 ∙ sym (at_kept (sym e)))
       where
         at_kept : Equal ≡ key_cmp key (key_of kept) → content_in (records ++ kept ∷ []) (key_of kept) ≡ Some kept.body
         at_kept s = ap (option_map (λ r. r.body)) (row_append records kept (key_of kept) (none_past records (key_of kept) past)) ∙ rw (tied_itself key_order (key_of kept)) refl

@@ -109,9 +109,12 @@ first_at : (after : Option Key) (kept : Record) (records : List Record) (b : Boo
 unfolding body_at
 first_at after kept records true past h ih =
     rw past (
-      rw (tied_itself key_order (key_of kept)) refl,
-      λ key e less.
-          ap (option_map (λ r. r.body)) (row_of-above key_of key_cmp key_order key (kept ∷ records) (is_less (key_cmp key (key_of kept)) less, AllAbove-down key_of key_cmp key_order key (key_of kept) records (is_less (key_cmp key (key_of kept)) less) (first_above key_of key_cmp key_order kept records h))),
+      (
+        rw (tied_itself key_order (key_of kept)) refl,
+        λ key e less.
+            ap (option_map (λ r. r.body)) (row_of-above key_of key_cmp key_order key (kept ∷ records) (is_less (key_cmp key (key_of kept)) less, AllAbove-down key_of key_cmp key_order key (key_of kept) records (is_less (key_cmp key (key_of kept)) less) (first_above key_of key_cmp key_order kept records h))),
+      ),
+      past,
     )
   where
     is_less : (a : Ordering) → is_lt a ≡ true → a ≡ Less
@@ -125,7 +128,7 @@ first_at after kept records false before h ih = rw before (lifted (find (λ r. i
 
     lifted : (found : Option Record) → find (λ r. is_past after (key_of r)) records ≡ found → IsFirstPast (body_at records) after found → IsFirstPast (body_at (kept ∷ records)) after found
     lifted None e rest = λ key past. same_at key past ∙ rest key past
-    lifted (Some next) e rest = (same_at (key_of next) (past_where_found after records (Some next) e) ∙ rest.0, λ key past less. same_at key past ∙ rest.1 key past less)
+    lifted (Some next) e rest = ((same_at (key_of next) (past_where_found after records (Some next) e) ∙ rest.0.0, λ key past less. same_at key past ∙ rest.0.1 key past less), rest.1)
 
 first_of : (after : Option Key) (records : List Record) → IsByKey key_of key_cmp records → IsFirstPast (body_at records) after (find (λ kept. is_past after (key_of kept)) records)
 unfolding body_at

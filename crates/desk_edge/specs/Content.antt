@@ -51,9 +51,13 @@ abbrev pub is_past : Option Key → Key → Bool
 is_past None key = true
 is_past (Some after) key = is_lt (key_cmp after key)
 
--- the record is the first that is kept past the key; where there is none, nothing is kept past it
-abbrev pub IsFirstPast : Content → Option Key → Option Record → Type 0
-IsFirstPast content after None = (key : Key) → is_past after key ≡ true → content key ≡ None
-IsFirstPast content after (Some kept) =
+-- the record is kept, and nothing is kept that lies past the key and before the record
+abbrev pub IsFirstOf : Content → Option Key → Record → Type 0
+IsFirstOf content after kept =
     (content (key_of kept) ≡ Some kept.body)
     × ((key : Key) → is_past after key ≡ true → is_lt (key_cmp key (key_of kept)) ≡ true → content key ≡ None)
+
+-- the record lies past the key, and is the first that is kept there; where there is none, nothing is kept past it
+abbrev pub IsFirstPast : Content → Option Key → Option Record → Type 0
+IsFirstPast content after None = (key : Key) → is_past after key ≡ true → content key ≡ None
+IsFirstPast content after (Some kept) = IsFirstOf content after kept × (is_past after (key_of kept) ≡ true)

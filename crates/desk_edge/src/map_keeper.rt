@@ -9,8 +9,9 @@ use crate::keep_fault::KeepFault;
 use crate::keeper::Keeper;
 use crate::key::Key;
 use crate::record::Record;
-use crate::records::{copied_all, copied_past, make_all};
+use crate::records::{copied_all, copied_past, copied_records, make_all};
 use desk_rows::Keyed;
+use desk_text::OutOfMemory;
 use std::alloc::Global;
 use std::marker::Model;
 
@@ -93,13 +94,16 @@ impl MapKeeper {
         }
     }
 
-    /// The same keeper with no fault counted.
-    pub(crate) fn without_faults(self) -> MapKeeper
-        ensures { result ≡ record self { faults = 0 } }
+    /// The same keeper once more, with no fault counted.
+    pub(crate) fn copied_without_faults(&self, alloc: Global) -> Result<MapKeeper, OutOfMemory>
+        ensures { IfOk result (λ keeper. keeper ≡ record self.now { faults = 0 }) }
     {
-        let mut keeper = self;
-        keeper.faults = 0;
-        keeper
+        Ok(MapKeeper {
+            records: copied_records(alloc, self.records.as_slice())?,
+            failing: self.failing.as_slice().to_vec(alloc)?,
+            calls: self.calls,
+            faults: 0,
+        })
     }
 
     /// Counts a call, and where it is one that fails, the fault.

@@ -56,6 +56,17 @@ pub(crate) fn copied_all(alloc: Global, batch: &[Change]) -> Result<Vec<Change>,
     Ok(copy)
 }
 
+/// The records once more.
+pub(crate) fn copied_records(alloc: Global, records: &[Record]) -> Result<Vec<Record>, OutOfMemory>
+    ensures { IfOk result (λ copy. copy.items ≡ records.now) }
+{
+    let mut copy = Vec::with_capacity(alloc, records.len())?;
+    for record in records {
+        copy.push_reserved(record.copied(alloc)?);
+    }
+    Ok(copy)
+}
+
 /// Makes all the changes, one after the other, where there is room for as many records more.
 pub(crate) fn make_all(records: &mut Vec<Record>, changes: Vec<Change>)
     requires by_key { IsByKey key_of key_cmp records.old.items }

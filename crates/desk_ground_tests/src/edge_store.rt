@@ -1,4 +1,4 @@
-ghost use Rattle.std.specs.Prelude.{◌≡◌, ℕ, List, false};
+ghost use Rattle.std.specs.Prelude.{◌≡◌, ◌≢◌, ℕ, List, true};
 ghost use Rattle.desk_edge.specs.Shelves.{is_lent};
 
 use desk_edge::{Change, KeepFault, Keeper, Key, MapKeeper, MapShelf, Record, Shelf};
@@ -135,39 +135,68 @@ fn of_changes_under_one_key_the_last_counts(rt: HostRuntime) -> Result<(), Fail>
 
 /// Whether the shelf opens the store of this name. What was lent stays so.
 fn opens(shelf: &mut MapShelf, alloc: Global, name: &[u8]) -> bool
-    ensures { (other : List ℕ) → is_lent shelf.new other ≡ false → is_lent shelf.old other ≡ false }
+    ensures { (other : List ℕ) → is_lent shelf.old other ≡ true → is_lent shelf.new other ≡ true }
 {
     shelf.open_store(alloc, name).is_ok()
 }
 
-/// Fails unless the next two openings are refused, of the store that is open and of another one, and both are counted.
-fn refuses_two(shelf: &mut MapShelf, alloc: Global) -> Result<(), Fail>
-    ensures { (other : List ℕ) → is_lent shelf.new other ≡ false → is_lent shelf.old other ≡ false }
+/// Fails unless the store that is open is opened again, the next opening is refused, and that alone is counted.
+fn refuses_one(shelf: &mut MapShelf, alloc: Global) -> Result<(), Fail>
+    ensures { (other : List ℕ) → is_lent shelf.old other ≡ true → is_lent shelf.new other ≡ true }
 {
     check(
-        !opens(shelf, alloc, b"desk"),
-        "an open store is opened again",
+        opens(shelf, alloc, b"desk"),
+        "an open store is not opened again",
     )?;
     check(
         !opens(shelf, alloc, b"other"),
         "the third opening does not fail",
     )?;
-    expect_eq(&shelf.faults(), &2)
+    expect_eq(&shelf.faults(), &1)
 }
 
-/// Fails unless a store is refused while it is open, and is opened once it is closed.
-fn opens_once(shelf: &mut MapShelf, alloc: Global) -> Result<(), Fail> {
+/// Fails unless a store is opened while it is open, an opening that is listed fails, and the store is opened once it is closed.
+fn opens_again(shelf: &mut MapShelf, alloc: Global) -> Result<(), Fail> {
     let store = shelf.open_store(alloc, b"desk")?;
-    refuses_two(shelf, alloc)?;
+    refuses_one(shelf, alloc)?;
     shelf.close_store(b"desk", store);
     check(opens(shelf, alloc, b"desk"), "a closed store is not opened")
 }
 
 #[test]
-fn a_store_that_is_open_is_not_opened_again(rt: HostRuntime) -> Result<(), Fail> {
+fn a_shelf_fails_on_its_list_alone(rt: HostRuntime) -> Result<(), Fail> {
     let failing = [3].to_vec(rt.alloc())?;
     let mut shelf = MapShelf::new(rt.alloc(), Vec::new(rt.alloc()), failing);
-    opens_once(&mut shelf, rt.alloc())
+    opens_again(&mut shelf, rt.alloc())
+}
+
+/// Puts the records into the store of this name.
+fn fills(shelf: &mut MapShelf, alloc: Global, name: &[u8]) -> Result<(), Fail>
+    ensures { (other : List ℕ) → is_lent shelf.old other ≡ true → other ≢ name.now → is_lent shelf.new other ≡ true }
+{
+    let mut store = shelf.open_store(alloc, name)?;
+    let put = put_three(&mut store, alloc);
+    shelf.close_store(name, store);
+    put?;
+    Ok(())
+}
+
+/// Fails unless each of two stores that are open together has its own records afterwards.
+fn keeps_two_apart(shelf: &mut MapShelf, alloc: Global) -> Result<(), Fail> {
+    let mut first = shelf.open_store(alloc, b"first")?;
+    let filled = fills(shelf, alloc, b"second");
+    let empty = body_past(&mut first, alloc, None);
+    shelf.close_store(b"first", first);
+    filled?;
+    expect_eq(&empty, &Ok(None))?;
+    let mut second = shelf.open_store(alloc, b"second")?;
+    gives(&mut second, alloc, None, Some("first"))
+}
+
+#[test]
+fn two_stores_are_open_together(rt: HostRuntime) -> Result<(), Fail> {
+    let mut shelf = MapShelf::new(rt.alloc(), Vec::new(rt.alloc()), Vec::new(rt.alloc()));
+    keeps_two_apart(&mut shelf, rt.alloc())
 }
 
 /// Fails unless a store that has counted a fault counts from 0 once it is opened again, and its fault is the shelf's.

@@ -19,7 +19,7 @@ use Rattle.sqlite_rules.specs.Lists.{Has}
 use Rattle.sqlite_rules.proofs.ListLemmas.{all_has, some_from}
 use Rattle.sqlite.specs.Effect.{IsDatabase}
 use Rattle.sqlite.specs.State.{State}
-use Rattle.desk_edge.specs.Content.{IsFirstPast, is_past, key_cmp, key_of}
+use Rattle.desk_edge.specs.Content.{IsFirstOf, IsFirstPast, is_past, key_cmp, key_of}
 use Rattle.desk_edge.proofs.Keys.{key_order}
 use Rattle.desk_edge.specs.declared.key.Key.{Key}
 use Rattle.desk_edge.specs.declared.record.Record.{Record}
@@ -252,7 +252,7 @@ module _ (rows : List Row) (keyed : AreKeyed rows) (after : Option Key) where
   none_past h key past = found_row key (find (is_of key.kind key.code) rows) refl (λ x there own. true≢false (sym past ∙ h key x there own))
 
   some_past : (kept : Record) (shown row : Row) → IsShown kept shown → Has rows row → shown ≡ column row 1 ∷ column row 2 ∷ column row 3 ∷ [] → IsOf (key_of kept) row
-      → ((key : Key) (x : Row) → Has rows x → IsOf key x → is_past after key ≡ true → is_lt (key_cmp key (key_of kept)) ≡ false) → IsFirstPast (content_of rows) after (Some kept)
+      → ((key : Key) (x : Row) → Has rows x → IsOf key x → is_past after key ≡ true → is_lt (key_cmp key (key_of kept)) ≡ false) → IsFirstOf (content_of rows) after kept
   some_past kept shown row is there same own least =
       let body : column row 3 ≡ Blob kept.body = sym (ap (λ r. column r 2) same) ∙ is.body in (
         ap (option_map (λ r. bytes (column r 3))) (find_only (is_of kept.kind kept.code) rows row there own (λ y has hy. keyed (key_of kept) y row has there hy own)) ∙ ap (λ v. Some (bytes v)) body,

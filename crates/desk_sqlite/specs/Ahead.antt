@@ -12,7 +12,7 @@ pub record ReadAhead : Type 0 where
   pub last : Key
   pub records : List Record
 
--- what was read ahead is what is kept past its key, one after the other
+-- what was read ahead comes next past its key
 abbrev pub GoesOn : Content → ReadAhead → Type 0
 GoesOn content ahead = AreNextPast content (Some ahead.last) ahead.records
 

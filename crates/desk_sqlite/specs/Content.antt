@@ -4,7 +4,7 @@ use Rattle.std.specs.Ordering.{is_lt}
 use Rattle.sqlite_value.specs.declared.value.Value.TheVariants.{Int, Blob}
 use Rattle.sqlite_value.specs.Order.{Row, column}
 use Rattle.sqlite_rules.specs.Lists.{Has}
-use Rattle.desk_edge.specs.Content.{Content, IsChanged, IsFirstPast, changed, is_past, key_cmp, key_of}
+use Rattle.desk_edge.specs.Content.{Content, IsChanged, IsFirstOf, IsFirstPast, changed, is_past, key_cmp, key_of}
 use Rattle.desk_edge.specs.declared.change.Change.{Change}
 use Rattle.desk_edge.specs.declared.change.Change.TheVariants.{Put}
 use Rattle.desk_edge.specs.declared.key.Key.{Key}
@@ -69,12 +69,13 @@ abbrev pub AreFirstRows : Option Key → List Row → List Row → Type 0
 AreFirstRows after rows [] = (key : Key) (x : Row) → Has rows x → IsOf key x → is_past after key ≡ false
 AreFirstRows after rows (shown ∷ more) = AreNextRows after rows (shown ∷ more)
 
--- the records are those that are kept past the key, one after the other
+-- each of the records is kept, and nothing is kept that lies past the one before it, or past the key, and before the record. That it lies
+-- there itself is looked at as it is given
 abbrev pub AreNextPast : Content → Option Key → List Record → Type 0
 AreNextPast content after [] = Unit {0}
-AreNextPast content after (kept ∷ more) = IsFirstPast content after (Some kept) × AreNextPast content (Some (key_of kept)) more
+AreNextPast content after (kept ∷ more) = IsFirstOf content after kept × AreNextPast content (Some (key_of kept)) more
 
--- nothing is kept past the key, or these are the first records that are
+-- nothing is kept past the key, or these records come next
 abbrev pub AreFirstPast : Content → Option Key → List Record → Type 0
 AreFirstPast content after [] = IsFirstPast content after None
 AreFirstPast content after (kept ∷ more) = AreNextPast content after (kept ∷ more)

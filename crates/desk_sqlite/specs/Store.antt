@@ -26,6 +26,10 @@ pub record IsStore (s : State) : Type 0 where
 abbrev pub Suits : State → Type 0
 Suits s = HasCleanDisk s → IsTrue s.is_open → IsStore s
 
+-- a keeper tells what the rows keep: it found the database to be a store, the disk is clean and the connection open
+abbrev pub IsTold : Bool → State → Type 0
+IsTold is_ours s = (is_ours ≡ true) × HasCleanDisk s × IsTrue s.is_open
+
 -- nothing is kept for the kind and the code, and for each other as before
 abbrev pub Dropped : ℕ → List ℕ → List Row → List Row → Type 0
 Dropped kind code old new = (k : ℕ) (c : List ℕ) → body_of new k c ≡ (if same_key kind code k c then None else body_of old k c)

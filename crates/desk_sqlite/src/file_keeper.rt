@@ -131,6 +131,8 @@ impl<D: Disk + Drop> Keeper for FileKeeper<D> {
         ensures never_falls { self.old.keeper.faults ≤ self.new.keeper.faults }
         ensures steady { result ≢ Err KeepFault.Failed → self.new.keeper.faults ≡ self.old.keeper.faults }
         ensures failed { IsErrOf result KeepFault.Failed → Rose self.old.keeper.faults self.new.keeper.faults }
+        ensures ours { self.new.keeper.is_ours ≡ self.old.keeper.is_ours }
+        ensures ready { self.new.keeper.is_ready ≡ self.old.keeper.is_ready }
 
         // The record is the first that the keeper within has past the key, where that one tells.
         ensures within_told { ⟦<SqlKeeper<FileStore<D>> as Keeper>⟧.Tells self.new.keeper → ⟦<SqlKeeper<FileStore<D>> as Keeper>⟧.Tells self.old.keeper }
@@ -149,6 +151,8 @@ impl<D: Disk + Drop> Keeper for FileKeeper<D> {
         ensures never_falls { self.old.keeper.faults ≤ self.new.keeper.faults }
         ensures steady { result ≢ Err KeepFault.Failed → self.new.keeper.faults ≡ self.old.keeper.faults }
         ensures failed { IsErrOf result KeepFault.Failed → Rose self.old.keeper.faults self.new.keeper.faults }
+        ensures ours { self.new.keeper.is_ours ≡ self.old.keeper.is_ours }
+        ensures ready { self.new.keeper.is_ready ≡ self.old.keeper.is_ready }
 
         // The changes are made in the keeper within, or none of them, where that one tells.
         ensures within_told { ⟦<SqlKeeper<FileStore<D>> as Keeper>⟧.Tells self.new.keeper → ⟦<SqlKeeper<FileStore<D>> as Keeper>⟧.Tells self.old.keeper }

@@ -1,9 +1,10 @@
-ghost use Rattle.std.specs.Prelude.{◌≡◌, ◌≢◌, ◌≤◌, false, true, Err, IfOk, OnOk, IsErrOf, IsTrue};
+ghost use Rattle.std.specs.Prelude.{◌≡◌, ◌≢◌, ◌≤◌, false, true, Err, IfOk, IfSome, OnErr, OnOk, IsErrOf, IsTrue, option_copied};
 ghost use Rattle.sqlite.specs.Held.{state};
 ghost use Rattle.sqlite.specs.State.{HasCleanDisk};
+ghost use Rattle.desk_edge.specs.Content.{IsChanged, IsFirstPast, IsSame, is_past, key_of};
 ghost use Rattle.desk_edge.specs.Faults.{Rose};
-ghost use Rattle.desk_sqlite.specs.Content.{content_of};
-ghost use Rattle.desk_sqlite.specs.Store.{KeepsRows, rows_in};
+ghost use Rattle.desk_sqlite.specs.Content.{AreMade, content_of};
+ghost use Rattle.desk_sqlite.specs.Store.{IsStore, IsTold, KeepsRows, Suits, rows_in};
 
 use crate::ahead::Ahead;
 use crate::commit::commit_all;
@@ -181,7 +182,7 @@ impl<S: Alter + Drop> SqlKeeper<S> {
 impl<S: Alter> Keeper for SqlKeeper<S> {
     ghost faults = { λ k. k.faults };
 
-    ghost Tells = { λ k. (k.is_ours ≡ true) × HasCleanDisk (state S.Store k.connection) × IsTrue (state S.Store k.connection).is_open };
+    ghost Tells = { λ k. IsTold k.is_ours (state S.Store k.connection) };
 
     ghost content = { λ k. content_of (rows_in (state S.Store k.connection)) };
 
@@ -189,7 +190,19 @@ impl<S: Alter> Keeper for SqlKeeper<S> {
         &mut self,
         alloc: Global,
         after: Option<&Key>,
-    ) -> Result<Option<Record>, KeepFault> {
+    ) -> Result<Option<Record>, KeepFault>
+        ensures told { IsTold self.new.is_ours (state S.Store self.new.connection) → IsTold self.old.is_ours (state S.Store self.old.connection) }
+        ensures stays { IsTold self.new.is_ours (state S.Store self.new.connection)
+            → IsSame (content_of (rows_in (state S.Store self.old.connection))) (content_of (rows_in (state S.Store self.new.connection))) }
+        ensures gives { IfOk result (λ found. IsTold self.new.is_ours (state S.Store self.new.connection)
+            → IsFirstPast (content_of (rows_in (state S.Store self.new.connection))) (option_copied after.entry) found) }
+        ensures later { IfOk result (λ found. IfSome found (λ kept. is_past (option_copied after.entry) (key_of kept) ≡ true)) }
+        ensures never_falls { self.old.faults ≤ self.new.faults }
+        ensures steady { result ≢ Err KeepFault.Failed → self.new.faults ≡ self.old.faults }
+        ensures failed { IsErrOf result KeepFault.Failed → Rose self.old.faults self.new.faults }
+        ensures ours { self.new.is_ours ≡ self.old.is_ours }
+        ensures ready { self.new.is_ready ≡ self.old.is_ready }
+    {
         if !self.is_ready {
             return Err(self.fault());
         }
@@ -208,7 +221,23 @@ impl<S: Alter> Keeper for SqlKeeper<S> {
         }
     }
 
-    fn commit(&mut self, _alloc: Global, batch: &[Change]) -> Result<(), KeepFault> {
+    fn commit(&mut self, _alloc: Global, batch: &[Change]) -> Result<(), KeepFault>
+        ensures told { IsTold self.new.is_ours (state S.Store self.new.connection) → IsTold self.old.is_ours (state S.Store self.old.connection) }
+        ensures ok { OnOk result (IsTold self.new.is_ours (state S.Store self.new.connection)
+            → IsChanged batch.now (content_of (rows_in (state S.Store self.old.connection))) (content_of (rows_in (state S.Store self.new.connection)))) }
+        ensures err { OnErr result (IsTold self.new.is_ours (state S.Store self.new.connection)
+            → IsSame (content_of (rows_in (state S.Store self.old.connection))) (content_of (rows_in (state S.Store self.new.connection)))) }
+        ensures never_falls { self.old.faults ≤ self.new.faults }
+        ensures steady { result ≢ Err KeepFault.Failed → self.new.faults ≡ self.old.faults }
+        ensures failed { IsErrOf result KeepFault.Failed → Rose self.old.faults self.new.faults }
+        ensures ours { self.new.is_ours ≡ self.old.is_ours }
+        ensures ready { self.new.is_ready ≡ self.old.is_ready }
+
+        // Ok comes only where the batch was committed, also where the keeper doesn't tell what it keeps.
+        ensures open { OnOk result (HasCleanDisk (state S.Store self.new.connection) → IsTrue (state S.Store self.new.connection).is_open) }
+        ensures made { OnOk result (Suits (state S.Store self.old.connection) → HasCleanDisk (state S.Store self.new.connection)
+            → IsStore (state S.Store self.new.connection) × AreMade batch.now (rows_in (state S.Store self.old.connection)) (rows_in (state S.Store self.new.connection))) }
+    {
         if !self.is_ready {
             return Err(self.fault());
         }

@@ -1,28 +1,37 @@
-ghost use Rattle.std.specs.Prelude.{◌≡◌, ◌≢◌, ◌<◌, ◌≤◌, ℕ, List, Err, IsErrOf, IfOk, None, true};
+ghost use Rattle.std.specs.Prelude.{◌≡◌, ◌≢◌, ◌<◌, ◌≤◌, ℕ, List, [], Err, IsErrOf, IfOk, None, true};
 ghost use Rattle.desk_edge.specs.Content.{IsSame};
 ghost use Rattle.desk_edge.specs.Faults.{Rose};
+ghost use Rattle.desk_edge.specs.Shelves.{is_among};
 
 use crate::file_keeper::FileKeeper;
-use desk_edge::{KeepFault, Shelf};
+use desk_edge::{KeepFault, Lent, Shelf};
 use sqlite::File;
 use std::alloc::Global;
 use std::rt::HostRuntime;
 
-/// The stores that lie in files, the name of a store being the path of its file.
+/// The stores that lie in files, the name of a store being the path of its file. A store that is lent isn't opened again.
 ///
 /// It tells nothing of what the files keep, as [`FileKeeper`] says.
 #[derive(Drop)]
 pub struct SqlShelf {
     rt: HostRuntime,
+    lent: Lent,
     faults: u64,
+    count: u64,
 }
 
 impl SqlShelf {
-    /// A shelf with no fault counted.
+    /// A shelf with no fault counted and no store lent.
     pub fn new(rt: HostRuntime) -> SqlShelf
-        ensures { result.faults ≡ 0 }
+        ensures { (result.faults ≡ 0) × (result.lent ≡ []) }
     {
-        SqlShelf { rt, faults: 0 }
+        let lent = Lent::new(rt.alloc());
+        SqlShelf {
+            rt,
+            lent,
+            faults: 0,
+            count: 0,
+        }
     }
 
     /// How many faults were counted.
@@ -33,20 +42,41 @@ impl SqlShelf {
     }
 }
 
+/// The store in the file at the path, which is entered among those that are lent.
+fn open_and_lend(rt: &HostRuntime, lent: &mut Lent, path: &[u8]) -> Result<FileKeeper<File>, KeepFault>
+    ensures fresh { IfOk result (λ store. store.keeper.faults ≡ 0) }
+    ensures lent { IfOk result (λ store. is_among lent.new path.now ≡ true) }
+    ensures lends { (other : List ℕ) → is_among lent.old other ≡ true → is_among lent.new other ≡ true }
+    ensures ours { IfOk result (λ store. store.keeper.is_ours ≡ true) }
+{
+    if lent.has(path) {
+        return Err(KeepFault::Failed);
+    }
+    let store = FileKeeper::open(rt, path)?;
+    if lent.enter(rt.alloc(), path).is_err() {
+        store.close();
+        return Err(KeepFault::OutOfMemory);
+    }
+    Ok(store)
+}
+
 impl Shelf for SqlShelf {
     type Store = FileKeeper<File>;
 
     ghost faults = { λ s. s.faults };
 
-    ghost IsLent = { λ s name. Unit {0} };
+    ghost IsLent = { λ s name. is_among s.lent name ≡ true };
 
     ghost Tells = { λ s name. ⊥ };
 
     ghost content = { λ s name key. None };
 
+    ghost count = { λ s name. s.count };
+
     fn open_store(&mut self, _alloc: Global, name: &[u8]) -> Result<FileKeeper<File>, KeepFault>
         ensures fresh { IfOk result (λ store. store.keeper.faults ≡ 0) }
-        ensures lent { IfOk result (λ store. Unit {0}) }
+        ensures lent { IfOk result (λ store. is_among self.new.lent name.now ≡ true) }
+        ensures lends { (other : List ℕ) → is_among self.old.lent other ≡ true → is_among self.new.lent other ≡ true }
         ensures told { IfOk result (λ store. ⊥ → ⊥ × IsSame (λ key. None) (λ key. None)) }
         ensures others { (other : List ℕ) → ⊥ → ⊥ × IsSame (λ key. None) (λ key. None) }
         ensures never_falls { self.old.faults ≤ self.new.faults }
@@ -56,7 +86,7 @@ impl Shelf for SqlShelf {
         // A database that isn't the one table of a store isn't opened as one.
         ensures ours { IfOk result (λ store. store.keeper.is_ours ≡ true) }
     {
-        match FileKeeper::open(&self.rt, name) {
+        match open_and_lend(&self.rt, &mut self.lent, name) {
             Ok(store) => Ok(store),
             Err(KeepFault::OutOfMemory) => Err(KeepFault::OutOfMemory),
             Err(KeepFault::Failed) => {
@@ -66,10 +96,10 @@ impl Shelf for SqlShelf {
         }
     }
 
-    fn close_store(&mut self, _name: &[u8], store: FileKeeper<File>) {
-        if store.faults() > 0 {
-            self.faults = self.faults.saturating_add(1);
-        }
+    fn close_store(&mut self, name: &[u8], store: FileKeeper<File>) {
+        self.lent.take(name);
+        self.count = store.faults();
+        self.faults = self.faults.saturating_add(u64::from(self.count > 0));
         store.close();
     }
 }
