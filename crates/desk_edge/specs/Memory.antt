@@ -18,8 +18,9 @@ pub record Memory : Type 0 where
   pub failing : List ℕ
   -- how many calls were made, counted up to the last value of the count
   pub calls : ℕ
-  -- how many of them failed, counted in the same way
+  -- how many of them failed, and how many of those were reads, counted in the same way
   pub faults : ℕ
+  pub read_faults : ℕ
 
 -- whether the next call is one of those that fail
 abbrev pub fails_next : Memory → Bool
@@ -44,7 +45,7 @@ read_answer m len = if fails_next m then Err (record {}) else Ok (read_len m len
 -- the link after a read into a buffer of this length
 abbrev pub after_read : Memory → ℕ → Memory
 after_read m len =
-    if fails_next m then after_fault m
+    if fails_next m then record (after_fault m) { read_faults = counted m.read_faults }
     else record m { calls = counted m.calls; unread = drop (read_len m len) m.unread }
 
 -- a buffer after a read: the bytes that were given, and behind them what it held

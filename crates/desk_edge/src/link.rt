@@ -6,12 +6,15 @@ use crate::failed::Failed;
 
 /// A stream of bytes in and a stream of bytes out, such as a terminal, a pipe or a connection.
 ///
-/// A link counts its faults, and may tell the bytes that it has left to give and those that it
+/// A link counts its faults, those of reads also by themselves, and may tell the bytes that it has left to give and those that it
 /// has taken: in memory it does, over a real file it doesn't. What a call doesn't concern stays
 /// equal, so that what is told before is told afterwards.
 pub trait Link {
     // How many faults were counted so far. The count never falls.
     ghost faults: { Self → ℕ };
+
+    // How many of these faults were of reads, counted in the same way.
+    ghost read_faults: { Self → ℕ };
 
     // The bytes that reads will give, where the link tells them.
     ghost unread: { Self → Option (List ℕ) };
@@ -30,7 +33,9 @@ pub trait Link {
         ensures output_stays { written self.new ≡ written self.old }
         ensures never_falls { faults self.old ≤ faults self.new }
         ensures steady { OnOk result (faults self.new ≡ faults self.old) }
-        ensures failed { OnErr result (Rose (faults self.old) (faults self.new)) };
+        ensures failed { OnErr result (Rose (faults self.old) (faults self.new)) }
+        ensures read_steady { OnOk result (read_faults self.new ≡ read_faults self.old) }
+        ensures read_failed { OnErr result (Rose (read_faults self.old) (read_faults self.new)) };
 
     /// Takes bytes from the front of the piece, and answers how many: at least one of a piece that
     /// isn't empty.
@@ -41,6 +46,7 @@ pub trait Link {
         ensures some { IfOk result (λ n. 0 < length piece.now → 0 < n) }
         ensures takes { WriteAppends (written self.old) (written self.new) result piece.now }
         ensures input_stays { unread self.new ≡ unread self.old }
+        ensures reads_stay { read_faults self.new ≡ read_faults self.old }
         ensures never_falls { faults self.old ≤ faults self.new }
         ensures steady { OnOk result (faults self.new ≡ faults self.old) }
         ensures failed { OnErr result (Rose (faults self.old) (faults self.new)) };

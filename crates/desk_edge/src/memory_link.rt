@@ -21,6 +21,7 @@ pub struct MemoryLink {
     failing: Vec<u64>,
     calls: u64,
     faults: u64,
+    read_faults: u64,
 }
 
 // Written out, so that a function that owns one does not prove anew how each part is dropped.
@@ -35,6 +36,7 @@ impl Drop for MemoryLink {
             failing: _,
             calls: _,
             faults: _,
+            read_faults: _,
         } = self;
     }
 }
@@ -53,6 +55,7 @@ impl Model for MemoryLink {
       failing = m.failing.items;
       calls = m.calls;
       faults = m.faults;
+      read_faults = m.read_faults;
     } };
 
     ghost invariant = { λ m.
@@ -79,6 +82,7 @@ impl MemoryLink {
           failing = failing.items;
           calls = 0;
           faults = 0;
+          read_faults = 0;
         }) }
     {
         let written = Vec::with_capacity(alloc, room)?;
@@ -91,6 +95,7 @@ impl MemoryLink {
             failing,
             calls: 0,
             faults: 0,
+            read_faults: 0,
         })
     }
 
@@ -105,6 +110,8 @@ impl MemoryLink {
 impl Link for MemoryLink {
     ghost faults = { λ m. m.faults };
 
+    ghost read_faults = { λ m. m.read_faults };
+
     ghost unread = { λ m. Some m.unread };
 
     ghost written = { λ m. Some m.written };
@@ -116,6 +123,8 @@ impl Link for MemoryLink {
         ensures never_falls { self.old.faults ≤ self.new.faults }
         ensures steady { OnOk result (self.new.faults ≡ self.old.faults) }
         ensures failed { OnErr result (Rose self.old.faults self.new.faults) }
+        ensures read_steady { OnOk result (self.new.read_faults ≡ self.old.read_faults) }
+        ensures read_failed { OnErr result (Rose self.old.read_faults self.new.read_faults) }
         ensures answer { result ≡ read_answer self.old (length into.old) }
         ensures after { self.new ≡ after_read self.old (length into.old) }
         ensures buffer { into.new ≡ filled self.old into.old }
@@ -123,6 +132,7 @@ impl Link for MemoryLink {
         self.calls = self.calls.saturating_add(1);
         if self.failing.contains(&self.calls) {
             self.faults = self.faults.saturating_add(1);
+            self.read_faults = self.read_faults.saturating_add(1);
             return Err(Failed);
         }
         let (_, left) = self.input.as_slice().split_at(self.at);
@@ -137,6 +147,7 @@ impl Link for MemoryLink {
         ensures some { IfOk result (λ n. 0 < length piece.now → 0 < n) }
         ensures takes { WriteAppends (Some self.old.written) (Some self.new.written) result piece.now }
         ensures input_stays { Some self.new.unread ≡ Some self.old.unread }
+        ensures reads_stay { self.new.read_faults ≡ self.old.read_faults }
         ensures never_falls { self.old.faults ≤ self.new.faults }
         ensures steady { OnOk result (self.new.faults ≡ self.old.faults) }
         ensures failed { OnErr result (Rose self.old.faults self.new.faults) }

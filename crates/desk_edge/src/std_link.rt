@@ -15,6 +15,7 @@ pub struct StdLink<I, O> {
     input: I,
     output: O,
     faults: u64,
+    read_faults: u64,
 }
 
 impl<I: Read, O: Write> StdLink<I, O> {
@@ -23,11 +24,13 @@ impl<I: Read, O: Write> StdLink<I, O> {
         ensures input { ⟦<StdLink<I, O> as Link>⟧.unread result ≡ I.remaining input }
         ensures output { ⟦<StdLink<I, O> as Link>⟧.written result ≡ O.contents output }
         ensures count { ⟦<StdLink<I, O> as Link>⟧.faults result ≡ 0 }
+        ensures read_count { ⟦<StdLink<I, O> as Link>⟧.read_faults result ≡ 0 }
     {
         StdLink {
             input,
             output,
             faults: 0,
+            read_faults: 0,
         }
     }
 
@@ -35,6 +38,7 @@ impl<I: Read, O: Write> StdLink<I, O> {
     fn refused(&mut self) -> Failed
         ensures input_stays { self.new.input ≡ self.old.input }
         ensures output_stays { self.new.output ≡ self.old.output }
+        ensures reads_stay { self.new.read_faults ≡ self.old.read_faults }
         ensures never_falls { self.old.faults ≤ self.new.faults }
         ensures counted { self.new.faults ≡ counted self.old.faults }
     {
@@ -46,6 +50,8 @@ impl<I: Read, O: Write> StdLink<I, O> {
 impl<I: Read, O: Write> Link for StdLink<I, O> {
     ghost faults = { λ link. link.faults };
 
+    ghost read_faults = { λ link. link.read_faults };
+
     ghost unread = { λ link. I.remaining link.input };
 
     ghost written = { λ link. O.contents link.output };
@@ -53,7 +59,10 @@ impl<I: Read, O: Write> Link for StdLink<I, O> {
     fn read(&mut self, into: &mut [u8]) -> Result<usize, Failed> {
         match self.input.read(into) {
             Ok(n) => Ok(n),
-            Err(_) => Err(self.refused()),
+            Err(_) => {
+                self.read_faults = self.read_faults.saturating_add(1);
+                Err(self.refused())
+            }
         }
     }
 

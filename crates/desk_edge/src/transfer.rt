@@ -62,6 +62,8 @@ pub fn read_up_to<L: Link>(alloc: Global, link: &mut L, limit: usize) -> Result<
     ensures never_falls { L.faults link.old ≤ L.faults link.new }
     ensures steady { result ≢ Err ReadFault.Failed → L.faults link.new ≡ L.faults link.old }
     ensures failed { IsErrOf result ReadFault.Failed → Rose (L.faults link.old) (L.faults link.new) }
+    ensures read_steady { result ≢ Err ReadFault.Failed → L.read_faults link.new ≡ L.read_faults link.old }
+    ensures read_failed { IsErrOf result ReadFault.Failed → Rose (L.read_faults link.old) (L.read_faults link.new) }
 {
     let mut bytes = Bytes::start(alloc);
     let mut chunk = [0; CHUNK];
@@ -84,6 +86,7 @@ pub fn write_all<L: Link>(link: &mut L, bytes: &[u8]) -> Result<(), Failed>
     ensures err { OnErr result (AppendsPart (L.written link.old) (L.written link.new) bytes.now) }
     ensures beginning { AppendsBeginning (L.written link.old) (L.written link.new) bytes.now }
     ensures input_stays { L.unread link.new ≡ L.unread link.old }
+    ensures reads_stay { L.read_faults link.new ≡ L.read_faults link.old }
     ensures never_falls { L.faults link.old ≤ L.faults link.new }
     ensures steady { OnOk result (L.faults link.new ≡ L.faults link.old) }
     ensures failed { OnErr result (Rose (L.faults link.old) (L.faults link.new)) }

@@ -1,4 +1,5 @@
 pub mod Bytes
+mod ExampleProofs
 pub mod KindForms
 pub mod KindItems
 pub mod Members

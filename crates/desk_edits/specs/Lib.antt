@@ -1,4 +1,5 @@
 pub mod Edit
+pub mod Examples
 pub mod Faults
 pub mod Keys
 pub mod Shape

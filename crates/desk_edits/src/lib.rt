@@ -2,6 +2,7 @@
 #![tactic(auto)]
 
 mod edit_key;
+pub mod examples;
 mod from_json;
 mod json_fault;
 mod kinds;

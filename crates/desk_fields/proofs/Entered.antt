@@ -206,9 +206,9 @@ never_bad d start fault form begins entered =
     not_both d fault (sym (ap (materials_entered d.materials) (ok_inside start (declaration_start d.supplier d.number d.day) begins) ∙ all_entered d form) ∙ entered other))
 
 -- a fault that is handed on
-pub handed_on : {T : Type 0} (r : Result T FieldFault) (fault : FieldFault) → IsErrAnd r (λ e. e ≡ fault) → r ≡ Err Shape → fault ≡ Shape
+pub handed_on : {T : Type 0} {told : FieldFault} (r : Result T FieldFault) (fault : FieldFault) → IsErrAnd r (λ e. e ≡ fault) → r ≡ Err told → fault ≡ told
 handed_on (Ok x) fault is e = absurd is
-handed_on {T} (Err f) fault is e = sym is ∙ inside f e
+handed_on {T} {told} (Err f) fault is e = sym is ∙ inside f e
   where
-    inside : (f : FieldFault) → ◌≡◌ {A = Result T FieldFault} (Err f) (Err Shape) → f ≡ Shape
+    inside : (f : FieldFault) → ◌≡◌ {A = Result T FieldFault} (Err f) (Err told) → f ≡ told
     inside f e = cc

@@ -226,3 +226,15 @@ handed_row {T} (Err f) fault is e = by fault (sym is ∙ inside f e)
     by : (fault : FieldFault) → row_fault_of fault ≡ row.Shape → fault ≡ Shape
     by Shape e = refl
     by OutOfMemory e = cc
+
+-- want of memory that is handed on as that of a row's text
+pub handed_memory : {T : Type 0} (r : Result T RowFault) (fault : FieldFault) → IsErrAnd r (λ e. e ≡ row_fault_of fault) → r ≡ Err row.OutOfMemory → fault ≡ OutOfMemory
+handed_memory (Ok x) fault is e = absurd is
+handed_memory {T} (Err f) fault is e = by fault (sym is ∙ inside f e)
+  where
+    inside : (f : RowFault) → ◌≡◌ {A = Result T RowFault} (Err f) (Err row.OutOfMemory) → f ≡ row.OutOfMemory
+    inside f e = cc
+
+    by : (fault : FieldFault) → row_fault_of fault ≡ row.OutOfMemory → fault ≡ OutOfMemory
+    by Shape e = cc
+    by OutOfMemory e = refl

@@ -1,5 +1,5 @@
 -- The text of a row of any table, apart from the table's number and the row's code.
-use Rattle.std.specs.Prelude.{◌≡◌, ◌⊎◌, ℕ, true, List, [], ◌∷◌, ◌++◌, codes, decimal, drop}
+use Rattle.std.specs.Prelude.{◌≡◌, ◌⊎◌, ◌||◌, ◌==◌, ℕ, Bool, true, List, [], ◌∷◌, ◌++◌, codes, decimal, drop}
 use Rattle.desk_text.specs.Day.{date_text}
 use Rattle.desk_law.specs.Kind.{kind_code}
 use Rattle.desk_model.specs.declared.row.Row.{Row}
@@ -73,6 +73,10 @@ pub record IsRowOf (table : ℕ) (code body : List ℕ) (row : Row) : Type 0 whe
   pub of_table : table ≡ table_number row
   pub has_code : code ≡ record_code row
   pub has_body : body ≡ body_text row
+
+-- rows of the table hold texts or lists, for which memory is taken as they are read: names, what a material holds, the text of an edit
+unfoldable pub has_texts : ℕ → Bool
+has_texts table = (table == 1) || (table == 3) || (table == 4) || (table == 7) || (table == 10)
 
 -- the first field of a text is the version
 abbrev pub HasVersion : List ℕ → Type 0

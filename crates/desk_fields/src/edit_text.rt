@@ -1,9 +1,10 @@
-ghost use Rattle.std.specs.Prelude.{◌≡◌, Err, false, IfOk, is_some, MatchBool, OnOk, true, drop, codes};
+ghost use Rattle.std.specs.Prelude.{◌≡◌, Err, false, IfErr, IfOk, is_some, MatchBool, OnOk, true, drop, codes};
 ghost use Rattle.desk_model.specs.declared.edit.Edit.{Edit};
 ghost use Rattle.desk_model.specs.EditText.{edit_text, ticket_code};
 ghost use Rattle.desk_model.specs.Forms.{is_edit_in_form};
-ghost use Rattle.desk_fields.specs.EditTexts.{IsEditOf, IsEditText};
+ghost use Rattle.desk_fields.specs.EditTexts.{IsEditOf, IsEditText, begins_with_texts};
 ghost use Rattle.desk_fields.specs.EditReading.{edit_of, ticket_in};
+ghost use Rattle.desk_fields.specs.Reading.{fields_of};
 
 use crate::TextFault;
 use crate::edits::edit_of;
@@ -29,9 +30,10 @@ pub fn read_edit_text(alloc: Global, code: &[u8], text: &[u8]) -> Result<Edit, T
     }
 }
 
-/// Whether the bytes are the text of an edit, under whichever ticket.
+/// Whether the bytes are the text of an edit, under whichever ticket. Memory is wanting only behind the word of an edit that holds texts.
 pub fn is_edit_text(alloc: Global, text: &[u8]) -> Result<bool, OutOfMemory>
-    ensures { IfOk result (λ is. MatchBool is (IsEditText text.now) (IsEditText text.now → ⊥)) }
+    ensures is { IfOk result (λ is. MatchBool is (IsEditText text.now) (IsEditText text.now → ⊥)) }
+    ensures memory { IfErr result (λ _. begins_with_texts (fields_of text.now) ≡ true) }
 {
     match edit_of(alloc, no_ticket(), text) {
         Ok(edit) => {
@@ -47,6 +49,7 @@ pub fn is_edit_text(alloc: Global, text: &[u8]) -> Result<bool, OutOfMemory>
 pub(crate) fn check_edit_text(alloc: Global, text: &[u8]) -> Result<(), FieldFault>
     ensures ok { OnOk result (is_some (edit_of (codes "D") text.now) ≡ true) }
     ensures shape { result ≡ Err FieldFault.Shape → is_some (edit_of (codes "D") text.now) ≡ false }
+    ensures memory { result ≡ Err FieldFault.OutOfMemory → begins_with_texts (fields_of text.now) ≡ true }
 {
     drop(edit_of(alloc, no_ticket(), text)?);
     Ok(())

@@ -1,5 +1,7 @@
-ghost use Rattle.std.specs.Prelude.{◌≡◌, Err, IfOk, None, Some};
+ghost use Rattle.std.specs.Prelude.{◌≡◌, ◌≢◌, Err, IfOk, None, Some, true};
 ghost use Rattle.desk_fields.specs.EditReading.{edit_by, edit_in, edit_of};
+ghost use Rattle.desk_fields.specs.EditTexts.{begins_with_texts, has_texts};
+ghost use Rattle.desk_fields.specs.Reading.{fields_of};
 ghost use Rattle.desk_model.specs.declared.edit_word.EditWord.TheVariants as word;
 
 use crate::declaration::read_declaration;
@@ -15,6 +17,7 @@ use std::alloc::Global;
 pub(crate) fn edit_of(alloc: Global, ticket: Code, text: &[u8]) -> Result<Edit, FieldFault>
     ensures ok { IfOk result (λ edit. edit_of ticket text.now ≡ Some edit) }
     ensures shape { result ≡ Err FieldFault.Shape → edit_of ticket text.now ≡ None }
+    ensures memory { result ≡ Err FieldFault.OutOfMemory → begins_with_texts (fields_of text.now) ≡ true }
 {
     let mut fields = Fields::of(text);
     let edit = edit(alloc, ticket, &mut fields)?;
@@ -23,17 +26,18 @@ pub(crate) fn edit_of(alloc: Global, ticket: Code, text: &[u8]) -> Result<Edit, 
 }
 
 /// The edit that the fields begin with.
-#[tactic(auto, unfolding(crate::specs::EditReading::edit_in))]
+#[tactic(auto, unfolding(crate::specs::EditReading::edit_in, crate::specs::EditTexts::begins_with_texts))]
 fn edit(alloc: Global, ticket: Code, fields: &mut Fields<'_>) -> Result<Edit, FieldFault>
     ensures ok { IfOk result (λ edit. edit_in ticket fields.old ≡ Some (edit, fields.new)) }
     ensures shape { result ≡ Err FieldFault.Shape → edit_in ticket fields.old ≡ None }
+    ensures memory { result ≡ Err FieldFault.OutOfMemory → begins_with_texts fields.old ≡ true }
 {
     let word = fields.take()?;
     edit_by(alloc, ticket, word, fields)
 }
 
 /// The edit of a word.
-#[tactic(auto, unfolding(crate::specs::EditReading::edit_by))]
+#[tactic(auto, unfolding(crate::specs::EditReading::edit_by, crate::specs::EditTexts::has_texts))]
 fn edit_by(
     alloc: Global,
     ticket: Code,
@@ -42,6 +46,7 @@ fn edit_by(
 ) -> Result<Edit, FieldFault>
     ensures ok { IfOk result (λ edit. edit_by ticket word fields.old ≡ Some (edit, fields.new)) }
     ensures shape { result ≡ Err FieldFault.Shape → edit_by ticket word fields.old ≡ None }
+    ensures memory { result ≡ Err FieldFault.OutOfMemory → has_texts word ≡ true }
 {
     match word {
         EditWord::Substance => substance(alloc, ticket, fields),
@@ -80,6 +85,7 @@ fn substance(alloc: Global, ticket: Code, fields: &mut Fields<'_>) -> Result<Edi
 fn member(ticket: Code, fields: &mut Fields<'_>) -> Result<Edit, FieldFault>
     ensures ok { IfOk result (λ edit. edit_by ticket word.Member fields.old ≡ Some (edit, fields.new)) }
     ensures shape { result ≡ Err FieldFault.Shape → edit_by ticket word.Member fields.old ≡ None }
+    ensures memory { result ≢ Err FieldFault.OutOfMemory }
 {
     Ok(Edit::Member {
         ticket,
@@ -108,6 +114,7 @@ fn part(alloc: Global, ticket: Code, fields: &mut Fields<'_>) -> Result<Edit, Fi
 fn line(ticket: Code, fields: &mut Fields<'_>) -> Result<Edit, FieldFault>
     ensures ok { IfOk result (λ edit. edit_by ticket word.Line fields.old ≡ Some (edit, fields.new)) }
     ensures shape { result ≡ Err FieldFault.Shape → edit_by ticket word.Line fields.old ≡ None }
+    ensures memory { result ≢ Err FieldFault.OutOfMemory }
 {
     Ok(Edit::Line {
         ticket,
@@ -122,6 +129,7 @@ fn line(ticket: Code, fields: &mut Fields<'_>) -> Result<Edit, FieldFault>
 fn unline(ticket: Code, fields: &mut Fields<'_>) -> Result<Edit, FieldFault>
     ensures ok { IfOk result (λ edit. edit_by ticket word.Unline fields.old ≡ Some (edit, fields.new)) }
     ensures shape { result ≡ Err FieldFault.Shape → edit_by ticket word.Unline fields.old ≡ None }
+    ensures memory { result ≢ Err FieldFault.OutOfMemory }
 {
     Ok(Edit::Unline {
         ticket,
@@ -135,6 +143,7 @@ fn unline(ticket: Code, fields: &mut Fields<'_>) -> Result<Edit, FieldFault>
 fn product(ticket: Code, fields: &mut Fields<'_>) -> Result<Edit, FieldFault>
     ensures ok { IfOk result (λ edit. edit_by ticket word.Product fields.old ≡ Some (edit, fields.new)) }
     ensures shape { result ≡ Err FieldFault.Shape → edit_by ticket word.Product fields.old ≡ None }
+    ensures memory { result ≢ Err FieldFault.OutOfMemory }
 {
     Ok(Edit::Product {
         ticket,
@@ -148,6 +157,7 @@ fn product(ticket: Code, fields: &mut Fields<'_>) -> Result<Edit, FieldFault>
 fn unexempt(ticket: Code, fields: &mut Fields<'_>) -> Result<Edit, FieldFault>
     ensures ok { IfOk result (λ edit. edit_by ticket word.Unexempt fields.old ≡ Some (edit, fields.new)) }
     ensures shape { result ≡ Err FieldFault.Shape → edit_by ticket word.Unexempt fields.old ≡ None }
+    ensures memory { result ≢ Err FieldFault.OutOfMemory }
 {
     Ok(Edit::Unexempt {
         ticket,
@@ -160,6 +170,7 @@ fn unexempt(ticket: Code, fields: &mut Fields<'_>) -> Result<Edit, FieldFault>
 fn candidate(ticket: Code, fields: &mut Fields<'_>) -> Result<Edit, FieldFault>
     ensures ok { IfOk result (λ edit. edit_by ticket word.Candidate fields.old ≡ Some (edit, fields.new)) }
     ensures shape { result ≡ Err FieldFault.Shape → edit_by ticket word.Candidate fields.old ≡ None }
+    ensures memory { result ≢ Err FieldFault.OutOfMemory }
 {
     Ok(Edit::Candidate {
         ticket,
@@ -173,6 +184,7 @@ fn candidate(ticket: Code, fields: &mut Fields<'_>) -> Result<Edit, FieldFault>
 fn ship(ticket: Code, fields: &mut Fields<'_>) -> Result<Edit, FieldFault>
     ensures ok { IfOk result (λ edit. edit_by ticket word.Ship fields.old ≡ Some (edit, fields.new)) }
     ensures shape { result ≡ Err FieldFault.Shape → edit_by ticket word.Ship fields.old ≡ None }
+    ensures memory { result ≢ Err FieldFault.OutOfMemory }
 {
     Ok(Edit::Ship {
         ticket,
@@ -187,6 +199,7 @@ fn ship(ticket: Code, fields: &mut Fields<'_>) -> Result<Edit, FieldFault>
 fn unship(ticket: Code, fields: &mut Fields<'_>) -> Result<Edit, FieldFault>
     ensures ok { IfOk result (λ edit. edit_by ticket word.Unship fields.old ≡ Some (edit, fields.new)) }
     ensures shape { result ≡ Err FieldFault.Shape → edit_by ticket word.Unship fields.old ≡ None }
+    ensures memory { result ≢ Err FieldFault.OutOfMemory }
 {
     Ok(Edit::Unship {
         ticket,

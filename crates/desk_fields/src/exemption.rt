@@ -1,4 +1,4 @@
-ghost use Rattle.std.specs.Prelude.{◌≡◌, ◌==◌, [], Err, IfOk, None, Some, true};
+ghost use Rattle.std.specs.Prelude.{◌≡◌, ◌≢◌, ◌==◌, [], Err, IfOk, None, Some, true};
 ghost use Rattle.std.specs.List.{slice_split};
 ghost use Rattle.desk_model.specs.declared.limits.TheConstants.{PPM_LIMIT};
 ghost use Rattle.desk_model.specs.Terms.{are_kinds, is_ppm};
@@ -72,6 +72,7 @@ fn take_ppm(fields: &mut Fields<'_>) -> Result<Option<u32>, FieldFault>
     ensures ok { IfOk result (λ ppm. one (maybe (a_number 0 PPM_LIMIT)) fields.old ≡ Some (ppm, fields.new)) }
     ensures range { IfOk result (λ ppm. is_ppm ppm ≡ true) }
     ensures shape { result ≡ Err FieldFault.Shape → one (maybe (a_number 0 PPM_LIMIT)) fields.old ≡ None }
+    ensures memory { result ≢ Err FieldFault.OutOfMemory }
 {
     let Some(field) = fields.next() else {
         return Err(FieldFault::Shape);

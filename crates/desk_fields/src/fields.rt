@@ -1,5 +1,5 @@
-ghost use Rattle.std.specs.Prelude.{◌≡◌, ◌≢◌, ◌≤◌, ◌==◌, [], ◌∷◌, Err, IfOk, MatchOption, None};
-ghost use Rattle.std.specs.Prelude.{OnErr, OnOk, position, Some};
+ghost use Rattle.std.specs.Prelude.{◌≡◌, ◌≢◌, ◌≤◌, ◌==◌, [], ◌∷◌, Err, IfOk, is_some, MatchOption, None};
+ghost use Rattle.std.specs.Prelude.{OnErr, OnOk, position, Some, true};
 ghost use Rattle.std.specs.List.{join_with_byte, slice_split};
 ghost use Rattle.std.specs.Option.{option_map_or};
 ghost use Rattle.desk_text.specs.Forms.{a_name, a_number};
@@ -85,6 +85,7 @@ impl<'a, const SEPARATOR: u8> Parts<'a, SEPARATOR> {
     pub(crate) fn take<T: Field>(&mut self) -> Result<T, FieldFault>
         ensures ok { IfOk result (λ value. one T.Field.form self.old ≡ Some (value, self.new)) }
         ensures shape { result ≡ Err FieldFault.Shape → one T.Field.form self.old ≡ None }
+        ensures memory { result ≢ Err FieldFault.OutOfMemory }
     {
         let Some(field) = self.next() else {
             return Err(FieldFault::Shape);
@@ -101,6 +102,7 @@ impl<'a, const SEPARATOR: u8> Parts<'a, SEPARATOR> {
         ensures ok { IfOk result (λ number. one (a_number least greatest) self.old ≡ Some (number, self.new)) }
         ensures range { IfOk result (λ number. (least ≤ number) × (number ≤ greatest)) }
         ensures shape { result ≡ Err FieldFault.Shape → one (a_number least greatest) self.old ≡ None }
+        ensures memory { result ≢ Err FieldFault.OutOfMemory }
     {
         let Some(field) = self.next() else {
             return Err(FieldFault::Shape);
@@ -111,11 +113,12 @@ impl<'a, const SEPARATOR: u8> Parts<'a, SEPARATOR> {
         }
     }
 
-    /// Takes a name.
+    /// Takes a name. Memory is wanting only for a field that is one.
     #[tactic(auto, unfolding(desk_text::specs::Forms::a_name))]
     pub(crate) fn take_name(&mut self, alloc: Global) -> Result<Name, FieldFault>
         ensures ok { IfOk result (λ name. one a_name self.old ≡ Some (name, self.new)) }
         ensures shape { result ≡ Err FieldFault.Shape → one a_name self.old ≡ None }
+        ensures memory { result ≡ Err FieldFault.OutOfMemory → is_some (one a_name self.old) ≡ true }
     {
         let Some(field) = self.next() else {
             return Err(FieldFault::Shape);

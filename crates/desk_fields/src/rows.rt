@@ -1,10 +1,11 @@
-ghost use Rattle.std.specs.Prelude.{◌≡◌, ◌^◌, ◌-◌, ◌∷◌, Err, false, IfOk, is_some, None, OnOk, Some, true};
+ghost use Rattle.std.specs.Prelude.{◌≡◌, ◌≢◌, ◌^◌, ◌-◌, ◌∷◌, Err, false, IfOk, is_some, None, OnOk, Some, true};
 ghost use Rattle.desk_text.specs.Forms.{a_code, a_number};
 ghost use Rattle.desk_fields.specs.Reading.{both, one, whole};
 ghost use Rattle.desk_fields.specs.RowReading.{candidate_row_in, is_ticket_code, line_row_in, material_row_in};
 ghost use Rattle.desk_fields.specs.RowReading.{member_row_in, pair_in, paired, part_row_in, product_row_in, row_of};
 ghost use Rattle.desk_fields.specs.RowReading.{shipment_row_in, substance_row_in, ticket_row_in};
 ghost use Rattle.desk_fields.specs.EditReading.{exemption_in};
+ghost use Rattle.desk_fields.specs.RowTexts.{has_texts};
 
 use crate::edit_text::check_edit_text;
 use crate::exemption::read_exemption_behind;
@@ -21,7 +22,7 @@ use desk_text::{Bytes, Code};
 use std::alloc::Global;
 
 /// The row of a table, of its code and its fields behind the version.
-#[tactic(auto, unfolding(crate::specs::RowReading::row_of))]
+#[tactic(auto, unfolding(crate::specs::RowReading::row_of, crate::specs::RowTexts::has_texts))]
 pub(crate) fn row_of(
     alloc: Global,
     table: u8,
@@ -30,6 +31,7 @@ pub(crate) fn row_of(
 ) -> Result<Row, FieldFault>
     ensures ok { IfOk result (λ row. row_of table code.now fields.old ≡ Some row) }
     ensures shape { result ≡ Err FieldFault.Shape → row_of table code.now fields.old ≡ None }
+    ensures memory { result ≡ Err FieldFault.OutOfMemory → has_texts table ≡ true }
 {
     match table {
         1 => Ok(Row::Substance(substance(alloc, code, fields)?)),
@@ -50,6 +52,7 @@ pub(crate) fn row_of(
 fn key<T: Field>(code: &[u8]) -> Result<T, FieldFault>
     ensures ok { IfOk result (λ key. T.Field.form code.now ≡ Some key) }
     ensures shape { result ≡ Err FieldFault.Shape → T.Field.form code.now ≡ None }
+    ensures memory { result ≢ Err FieldFault.OutOfMemory }
 {
     T::from_field(code).ok_or(FieldFault::Shape)
 }
@@ -59,6 +62,7 @@ fn key<T: Field>(code: &[u8]) -> Result<T, FieldFault>
 fn pair(code: &[u8]) -> Result<(&[u8], &[u8]), FieldFault>
     ensures ok { IfOk result (λ parts. pair_in code.now ≡ Some (parts.0.now, parts.1.now)) }
     ensures shape { result ≡ Err FieldFault.Shape → pair_in code.now ≡ None }
+    ensures memory { result ≢ Err FieldFault.OutOfMemory }
 {
     let mut parts = Parts::<SLASH>::of(code);
     let (Some(first), Some(second), None) = (parts.next(), parts.next(), parts.next()) else {
@@ -91,6 +95,7 @@ fn substance(
 fn member(code: &[u8], fields: &mut Fields<'_>) -> Result<MemberRow, FieldFault>
     ensures ok { IfOk result (λ row. paired member_row_in code.now fields.old ≡ Some row) }
     ensures shape { result ≡ Err FieldFault.Shape → paired member_row_in code.now fields.old ≡ None }
+    ensures memory { result ≢ Err FieldFault.OutOfMemory }
 {
     let (first, second) = pair(code)?;
     let row = MemberRow {
@@ -142,6 +147,7 @@ fn part(alloc: Global, code: &[u8], fields: &mut Fields<'_>) -> Result<PartRow, 
 fn line(code: &[u8], fields: &mut Fields<'_>) -> Result<LineRow, FieldFault>
     ensures ok { IfOk result (λ row. paired line_row_in code.now fields.old ≡ Some row) }
     ensures shape { result ≡ Err FieldFault.Shape → paired line_row_in code.now fields.old ≡ None }
+    ensures memory { result ≢ Err FieldFault.OutOfMemory }
 {
     let (first, second) = pair(code)?;
     let row = LineRow {
@@ -158,6 +164,7 @@ fn line(code: &[u8], fields: &mut Fields<'_>) -> Result<LineRow, FieldFault>
 fn product(code: &[u8], fields: &mut Fields<'_>) -> Result<ProductRow, FieldFault>
     ensures ok { IfOk result (λ row. whole product_row_in (code.now ∷ fields.old) ≡ Some row) }
     ensures shape { result ≡ Err FieldFault.Shape → whole product_row_in (code.now ∷ fields.old) ≡ None }
+    ensures memory { result ≢ Err FieldFault.OutOfMemory }
 {
     let row = ProductRow {
         part: key(code)?,
@@ -172,6 +179,7 @@ fn product(code: &[u8], fields: &mut Fields<'_>) -> Result<ProductRow, FieldFaul
 fn candidate(code: &[u8], fields: &mut Fields<'_>) -> Result<CandidateRow, FieldFault>
     ensures ok { IfOk result (λ row. whole candidate_row_in (code.now ∷ fields.old) ≡ Some row) }
     ensures shape { result ≡ Err FieldFault.Shape → whole candidate_row_in (code.now ∷ fields.old) ≡ None }
+    ensures memory { result ≢ Err FieldFault.OutOfMemory }
 {
     let row = CandidateRow {
         substance: key(code)?,
@@ -186,6 +194,7 @@ fn candidate(code: &[u8], fields: &mut Fields<'_>) -> Result<CandidateRow, Field
 fn shipment(code: &[u8], fields: &mut Fields<'_>) -> Result<ShipmentRow, FieldFault>
     ensures ok { IfOk result (λ row. paired shipment_row_in code.now fields.old ≡ Some row) }
     ensures shape { result ≡ Err FieldFault.Shape → paired shipment_row_in code.now fields.old ≡ None }
+    ensures memory { result ≢ Err FieldFault.OutOfMemory }
 {
     let (first, second) = pair(code)?;
     let row = ShipmentRow {
@@ -235,6 +244,7 @@ fn ticket(alloc: Global, code: &[u8], fields: &mut Fields<'_>) -> Result<TicketR
 fn check_ticket_code(code: &[u8]) -> Result<(), FieldFault>
     ensures ok { OnOk result (is_ticket_code code.now ≡ true) }
     ensures shape { result ≡ Err FieldFault.Shape → is_ticket_code code.now ≡ false }
+    ensures memory { result ≢ Err FieldFault.OutOfMemory }
 {
     let mut parts = Parts::<COLON>::of(code);
     match parts.next() {
@@ -248,6 +258,7 @@ fn check_ticket_code(code: &[u8]) -> Result<(), FieldFault>
 fn check_sent(parts: &mut Parts<'_, COLON>) -> Result<(), FieldFault>
     ensures ok { OnOk result (is_some (whole (one a_code) parts.old) ≡ true) }
     ensures shape { result ≡ Err FieldFault.Shape → is_some (whole (one a_code) parts.old) ≡ false }
+    ensures memory { result ≢ Err FieldFault.OutOfMemory }
 {
     drop(parts.take::<Code>()?);
     parts.end()
@@ -258,6 +269,7 @@ fn check_declared(parts: &mut Parts<'_, COLON>) -> Result<(), FieldFault>
     ensures ok { OnOk result (is_some (whole (both (one a_code) (one (a_number 1 (2 ^ 64 - 1)))) parts.old) ≡ true) }
     ensures shape { result ≡ Err FieldFault.Shape
         → is_some (whole (both (one a_code) (one (a_number 1 (2 ^ 64 - 1)))) parts.old) ≡ false }
+    ensures memory { result ≢ Err FieldFault.OutOfMemory }
 {
     drop(parts.take::<Code>()?);
     parts.take_number(1, u64::MAX)?;

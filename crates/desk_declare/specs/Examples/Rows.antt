@@ -1,11 +1,13 @@
 -- Rows beside the declarations that they spell, and beside their first faults.
-use Rattle.std.specs.Prelude.{◌≡◌, ℕ, List, [], ◌∷◌, ◌++◌, codes, map, Ok, Err}
+use Rattle.std.specs.Prelude.{◌≡◌, ℕ, zero, suc, ◌+◌, List, [], ◌∷◌, ◌++◌, codes, decimal, map, Ok, Err}
 use Rattle.desk_law.specs.declared.claim.Claim.{Claim}
 use Rattle.desk_law.specs.declared.rule.Rule.TheVariants.{Lead}
 use Rattle.desk_model.specs.Declaration.{Declared}
 use Rattle.desk_model.specs.Declaring.{declaration_start}
+use Rattle.desk_model.specs.declared.edit.Edit.TheVariants.{Declare}
+use Rattle.desk_model.specs.declared.material_decl.MaterialDecl.{MaterialDecl}
 use Rattle.desk_model.specs.declared.substance_mass.SubstanceMass.{SubstanceMass}
-use Rattle.desk_declare.specs.Declaration.{begun_by, declaration_in, extended_by}
+use Rattle.desk_declare.specs.Declaration.{begun_by, declaration_in, declaration_of, extended_by, head_of, row_added}
 use Rattle.desk_declare.specs.Faults.{declare_fault_words}
 use Rattle.desk_declare.specs.Rows.{Row}
 use Rattle.desk_declare.specs.declared.declare_fault.DeclareFault.TheVariants as fault
@@ -34,6 +36,21 @@ some substance mass = record { substance = substance; mass = mass }
 abbrev pub for_lead : List ℕ → Claim
 for_lead number = record { rule = Lead; number = number }
 
+-- so many numbers from one on
+abbrev pub numbers : ℕ → ℕ → List ℕ
+numbers zero first = []
+numbers (suc n) first = first ∷ numbers n (first + 1)
+
+-- as many substances, claims and materials as there may be
+abbrev pub most_substances : List SubstanceMass
+most_substances = map (λ n. some (codes "s" ++ decimal n) 0) (numbers 64 10)
+
+abbrev pub most_claims : List Claim
+most_claims = map (λ n. for_lead (decimal n)) (numbers 16 10)
+
+abbrev pub most_materials : List MaterialDecl
+most_materials = map (λ n. record { code = codes "m" ++ decimal n; name = codes "Brass"; mass = 9; substances = []; claims = [] }) (numbers 256 100)
+
 -- what rows begin and add: substances stand in order of code, whatever the order of their rows
 pub record ReadExamples : Type 0 where
   pub the_head : begun_by head ≡ Ok (declaration_start (codes "ACME") 7 (record { year = 2024; month = 1; day = 23 }))
@@ -61,4 +78,33 @@ pub record FaultExamples : Type 0 where
   pub orphan : extended_by 3 (map codes ("S" ∷ "B" ∷ "lead" ∷ "4" ∷ [])) (brass_with [] []) ≡ Err (fault.OrphanRow 3)
   pub repeated_substance : extended_by 4 lead (brass_with (some (codes "lead") 1 ∷ []) []) ≡ Err (fault.RepeatedRow 4)
   pub repeated_claim : extended_by 4 claim (brass_with [] (for_lead (codes "6(c)") ∷ [])) ≡ Err (fault.RepeatedRow 4)
+  -- that a field is no text is told before all else of its record
+  pub head_no_text : head_of (head ++ (255 ∷ []) ∷ []) ≡ Err (fault.NotText 1)
+  pub row_no_text : row_added 3 (codes "X" ∷ (255 ∷ []) ∷ []) (brass_with [] []) ≡ Err (fault.NotText 3)
+  pub repeated_material : extended_by 3 (map codes ("M" ∷ "A" ∷ "Tin" ∷ "1" ∷ [])) (brass_with [] []) ≡ Err (fault.RepeatedMaterial 3)
+  pub many_materials : extended_by 258 (map codes ("M" ∷ "A" ∷ "Tin" ∷ "1" ∷ [])) (record (brass_with [] []) { materials = most_materials })
+      ≡ Err (fault.TooManyRows 258)
+  pub many_substances : extended_by 67 lead (brass_with most_substances []) ≡ Err (fault.TooManyRows 67)
+  pub many_claims : extended_by 19 claim (brass_with [] most_claims) ≡ Err (fault.TooManyRows 19)
+  -- one that repeats another is told as that, also where there are as many as there may be
+  pub one_of_many : extended_by 67 (map codes ("S" ∷ "A" ∷ "s10" ∷ "4" ∷ [])) (brass_with most_substances []) ≡ Err (fault.RepeatedRow 67)
   pub words : declare_fault_words (fault.BadField 2 4) ≡ codes "bad-field record 2 column 4"
+
+-- bytes beside the declaration that they spell, and beside their first fault
+pub record ByteExamples : Type 0 where
+  pub whole : declaration_of (codes "D,1,ACME,7,2024-01-23\nM,SOLDER,\"Solder paste\",1000000\nS,SOLDER,lead,1000\nE,SOLDER,lead,6(c)\n")
+      ≡ Ok (Declare (record {
+        supplier = codes "ACME";
+        number = 7;
+        day = record { year = 2024; month = 1; day = 23 };
+        materials = record {
+          code = codes "SOLDER";
+          name = codes "Solder paste";
+          mass = 1000000;
+          substances = some (codes "lead") 1000 ∷ [];
+          claims = for_lead (codes "6(c)") ∷ [];
+        } ∷ [];
+      }))
+  -- a byte-order mark is no part of the rows, and neither are empty lines
+  pub marked : declaration_of (239 ∷ 187 ∷ 191 ∷ codes "\nD,1,ACME,7,2024-01-23\r\n\r\nM,A,Brass,9") ≡ Ok (Declare (brass_with [] []))
+  pub first_record_decides : declaration_of (codes "D,1,ACME,7,2024-01-23\nS,A,lead,4\nX\n") ≡ Err (fault.OrphanRow 2)

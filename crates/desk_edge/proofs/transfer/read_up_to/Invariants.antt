@@ -9,6 +9,7 @@ invariant-loop-chunk g l = record {
   within : length l.bytes ≤ l.limit + 1;
   output : g.L.Link.written l.link ≡ g.L.Link.written l.fn.link;
   count : g.L.Link.faults l.link ≡ g.L.Link.faults l.fn.link;
+  read_count : g.L.Link.read_faults l.link ≡ g.L.Link.read_faults l.fn.link;
 }
 
 abbrev pub decreases-loop-chunk : goal.decreases-loop-chunk

@@ -22,7 +22,7 @@ on_error P (Err error) holds = holds
 
 pub returns-in_err-taken-clause-err : goal.returns-in_err-taken-clause-err
 returns-in_err-taken-clause-err g c =
-    let (done, whole, taken, input, count) = c.loop-rest.invariant in
+    let (done, whole, taken, input, count, reads) = c.loop-rest.invariant in
     let more : 0 < length c.loop-rest.rest.now = grind (arith, nat_tests, c.loop-rest-test.true, c.is_empty.ensures) in
     let short : length done < length c.args.bytes.now = rw whole (simp length-append (omega (arith, more))) in
     on_error _ c.from_residual.result
@@ -30,7 +30,7 @@ returns-in_err-taken-clause-err g c =
 
 pub loop-rest-preserved : goal.loop-rest-preserved
 loop-rest-preserved g c =
-    let (done, whole, taken, input, count) = c.loop-rest.invariant in
+    let (done, whole, taken, input, count, reads) = c.loop-rest.invariant in
     let n = c.in_ok-taken.taken in
     let rest = c.loop-rest.rest.now in (
       done ++ take n rest,
@@ -38,14 +38,15 @@ loop-rest-preserved g c =
       Appends-trans _ _ _ done (take n rest) taken c.in_ok-taken.ensures.takes,
       c.write.ensures.input_stays ∙ input,
       c.in_ok-taken.ensures.steady ∙ count,
+      c.write.ensures.reads_stay ∙ reads,
     )
 
 pub returns-in_err-taken-clause-beginning : goal.returns-in_err-taken-clause-beginning
 returns-in_err-taken-clause-beginning g c =
-    let (done, whole, taken, input, count) = c.loop-rest.invariant in
+    let (done, whole, taken, input, count, reads) = c.loop-rest.invariant in
     (length done, rw (beginning c.args.bytes.now done c.loop-rest.rest.now whole) (Appends-kept _ _ _ done taken c.in_err-taken.ensures.takes))
 
 pub returns-clause-beginning : goal.returns-clause-beginning
 returns-clause-beginning g c =
-    let (done, whole, taken, input, count) = c.loop-rest.invariant in
+    let (done, whole, taken, input, count, reads) = c.loop-rest.invariant in
     (length done, rw (beginning c.args.bytes.now done c.loop-rest.rest.now whole) taken)

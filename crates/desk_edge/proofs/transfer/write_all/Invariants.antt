@@ -8,6 +8,7 @@ invariant-loop-rest g l = (done : List ℕ) × (l.bytes ≡ done ++ l.rest)
     × Appends (g.L.Link.written l.fn.link) (g.L.Link.written l.link) done
     × (g.L.Link.unread l.link ≡ g.L.Link.unread l.fn.link)
     × (g.L.Link.faults l.link ≡ g.L.Link.faults l.fn.link)
+    × (g.L.Link.read_faults l.link ≡ g.L.Link.read_faults l.fn.link)
 
 abbrev pub decreases-loop-rest : goal.decreases-loop-rest
 decreases-loop-rest g l = length l.rest

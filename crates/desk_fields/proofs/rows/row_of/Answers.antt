@@ -1,4 +1,4 @@
--- Where the reading of one table's row fails by the shape, the row of that table is none.
+-- Where the reading of one table's row fails by the shape, the row of that table is none; and rows without texts want no memory.
 use Rattle.std.proofs.Common.{◌≡◌, ◌∙◌, Option, None, Result, Err, ap}
 use Rattle.std.specs.Prelude.{option_map}
 use Rattle.std.specs.Result.{IsErrAnd}
@@ -52,3 +52,18 @@ returns-in_err-shipment-in-9-clause-shape c = λ e. rw c.in-9.is (fails Shipment
 pub returns-in_err-ticket-in-10-clause-shape : goal.returns-in_err-ticket-in-10-clause-shape
 unfolding row_of
 returns-in_err-ticket-in-10-clause-shape c = λ e. rw c.in-10.is (fails Ticket _ c.in_err-ticket-in-10.was c.from_residual-in_err-ticket-in-10.ensures.1 c.ticket.ensures.shape e)
+
+pub returns-in_err-member-in-2-clause-memory : goal.returns-in_err-member-in-2-clause-memory
+returns-in_err-member-in-2-clause-memory c = λ e. absurd (c.member.ensures.memory (c.in_err-member-in-2.was ∙ ap (λ f. Err f) (handed_on _ _ c.from_residual-in_err-member-in-2.ensures.1 e)))
+
+pub returns-in_err-line-in-5-clause-memory : goal.returns-in_err-line-in-5-clause-memory
+returns-in_err-line-in-5-clause-memory c = λ e. absurd (c.line.ensures.memory (c.in_err-line-in-5.was ∙ ap (λ f. Err f) (handed_on _ _ c.from_residual-in_err-line-in-5.ensures.1 e)))
+
+pub returns-in_err-product-in-6-clause-memory : goal.returns-in_err-product-in-6-clause-memory
+returns-in_err-product-in-6-clause-memory c = λ e. absurd (c.product.ensures.memory (c.in_err-product-in-6.was ∙ ap (λ f. Err f) (handed_on _ _ c.from_residual-in_err-product-in-6.ensures.1 e)))
+
+pub returns-in_err-candidate-in-8-clause-memory : goal.returns-in_err-candidate-in-8-clause-memory
+returns-in_err-candidate-in-8-clause-memory c = λ e. absurd (c.candidate.ensures.memory (c.in_err-candidate-in-8.was ∙ ap (λ f. Err f) (handed_on _ _ c.from_residual-in_err-candidate-in-8.ensures.1 e)))
+
+pub returns-in_err-shipment-in-9-clause-memory : goal.returns-in_err-shipment-in-9-clause-memory
+returns-in_err-shipment-in-9-clause-memory c = λ e. absurd (c.shipment.ensures.memory (c.in_err-shipment-in-9.was ∙ ap (λ f. Err f) (handed_on _ _ c.from_residual-in_err-shipment-in-9.ensures.1 e)))
