@@ -6,6 +6,7 @@ use Rattle.serde_json.proofs.OnLiterals.{serde_json_on_literals}
 use Rattle.desk_text.specs.Cas.{cas_of}
 use Rattle.desk_text.specs.Code.{code_of, exemption_number_of}
 use Rattle.desk_text.specs.Day.{day_of}
+use Rattle.desk_text.specs.Forms.{a_cas as cas_in, a_code as code_in, a_day as day_in, a_name as name_in, an_exemption_number as exemption_number_in}
 use Rattle.desk_text.specs.Name.{name_of}
 use Rattle.desk_text.specs.Number.{number_below}
 use Rattle.desk_law.specs.Annex.{annex_number}
@@ -22,7 +23,7 @@ use Rattle.desk_edits.specs.Values.{a_cas, a_code, a_count, a_day, a_factor, a_k
 
 -- what the examples compute with
 unfoldable pub examples : Bool
-unfolding serde_json_on_literals chars is_utf8 digits cas_of code_of exemption_number_of day_of name_of number_below annex_number kind_code kind_of kind_place has_kind set_of rule_code rule_number rule_of sort_of edit_word_of edit_of_word json_of word_in key_name has_extra_key missing_key needed optional a_cas a_code a_count a_day a_factor a_kind a_name a_ppm a_rule a_sort a_year an_annex an_exemption_number some_kinds some_units
+unfolding serde_json_on_literals chars is_utf8 digits cas_of code_of exemption_number_of day_of name_of number_below annex_number kind_code kind_of kind_place has_kind set_of rule_code rule_number rule_of sort_of edit_word_of edit_of_word json_of word_in key_name has_extra_key missing_key needed optional a_cas a_code a_count a_day a_factor a_kind a_name a_ppm a_rule a_sort a_year an_annex an_exemption_number some_kinds some_units cas_in code_in day_in name_in exemption_number_in
 examples = true
 
 pub word_examples : WordExamples
