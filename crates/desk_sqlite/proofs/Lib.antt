@@ -1,6 +1,5 @@
 pub mod Crossing
 pub mod TextLemmas
-pub mod Numbers
 pub mod ListLemmas
 pub mod ValueLemmas
 pub mod ReadLemmas

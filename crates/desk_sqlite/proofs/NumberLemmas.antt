@@ -1,5 +1,5 @@
 -- Rows whose numbers are shown rising have numbers of their own.
-use Rattle.std.proofs.Common.{◌≡◌, ◌⊎◌, ◌++◌, inl, inr, ℤ, List, [], ◌∷◌, map, flat_map, Bool, true, false, cond, Option, Some, None, IfSome, int_lt, refl, sym, ap, subst, ◌∙◌, true≢false}
+use Rattle.std.proofs.Common.{◌≡◌, ◌⊎◌, ◌++◌, inl, inr, ℕ, ℤ, Ok, List, [], ◌∷◌, map, flat_map, Bool, true, false, cond, Option, Some, None, IfSome, IsSomeAnd, int_lt, refl, sym, ap, subst, ◌∙◌, true≢false}
 use Rattle.std.specs.List.{AllByRecursion, IsDistinct}
 use Rattle.std.specs.Ordering.{is_eq, int_cmp, ordering_reverse}
 use Rattle.std.specs.declared.cmp.Ordering.{Ordering}
@@ -16,8 +16,11 @@ use Rattle.sqlite_rules.specs.Lists.{Has}
 use Rattle.sqlite_rules.proofs.ListLemmas.{all_has}
 use Rattle.sqlite_rules.proofs.ProbeLemmas.{mapped_has}
 use Rattle.sqlite_sql.specs.Term.{Env}
+use Rattle.sqlite.specs.Effect.{Database}
+use Rattle.sqlite.specs.Listing.{IsSourceOf, reads_listing, understood}
+use Rattle.sqlite.specs.State.{State, Begins, IsStatement}
 use Rattle.sqlite_sql.specs.Query.{IsAnswer, Output, output}
-use Rattle.desk_sqlite.proofs.Numbers.{AreRising, row_number}
+use Rattle.desk_sqlite.specs.Numbers.{AreRising, row_number}
 use Rattle.desk_sqlite.specs.Rows.{AreNumbered}
 use Rattle.desk_sqlite.proofs.ListLemmas.{has_permuted, matched_has}
 use Rattle.desk_sqlite.proofs.TextLemmas.{numbers_query}
@@ -179,3 +182,53 @@ rising_push rows row n last rising up is low =
 
 pub none_rise : AreRising []
 none_rise = record { numbers = λ row there. absurd there; rise = tt }
+
+-- ---- not rising
+
+-- the number is that of one of the rows, where there is one
+abbrev pub IsReached : List Row → Option ℤ → Type 0
+IsReached rows None = Unit {0}
+IsReached rows (Some m) = (r : Row) × Has rows r × (row_number r ≡ m)
+
+has_last : (rows : List Row) (row : Row) → Has (rows ++ row ∷ []) row
+has_last [] row = inl refl
+has_last (r ∷ rows) row = inr (has_last rows row)
+
+pub reached_push : (rows : List Row) (row : Row) (n : ℤ) → column row 0 ≡ Int n → IsReached (rows ++ row ∷ []) (Some n)
+reached_push rows row n is = (row, has_last rows row, ap id_in is)
+
+below_last : (rows : List Row) (row r : Row) → IsAscending (λ a b. int_cmp (row_number a) (row_number b) ≡ Less) (rows ++ row ∷ []) → Has rows r → int_cmp (row_number r) (row_number row) ≡ Less
+below_last [] row r rise there = absurd there
+below_last (first ∷ rows) row r rise (inl same) =
+    subst (λ x. int_cmp (row_number x) (row_number row) ≡ Less) (sym same) (all_has (λ y. int_cmp (row_number first) (row_number y) ≡ Less) (rows ++ row ∷ []) row rise.0 (has_last rows row))
+below_last (first ∷ rows) row r rise (inr later) = below_last rows row r rise.1 later
+
+less_is : (a b : Bool) → cond a Less (cond b Greater Equal) ≡ Less → a ≡ true
+less_is true b e = refl
+less_is false true e = absurd (let bad = e in cc)
+less_is false false e = absurd (let bad = e in cc)
+
+-- a row whose number isn't greater than one before it ends no rows that rise
+pub no_rise : (rows : List Row) (row : Row) (n : ℤ) (last : Option ℤ) → IsReached rows last → column row 0 ≡ Int n → IsSomeAnd last (λ m. int_lt m n ≡ false) → AreRising (rows ++ row ∷ []) → ⊥
+no_rise rows row n None reached is low rising = absurd low
+no_rise rows row n (Some m) (r, there, number) is low rising =
+    let own : row_number row ≡ n = ap id_in is in
+    let less : int_cmp m n ≡ Less = subst (λ k. int_cmp k n ≡ Less) number (subst (λ k. int_cmp (row_number r) k ≡ Less) own (below_last rows row r rising.rise there)) in
+    true≢false (sym (less_is (int_lt m n) (int_lt n m) less) ∙ low)
+
+-- what a database shows it shows where it is the same
+pub begins_before : (a b : State) (sql : List ℕ) (params : Row) (rows : List Row) → b.now ≡ a.now → Begins sql params b rows → Begins sql params a rows
+unfolding Begins
+begins_before a b sql params rows same h = (
+  h.0,
+  record {
+    is = subst (λ (d : Database). understood d.schema sql ≡ Ok h.0) same h.1.is;
+    whole = h.1.whole;
+    given = h.1.given;
+    now = h.1.now;
+  },
+  h.2,
+  h.3,
+  subst (λ (d : Database). IsSourceOf (reads_listing d.schema sql) d h.3) same h.4,
+  h.5,
+)

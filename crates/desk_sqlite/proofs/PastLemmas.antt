@@ -15,6 +15,10 @@ pub if_ok : {X E : Type 0} (P Q : X → Type 0) (r : Result X E) → ((x : X) �
 if_ok P Q (Ok x) f h = f x h
 if_ok P Q (Err e) f h = tt
 
+pub if_ok_always : {X E : Type 0} (Q : X → Type 0) (r : Result X E) → ((x : X) → Q x) → IfOk r Q
+if_ok_always Q (Ok x) f = f x
+if_ok_always Q (Err e) f = tt
+
 pub if_both : {X E : Type 0} (P Q : X → Type 0) (r : Result X E) → IfOk r P → IfOk r Q → IfOk r (λ x. P x × Q x)
 if_both P Q (Ok x) p q = (p, q)
 if_both P Q (Err e) p q = tt

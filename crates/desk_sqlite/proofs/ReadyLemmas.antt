@@ -8,7 +8,7 @@ use Rattle.sqlite.specs.Effect.{Database}
 use Rattle.sqlite.specs.Given.{IsPlain}
 use Rattle.sqlite.specs.Listing.{understood}
 use Rattle.sqlite.specs.State.{State, HasCleanDisk, IsUnchanged, ShowsRows, Shown}
-use Rattle.desk_sqlite.proofs.Numbers.{AreRising}
+use Rattle.desk_sqlite.specs.Numbers.{AreRising}
 use Rattle.desk_sqlite.specs.Rows.{AreNumbered}
 use Rattle.desk_sqlite.specs.Store.{IsOurs, Suits}
 use Rattle.desk_sqlite.specs.Texts.{numbers_text}

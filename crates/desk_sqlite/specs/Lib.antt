@@ -1,4 +1,5 @@
 pub mod Texts
+pub mod Numbers
 pub mod Table
 pub mod Rows
 pub mod Store
@@ -6,3 +7,4 @@ pub mod Content
 pub mod Ahead
 pub mod Inside
 pub mod Keeping
+pub mod Refusals

@@ -4,8 +4,9 @@ ghost use Rattle.desk_edge.specs.Faults.{Rose};
 ghost use Rattle.sqlite_std_file.specs.File.{file_is_usable};
 
 use crate::keeper::SqlKeeper;
+use crate::refusal::refusal_of;
 use desk_edge::{Change, KeepFault, Keeper, Key, Record};
-use sqlite::{Connection, Error, ErrorCode, File, FileStore, Files, Options, Start, Unknown};
+use sqlite::{Connection, File, FileStore, Files, Options, Start, Unknown};
 use sqlite_disk::Disk;
 use sqlite_std_file::OpenError;
 use std::alloc::Global;
@@ -42,8 +43,11 @@ impl FileKeeper<File> {
         let Ok(path) = std::str::from_utf8(path) else {
             return Err(KeepFault::Failed);
         };
-        let keeper = SqlKeeper::over(connection_at(rt, path)?)?;
-        Ok(FileKeeper { keeper })
+        match SqlKeeper::over(connection_at(rt, path)?) {
+            Ok(keeper) => Ok(FileKeeper { keeper }),
+            // (the database isn't closed, by which its log would be copied into it)
+            Err((fault, _)) => Err(fault),
+        }
     }
 }
 
@@ -53,15 +57,7 @@ fn connection_at(rt: &HostRuntime, path: &str) -> Result<Connection<FileStore<Fi
     let files = files_at(rt, path)?;
     match Connection::open_files(rt.alloc(), files, options) {
         Ok(connection) => Ok(connection),
-        Err((error, _)) => Err(fault_of(error)),
-    }
-}
-
-/// What a fault of an opening is to a keeper.
-fn fault_of(error: Error) -> KeepFault {
-    match error {
-        Error::SqliteFailure(ErrorCode::OutOfMemory) => KeepFault::OutOfMemory,
-        _ => KeepFault::Failed,
+        Err((error, _)) => Err(refusal_of(error)),
     }
 }
 

@@ -1,6 +1,7 @@
 ghost use Rattle.std.specs.Prelude.{◌≡◌, [], ◌∷◌, None, false, IsTrue};
 ghost use Rattle.sqlite_value.specs.declared.value.Value.TheVariants as value;
 ghost use Rattle.sqlite_value.specs.Keys.{plain};
+ghost use Rattle.desk_sqlite.specs.Refusals.{IsNew};
 ghost use Rattle.desk_sqlite.specs.Store.{IsOurs};
 ghost use Rattle.desk_sqlite.specs.Table.{filled_column, key_index, record_columns, record_table};
 
@@ -23,7 +24,10 @@ pub(crate) fn is_ours(schema: &Schema) -> bool
 }
 
 /// Whether nothing was made in the database yet.
-pub(crate) fn is_new(schema: &Schema) -> bool {
+pub(crate) fn is_new(schema: &Schema) -> bool
+    ensures right { IsTrue result → IsNew schema.now }
+    ensures found { IsNew schema.now → IsTrue result }
+{
     schema.tables.is_empty() && schema.indexes.is_empty() && schema.views.is_empty()
 }
 

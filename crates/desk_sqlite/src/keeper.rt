@@ -1,18 +1,21 @@
-ghost use Rattle.std.specs.Prelude.{◌≡◌, ◌≢◌, ◌≤◌, false, true, Err, IfOk, IfSome, OnErr, OnOk, IsErrOf, IsTrue, option_copied};
+ghost use Rattle.std.specs.Prelude.{◌≡◌, ◌≢◌, ◌≤◌, false, true, Err, IfErr, IfOk, IfSome, OnErr, OnOk, IsErrOf, IsTrue, option_copied};
 ghost use Rattle.sqlite.specs.Held.{state};
 ghost use Rattle.sqlite.specs.State.{HasCleanDisk};
 ghost use Rattle.desk_edge.specs.Content.{IsChanged, IsFirstPast, IsSame, is_past, key_of};
 ghost use Rattle.desk_edge.specs.Faults.{Rose};
 ghost use Rattle.desk_sqlite.specs.Content.{AreMade, content_of};
-ghost use Rattle.desk_sqlite.specs.Store.{IsStore, IsTold, KeepsRows, Suits, rows_in};
+ghost use Rattle.desk_sqlite.specs.Numbers.{ShowsNoRise};
+ghost use Rattle.desk_sqlite.specs.Refusals.{IsOfOthers, refusal_of};
+ghost use Rattle.desk_sqlite.specs.Store.{IsOurs, IsStore, IsTold, KeepsRows, Suits, rows_in};
 
 use crate::ahead::Ahead;
 use crate::commit::commit_all;
 use crate::find::look_ahead;
 use crate::form::{is_new, is_ours};
 use crate::ready::make_ready;
+use crate::refusal::refusal_of;
 use desk_edge::{Change, KeepFault, Keeper, Key, Record};
-use sqlite::{Alter, Connection, Error, ErrorCode};
+use sqlite::{Alter, Connection, Error};
 use std::alloc::Global;
 use std::marker::Model;
 
@@ -118,6 +121,9 @@ impl<S: Alter> SqlKeeper<S> {
         ensures ready { OnOk result (self.new.is_ready ≡ true) }
         // A store that was there has the records that it had.
         ensures kept { OnOk result (self.new.is_ours ≡ true → KeepsRows (state S.Store self.old.connection) (state S.Store self.new.connection)) }
+        // A clean database with the table of its form is found to be a store, unless what it shows of its row numbers doesn't rise.
+        ensures found { OnOk result (self.new.is_ours ≡ false → IsOurs (state S.Store self.old.connection).now.schema
+            → HasCleanDisk (state S.Store self.new.connection) → ShowsNoRise (state S.Store self.old.connection)) }
         ensures never_falls { self.old.faults ≤ self.new.faults }
         ensures steady { result ≢ Err KeepFault.Failed → self.new.faults ≡ self.old.faults }
         ensures failed { IsErrOf result KeepFault.Failed → Rose self.old.faults self.new.faults }
@@ -150,31 +156,35 @@ impl<S: Alter> SqlKeeper<S> {
     fn refused(&mut self, error: Error) -> KeepFault
         ensures same { (self.new.connection ≡ self.old.connection) × (self.new.is_ready ≡ self.old.is_ready) × (self.new.is_ours ≡ self.old.is_ours) }
         ensures never_falls { self.old.faults ≤ self.new.faults }
+        ensures answer { result ≡ refusal_of error }
         ensures steady { result ≢ KeepFault.Failed → self.new.faults ≡ self.old.faults }
         ensures failed { result ≡ KeepFault.Failed → Rose self.old.faults self.new.faults }
     {
-        match error {
-            Error::SqliteFailure(ErrorCode::OutOfMemory) => KeepFault::OutOfMemory,
-            _ => self.fault(),
+        match refusal_of(error) {
+            KeepFault::OutOfMemory => KeepFault::OutOfMemory,
+            KeepFault::Failed => self.fault(),
         }
     }
 }
 
 impl<S: Alter + Drop> SqlKeeper<S> {
     /// A keeper over the database of the connection, made ready where the database is new or a store. `Failed` comes where it is of
-    /// somebody else, in which nothing is changed, or can't be made ready.
-    pub(crate) fn over(connection: Connection<S>) -> Result<SqlKeeper<S>, KeepFault>
+    /// somebody else, to which nothing is done, or can't be made ready. Then the connection is given back.
+    pub(crate) fn over(connection: Connection<S>) -> Result<SqlKeeper<S>, (KeepFault, Connection<S>)>
         ensures count { IfOk result (λ keeper. keeper.faults ≡ 0) }
         ensures ours { IfOk result (λ keeper. keeper.is_ours ≡ true) }
+        ensures kept { IfOk result (λ keeper. KeepsRows (state S.Store connection) (state S.Store keeper.connection)) }
+        ensures not_opened { IsOfOthers connection.schema → OnOk result ⊥ }
+        ensures not_touched { IsOfOthers connection.schema → IfErr result (λ refused. (refused.0 ≡ KeepFault.Failed) × (refused.1 ≡ connection)) }
     {
         if !is_new(connection.schema()) && !is_ours(connection.schema()) {
-            return Err(KeepFault::Failed);
+            return Err((KeepFault::Failed, connection));
         }
         let mut keeper = SqlKeeper::adopt(connection);
         match keeper.ready() {
             Ok(()) if keeper.is_ours() => Ok(keeper),
-            Ok(()) => Err(KeepFault::Failed),
-            Err(fault) => Err(fault),
+            Ok(()) => Err((KeepFault::Failed, keeper.release())),
+            Err(fault) => Err((fault, keeper.release())),
         }
     }
 }

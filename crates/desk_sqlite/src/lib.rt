@@ -10,6 +10,7 @@ mod form;
 mod keeper;
 mod look;
 mod ready;
+mod refusal;
 mod shelf;
 
 pub use file_keeper::FileKeeper;

@@ -1,6 +1,7 @@
-ghost use Rattle.std.specs.Prelude.{◌≡◌, false, true, IfOk, IfSome, IsTrue, int_lt};
+ghost use Rattle.std.specs.Prelude.{◌≡◌, false, true, IfOk, IfSome, IsSomeAnd, IsTrue, int_lt};
 ghost use Rattle.sqlite.specs.Held.{state};
 ghost use Rattle.sqlite.specs.State.{HasCleanDisk};
+ghost use Rattle.desk_sqlite.specs.Numbers.{ShowsNoRise};
 ghost use Rattle.desk_sqlite.specs.Store.{IsOurs, KeepsRows, Suits};
 
 use crate::form::is_ours;
@@ -12,10 +13,24 @@ pub(crate) fn make_ready<S: Alter>(conn: &mut Connection<S>) -> Result<bool, Err
     ensures mode { IfOk result (λ ours. conn.new.in_transaction ≡ false) }
     ensures suits { IfOk result (λ ours. IsTrue ours → Suits (state S.Store conn.new)) }
     ensures kept { IfOk result (λ ours. IsTrue ours → KeepsRows (state S.Store conn.old) (state S.Store conn.new)) }
+    ensures found { IfOk result (λ ours. ours ≡ false → IsOurs (state S.Store conn.old).now.schema → HasCleanDisk (state S.Store conn.new)
+        → ShowsNoRise (state S.Store conn.old)) }
 {
-    if !is_ours(conn.schema()) {
-        make_table(conn)?;
+    if is_ours(conn.schema()) {
+        return is_store(conn);
     }
+    make_table(conn)?;
+    is_store(conn)
+}
+
+/// Whether the database, which is only looked at, is the table of a store.
+fn is_store<S: Alter>(conn: &mut Connection<S>) -> Result<bool, Error>
+    ensures mode { IfOk result (λ ours. conn.new.in_transaction ≡ false) }
+    ensures suits { IfOk result (λ ours. IsTrue ours → Suits (state S.Store conn.new)) }
+    ensures kept { IfOk result (λ ours. IsTrue ours → KeepsRows (state S.Store conn.old) (state S.Store conn.new)) }
+    ensures found { IfOk result (λ ours. ours ≡ false → IsOurs (state S.Store conn.old).now.schema → HasCleanDisk (state S.Store conn.new)
+        → ShowsNoRise (state S.Store conn.old)) }
+{
     if !conn.is_autocommit() {
         return Err(Error::SqliteFailure(ErrorCode::TransactionState));
     }
@@ -52,6 +67,7 @@ fn are_numbered<S: Alter>(conn: &mut Connection<S>) -> Result<bool, Error>
     ensures suits { IfOk result (λ numbered. IsTrue numbered → Suits (state S.Store conn.new)) }
     ensures same { IfOk result (λ numbered. IsTrue numbered → HasCleanDisk (state S.Store conn.new)
         → (state S.Store conn.new).now ≡ (state S.Store conn.old).now) }
+    ensures found { IfOk result (λ numbered. numbered ≡ false → HasCleanDisk (state S.Store conn.new) → ShowsNoRise (state S.Store conn.old)) }
 {
     let mut last: Option<i64> = None;
     let mut rows = conn.query("SELECT rowid FROM record ORDER BY rowid", &[])?;
@@ -65,12 +81,13 @@ fn are_numbered<S: Alter>(conn: &mut Connection<S>) -> Result<bool, Error>
         }
         last = Some(number);
     }
-    Ok(false)
+    Err(Error::SqliteFailure(ErrorCode::TooBig))
 }
 
 /// Whether the number is greater than the last one, if there is one.
 fn is_above(number: i64, last: Option<i64>) -> bool
-    ensures { IsTrue result → IfSome last (λ before. int_lt before number ≡ true) }
+    ensures right { IsTrue result → IfSome last (λ before. int_lt before number ≡ true) }
+    ensures found { result ≡ false → IsSomeAnd last (λ before. int_lt before number ≡ false) }
 {
     match last {
         Some(before) => before < number,
