@@ -14,7 +14,7 @@ use std::alloc::Global;
 
 /// The tests of tables 1 to 9, row by row: what each row has to keep by itself, and how many rows there may be.
 impl Tables {
-    /// The first fault of a row of the tables 1 to 9.
+    /// A fault of a row of the tables 1 to 9, if there is one.
     pub(crate) fn row_fault(&self, alloc: Global) -> Option<SoundFault>
         ensures good { IsNone result → AreRowsGood self.now.lists }
         ensures told { IfSome result (NamesBreach self.now.lists) }
@@ -46,7 +46,7 @@ impl Tables {
         self.materials_fault(alloc)
     }
 
-    /// The first fault of table 1.
+    /// A fault of table 1, if there is one.
     fn substances_fault(&self, alloc: Global) -> Option<SoundFault>
         ensures good { IsNone result → list_all is_substance_row self.now.lists.substances ≡ true }
         ensures few { IsNone result → nat_lt SUBSTANCE_LIMIT (length self.now.lists.substances) ≡ false }
@@ -55,7 +55,7 @@ impl Tables {
         rows_fault(alloc, self, self.substances(), 1, SUBSTANCE_LIMIT)
     }
 
-    /// The first fault of table 2.
+    /// A fault of table 2, if there is one.
     fn members_fault(&self, alloc: Global) -> Option<SoundFault>
         ensures good { IsNone result → list_all (is_good_member self.now.lists) self.now.lists.members ≡ true }
         ensures few { IsNone result → nat_lt MEMBER_LIMIT (length self.now.lists.members) ≡ false }
@@ -64,7 +64,7 @@ impl Tables {
         rows_fault(alloc, self, self.members(), 2, MEMBER_LIMIT)
     }
 
-    /// The first fault of table 3.
+    /// A fault of table 3, if there is one.
     fn materials_fault(&self, alloc: Global) -> Option<SoundFault>
         ensures good { IsNone result → list_all (is_good_material self.now.lists) self.now.lists.materials ≡ true }
         ensures few { IsNone result → nat_lt MATERIAL_LIMIT (length self.now.lists.materials) ≡ false }
@@ -73,7 +73,7 @@ impl Tables {
         rows_fault(alloc, self, self.materials(), 3, MATERIAL_LIMIT)
     }
 
-    /// The first fault of table 4.
+    /// A fault of table 4, if there is one.
     fn parts_fault(&self, alloc: Global) -> Option<SoundFault>
         ensures good { IsNone result → list_all (is_good_part self.now.lists) self.now.lists.parts ≡ true }
         ensures few { IsNone result → nat_lt PART_LIMIT (length self.now.lists.parts) ≡ false }
@@ -82,7 +82,7 @@ impl Tables {
         rows_fault(alloc, self, self.parts(), 4, PART_LIMIT)
     }
 
-    /// The first fault of table 5.
+    /// A fault of table 5, if there is one.
     fn lines_fault(&self, alloc: Global) -> Option<SoundFault>
         ensures good { IsNone result → list_all (is_good_line self.now.lists) self.now.lists.lines ≡ true }
         ensures few { IsNone result → nat_lt LINE_LIMIT (length self.now.lists.lines) ≡ false }
@@ -91,7 +91,7 @@ impl Tables {
         rows_fault(alloc, self, self.lines(), 5, LINE_LIMIT)
     }
 
-    /// The first fault of table 6.
+    /// A fault of table 6, if there is one.
     fn products_fault(&self, alloc: Global) -> Option<SoundFault>
         ensures good { IsNone result → list_all (is_good_product self.now.lists) self.now.lists.products ≡ true }
         ensures few { IsNone result → nat_lt PRODUCT_LIMIT (length self.now.lists.products) ≡ false }
@@ -100,7 +100,7 @@ impl Tables {
         rows_fault(alloc, self, self.products(), 6, PRODUCT_LIMIT)
     }
 
-    /// The first fault of table 7.
+    /// A fault of table 7, if there is one.
     fn exemptions_fault(&self, alloc: Global) -> Option<SoundFault>
         ensures good { IsNone result → list_all (is_good_exemption self.now.lists) self.now.lists.exemptions ≡ true }
         ensures few { IsNone result → nat_lt EXEMPTION_LIMIT (length self.now.lists.exemptions) ≡ false }
@@ -109,7 +109,7 @@ impl Tables {
         rows_fault(alloc, self, self.exemptions(), 7, EXEMPTION_LIMIT)
     }
 
-    /// The first fault of table 8.
+    /// A fault of table 8, if there is one.
     fn candidates_fault(&self, alloc: Global) -> Option<SoundFault>
         ensures good { IsNone result → list_all (is_good_candidate self.now.lists) self.now.lists.candidates ≡ true }
         ensures few { IsNone result → nat_lt CANDIDATE_LIMIT (length self.now.lists.candidates) ≡ false }
@@ -118,7 +118,7 @@ impl Tables {
         rows_fault(alloc, self, self.candidates(), 8, CANDIDATE_LIMIT)
     }
 
-    /// The first fault of table 9.
+    /// A fault of table 9, if there is one.
     fn shipments_fault(&self, alloc: Global) -> Option<SoundFault>
         ensures good { IsNone result → list_all (is_good_shipment self.now.lists) self.now.lists.shipments ≡ true }
         ensures few { IsNone result → nat_lt SHIPMENT_LIMIT (length self.now.lists.shipments) ≡ false }

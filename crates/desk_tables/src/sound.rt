@@ -9,8 +9,7 @@ impl Tables {
     /// Tests whether the tables are sound: whether each clause that accepted edits keep holds of them.
     ///
     /// `Unsound`: a row of the table, under this code, breaks a clause. Where more than one row does it names one of
-    /// them: tables 1 to 9 are tested row by row first, then the tickets, then the bill of materials for cycles, and
-    /// last the sums over whole tables. `OutOfMemory`: there was no memory to find out, and nothing is known.
+    /// them, and which isn't said. `OutOfMemory`: there was no memory to find out, and nothing is known.
     ///
     /// It takes a few binary searches for each row, reads each edit's text, and takes what the sums of an edit that may
     /// raise them all take; where there is a cycle or a sum is too large, some passes over the bill more.

@@ -17,7 +17,7 @@ use std::alloc::Global;
 /// The test of table 10: how many tickets there are and how much text they hold, their numbers, and that each is that
 /// of an edit.
 impl Tables {
-    /// The first fault of table 10. It takes three passes over the tickets and reads the text of each.
+    /// A fault of table 10, if there is one. It takes three passes over the tickets and reads the text of each.
     pub(crate) fn ticket_fault(&self, alloc: Global) -> Option<SoundFault>
         ensures good { IsNone result → AreTicketsGood self.now.lists }
         ensures told { IfSome result (NamesBreach self.now.lists) }
