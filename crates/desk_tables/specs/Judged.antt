@@ -1,12 +1,12 @@
 -- What the rules 1 to 19 leave of an edit: a plan, which the rules on the whole bill have yet to pass, or a refusal.
-use Rattle.std.specs.Prelude.{◌≡◌, ℕ, true, List, [], ◌∷◌, Option, Some, None, Err}
+use Rattle.std.specs.Prelude.{◌≡◌, ℕ, true, List, [], ◌∷◌, Option, Some, None, Result, Ok, Err}
 use Rattle.desk_model.specs.declared.edit.Edit.{Edit}
 use Rattle.desk_model.specs.declared.rows.ticket.TicketRow.{TicketRow}
 use Rattle.desk_model.specs.declared.rule_fault.RuleFault.{RuleFault}
 use Rattle.desk_model.specs.Effect.{entered, made, next_number}
 use Rattle.desk_model.specs.Lists.{Lists}
-use Rattle.desk_history.specs.Refused.{exemption_span, foreign_material, kind_changed, masses_exceed, name_taken, no_such_line, outside_annex}
-use Rattle.desk_history.specs.Refused.{refused_by_rows, ship_below_zero, stale_declaration, unknown_exemption, unknown_material}
+use Rattle.desk_history.specs.Refused.{exemption_span, first_some, foreign_material, kind_changed, masses_exceed, name_taken, no_such_line, outside_annex}
+use Rattle.desk_history.specs.Refused.{refused_by_rows, ship_below_zero, stale_declaration, ticket_reused, unknown_exemption, unknown_material}
 use Rattle.desk_history.specs.Refused.{unknown_part, unknown_product, unknown_substance, units_too_large, wrong_child}
 use Rattle.desk_history.specs.Step.{kept_number, step}
 use Rattle.desk_tables.specs.Change.{changed}
@@ -45,6 +45,13 @@ rules_of_values t edit =
     ∷ units_too_large t edit
     ∷ []
 
+-- a new edit that breaks none of the rules 1 to 17, which are tried without memory
+pub record PassesValues (t : Lists) (edit : Edit) : Type 0 where
+  pub new : kept_number t edit ≡ None
+  pub unused : ticket_reused t edit ≡ None
+  pub names : first_some (rules_of_names t edit) ≡ None
+  pub values : first_some (rules_of_values t edit) ≡ None
+
 -- a new edit that breaks none of the rules 1 to 19, with its rows and its ticket
 pub record PassesLimits (desk : Desk) (edit : Edit) (change : RowChange) (ticket : TicketRow) (room : Option ℕ) : Type 0 where
   pub new : kept_number desk.lists edit ≡ None
@@ -59,6 +66,11 @@ pub record PassesLimits (desk : Desk) (edit : Edit) (change : RowChange) (ticket
 unfoldable pub IsRowsPlan : Desk → Edit → TablesPlan → Type 0
 IsRowsPlan desk edit (plan.Kept number) = kept_number desk.lists edit ≡ Some number
 IsRowsPlan desk edit (plan.New change ticket room) = PassesLimits desk edit change ticket room
+
+-- the answer to an edit that has this plan, and of which the rules say this
+abbrev pub answer_by : TablesPlan → Option RuleFault → Result TablesPlan EditFault
+answer_by plan None = Ok plan
+answer_by plan (Some fault) = Err (edit_fault.Rule fault)
 
 -- an edit that isn't kept breaks the rules 1 to 19, and this is the first fault; of want of memory nothing is said
 unfoldable pub IsRowsFault : Lists → Edit → EditFault → Type 0
