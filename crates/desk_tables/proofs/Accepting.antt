@@ -1,5 +1,6 @@
 -- From the rules on the bill to the whole judgement of an edit.
 use Rattle.std.proofs.Common.{◌≡◌, true, false, ◌||◌, [], ◌∷◌, Option, Some, None, Result, Ok, Err, IfOk, IfSome, ℕ, refl, sym, ap, ◌∙◌, subst}
+use Rattle.std.specs.Prelude.{IfErr}
 use Rattle.std.specs.List.{AllByRecursion}
 use Rattle.std.proofs.lemmas.Bool.{or_parts}
 use Rattle.desk_text.specs.Code.{code_cmp}
@@ -25,7 +26,7 @@ use Rattle.desk_history.proofs.SoundSteps.{IsConsistent-entered}
 use Rattle.desk_history.proofs.Years.{years_fit}
 use Rattle.desk_tables.specs.Change.{changed}
 use Rattle.desk_tables.specs.Desk.{Desk}
-use Rattle.desk_tables.specs.Judged.{IsRefusal, IsRowsFault, IsRowsPlan, PassesLimits}
+use Rattle.desk_tables.specs.Judged.{IsRefusal, IsRowsFault, IsRowsPlan, PassesLimits, answer_by}
 use Rattle.desk_tables.specs.declared.edit_fault.EditFault.{EditFault}
 use Rattle.desk_tables.specs.declared.edit_fault.EditFault.TheVariants as edit_fault
 use Rattle.desk_tables.specs.Plan.{CanCommit, IsPlan, plan_number, planned}
@@ -148,3 +149,13 @@ pub refusal_of : (t : Lists) (edit : Edit) (fault : EditFault) → IsRowsFault t
 unfolding IsRowsFault IsRefusal
 refusal_of t edit (edit_fault.Rule fault) h = rows_refuse t edit fault h.0 h.1
 refusal_of t edit edit_fault.OutOfMemory h = tt
+
+-- what is answered to an edit whose plan passes the rules on the bill, or doesn't
+pub planned_so : (desk : Desk) (edit : Edit) (all : TablesPlan) (fault : Option RuleFault) (r : Result TablesPlan EditFault) → r ≡ answer_by all fault → (fault ≡ None → IsPlan desk edit all) → IfOk r (λ given. IsPlan desk edit given)
+planned_so desk edit all None r e is = subst (λ answer. IfOk answer (λ given. IsPlan desk edit given)) (sym e) (is refl)
+planned_so desk edit all (Some fault) r e is = subst (λ answer. IfOk answer (λ given. IsPlan desk edit given)) (sym e) tt
+
+pub refused_so : (t : Lists) (edit : Edit) (all : TablesPlan) (fault : Option RuleFault) (r : Result TablesPlan EditFault) → r ≡ answer_by all fault → IfSome fault (λ f. (step t edit).0 ≡ Err f) → IfErr r (λ told. IsRefusal t edit told)
+unfolding IsRefusal
+refused_so t edit all None r e is = subst (λ answer. IfErr answer (λ told. IsRefusal t edit told)) (sym e) tt
+refused_so t edit all (Some fault) r e is = subst (λ answer. IfErr answer (λ told. IsRefusal t edit told)) (sym e) is

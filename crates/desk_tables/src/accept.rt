@@ -6,7 +6,7 @@ ghost use Rattle.desk_history.specs.Refused.{closes_cycle, findings_full, first_
 ghost use Rattle.desk_history.specs.Sound.{Sound};
 ghost use Rattle.desk_history.specs.Step.{kept_number, step};
 ghost use Rattle.desk_tables.specs.Change.{changed};
-ghost use Rattle.desk_tables.specs.Judged.{IsRefusal, IsRowsPlan};
+ghost use Rattle.desk_tables.specs.Judged.{IsRefusal, IsRowsPlan, answer_by};
 ghost use Rattle.desk_tables.specs.Plan.{IsPlan};
 ghost use Rattle.desk_tables.specs.PutLine.{cycle_with, with_line};
 ghost use Rattle.desk_tables.specs.Sums.{is_of_sums, may_raise_sums};
@@ -61,13 +61,12 @@ impl Tables {
             Ok(plan) => plan,
             Err(fault) => return Err(fault),
         };
-        match self.plan_fault(alloc, edit, &plan)? {
-            Some(fault) => Err(EditFault::Rule(fault)),
-            None => Ok(plan),
-        }
+        let fault = self.plan_fault(alloc, edit, &plan)?;
+        unless_refused(plan, fault)
     }
 
-    /// The first of the rules 20 to 23 that an edit with this plan breaks.
+    /// The first of the rules 20 to 23 that an edit with this plan breaks. Memory is wanting only for an edit that may raise a sum over
+    /// whole tables.
     #[tactic(auto, unfolding(crate::specs::Judged::IsRowsPlan))]
     fn plan_fault(
         &self,
@@ -79,6 +78,7 @@ impl Tables {
         requires plan { IsRowsPlan self.now edit.now plan.now }
         ensures fault { IfOk result (λ fault. IfSome fault (λ fault. (step self.now.lists edit.now).0 ≡ Err fault)) }
         ensures plan { IfOk result (λ fault. fault ≡ None → IsPlan self.now edit.now plan.now) }
+        ensures memory { IfErr result (λ _. may_raise_sums edit.now ≡ true) }
     {
         match plan {
             TablesPlan::Kept { .. } => Ok(None),
@@ -99,7 +99,8 @@ impl Tables {
         requires unrefused { refused_by_rows self.now.lists edit.now ≡ None }
         requires made { changed self.now.lists change.now ≡ made self.now.lists edit.now }
         requires sums { may_raise_sums edit.now ≡ true → is_of_sums change.now ≡ true }
-        ensures { IfOk result (λ fault. fault ≡ refused_by_bill self.now.lists edit.now) }
+        ensures fault { IfOk result (λ fault. fault ≡ refused_by_bill self.now.lists edit.now) }
+        ensures memory { IfErr result (λ _. may_raise_sums edit.now ≡ true) }
     {
         edit.in_form();
         match line_of(edit) {
@@ -143,16 +144,27 @@ impl Tables {
         requires passes { PassesRows self.now.lists edit.now }
         requires made { changed self.now.lists change.now ≡ made self.now.lists edit.now }
         requires sums { may_raise_sums edit.now ≡ true → is_of_sums change.now ≡ true }
-        ensures { IfOk result (λ fault. fault ≡ first_some (
+        ensures fault { IfOk result (λ fault. fault ≡ first_some (
             total_too_large self.now.lists edit.now
             ∷ findings_full self.now.lists edit.now
             ∷ year_too_large self.now.lists edit.now
             ∷ [])) }
+        ensures memory { IfErr result (λ _. may_raise_sums edit.now ≡ true) }
     {
         if may_raise_sums(edit) {
             self.sums_fault_with(alloc, change)
         } else {
             Ok(None)
         }
+    }
+}
+
+/// The plan, unless a rule refuses its edit.
+fn unless_refused(plan: TablesPlan, fault: Option<RuleFault>) -> Result<TablesPlan, EditFault>
+    ensures { result ≡ answer_by plan fault }
+{
+    match fault {
+        Some(fault) => Err(EditFault::Rule(fault)),
+        None => Ok(plan),
     }
 }

@@ -1,9 +1,10 @@
-ghost use Rattle.std.specs.Prelude.{◌≡◌, IfOk, IfSome, None};
+ghost use Rattle.std.specs.Prelude.{◌≡◌, IfOk, IfSome, None, true};
 ghost use Rattle.desk_model.specs.Effect.{made};
 ghost use Rattle.desk_model.specs.Lists.{Lists};
 ghost use Rattle.desk_history.specs.Refused.{closes_cycle};
 ghost use Rattle.desk_history.specs.Sound.{Sound};
 ghost use Rattle.desk_tables.specs.PutLine.{cycle_with, with_line};
+ghost use Rattle.desk_tables.specs.Sums.{may_raise_sums};
 ghost use Rattle.desk_totals.specs.Linked.{IsBillOf};
 
 use crate::Tables;
@@ -41,6 +42,7 @@ pub(crate) fn line_of(edit: &Edit) -> Option<LineRow>
     ensures none { result ≡ None → (t : Lists) → closes_cycle t edit.now ≡ None }
     ensures cycle { IfSome result (λ line. (t : Lists) → closes_cycle t edit.now ≡ cycle_with t line) }
     ensures made { IfSome result (λ line. (t : Lists) → made t edit.now ≡ with_line t line) }
+    ensures raises { IfSome result (λ _. may_raise_sums edit.now ≡ true) }
 {
     match edit {
         Edit::Line {

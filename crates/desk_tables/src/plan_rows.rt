@@ -1,12 +1,18 @@
-ghost use Rattle.std.specs.Prelude.{◌≡◌, [], ◌∷◌, IfErr, IfOk, None};
-ghost use Rattle.desk_model.specs.Effect.{entered};
-ghost use Rattle.desk_history.specs.Refused.{first_some, ticket_reused, table_full, text_full};
+ghost use Rattle.std.specs.Prelude.{◌≡◌, [], ◌∷◌, Err, IfErr, IfOk, None, true};
+ghost use Rattle.desk_model.specs.Effect.{entered, made};
+ghost use Rattle.desk_history.specs.Refused.{first_some, refused_by_rows, ticket_reused, table_full, text_full};
 ghost use Rattle.desk_history.specs.Sound.{Sound};
 ghost use Rattle.desk_history.specs.Step.{kept_number};
+<<<<<<< HEAD
 ghost use Rattle.desk_tables.specs.Change.{IsReady};
 ghost use Rattle.desk_history.specs.Refused.{rules_of_limits, rules_of_names, rules_of_values};
 ghost use Rattle.desk_tables.specs.Judged.{IsRowsFault, IsRowsPlan};
+=======
+ghost use Rattle.desk_tables.specs.Change.{IsReady, changed};
+ghost use Rattle.desk_tables.specs.Judged.{IsRowsFault, IsRowsPlan, PassesValues, rules_of_names, rules_of_values};
+>>>>>>> 0014fe96ebf322e36afb57177c9d9a2b99ccb898
 ghost use Rattle.desk_tables.specs.Plan.{CanCommit, entered_by};
+ghost use Rattle.desk_tables.specs.Sums.{is_of_sums, may_raise_sums};
 ghost use Rattle.desk_tables.specs.Ticket.{ticket_for};
 ghost use Rattle.desk_model.specs.Lists.{ticket_row};
 
@@ -28,6 +34,24 @@ impl Tables {
         ensures fault { IfErr result (λ fault. IsRowsFault self.now.lists edit.now fault) }
     {
         let ticket = self.ticket_for(alloc, edit)?;
+        self.plan_with(alloc, edit, ticket)
+    }
+
+    /// The same with the edit's ticket. Memory is wanting only for an edit that is new and breaks none of the rules 1 to 17.
+    #[tactic(auto, unfolding(crate::specs::Plan::CanCommit, crate::specs::Judged::IsRowsPlan, crate::specs::Judged::IsRowsFault))]
+    fn plan_with(
+        &self,
+        alloc: Global,
+        edit: &Edit,
+        ticket: TicketRow,
+    ) -> Result<TablesPlan, EditFault>
+        requires sound { Sound self.now.lists }
+        requires ticket { ticket ≡ ticket_for self.now.lists edit.now }
+        ensures plan { IfOk result (λ plan. IsRowsPlan self.now edit.now plan) }
+        ensures ready { IfOk result (λ plan. CanCommit self.now plan) }
+        ensures fault { IfErr result (λ fault. IsRowsFault self.now.lists edit.now fault) }
+        ensures memory { result ≡ Err EditFault.OutOfMemory → PassesValues self.now.lists edit.now }
+    {
         if let Some(number) = self.kept_number(edit, &ticket) {
             return Ok(TablesPlan::Kept { number });
         }
@@ -44,7 +68,7 @@ impl Tables {
     }
 
     /// The plan of a new edit that breaks none of the rules 1 to 17.
-    #[tactic(auto, unfolding(crate::specs::Plan::CanCommit, crate::specs::Judged::IsRowsPlan, crate::specs::Judged::IsRowsFault))]
+    #[tactic(auto, unfolding(crate::specs::Judged::IsRowsFault))]
     fn plan_new(
         &self,
         alloc: Global,
@@ -62,6 +86,32 @@ impl Tables {
         ensures fault { IfErr result (λ fault. IsRowsFault self.now.lists edit.now fault) }
     {
         let change = self.change_for(alloc, edit)?;
+        self.plan_change(alloc, edit, change, ticket)
+    }
+
+    /// The same with the change that the edit makes. Memory is wanting only for an edit that breaks none of the rules 1 to 19.
+    #[tactic(auto, unfolding(crate::specs::Plan::CanCommit, crate::specs::Judged::IsRowsPlan, crate::specs::Judged::IsRowsFault))]
+    fn plan_change(
+        &self,
+        alloc: Global,
+        edit: &Edit,
+        change: RowChange,
+        ticket: TicketRow,
+    ) -> Result<TablesPlan, EditFault>
+        requires sound { Sound self.now.lists }
+        requires ticket { ticket ≡ ticket_for self.now.lists edit.now }
+        requires new { kept_number self.now.lists edit.now ≡ None }
+        requires unused { ticket_reused self.now.lists edit.now ≡ None }
+        requires names { first_some (rules_of_names self.now.lists edit.now) ≡ None }
+        requires values { first_some (rules_of_values self.now.lists edit.now) ≡ None }
+        requires made { changed self.now.lists change ≡ made self.now.lists edit.now }
+        requires ready { IsReady self.now change }
+        requires sums { may_raise_sums edit.now ≡ true → is_of_sums change ≡ true }
+        ensures plan { IfOk result (λ plan. IsRowsPlan self.now edit.now plan) }
+        ensures ready { IfOk result (λ plan. CanCommit self.now plan) }
+        ensures fault { IfErr result (λ fault. IsRowsFault self.now.lists edit.now fault) }
+        ensures memory { result ≡ Err EditFault.OutOfMemory → refused_by_rows self.now.lists edit.now ≡ None }
+    {
         if let Some(fault) = self.refused_by_limits(edit, &change, &ticket) {
             return Err(EditFault::Rule(fault));
         }

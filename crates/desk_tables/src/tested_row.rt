@@ -1,4 +1,4 @@
-ghost use Rattle.std.specs.Prelude.{◌≡◌, ◌<◌, ◌⊎◌, true, false, MatchOption, length, map, nat_lt, slice_index_or};
+ghost use Rattle.std.specs.Prelude.{◌≡◌, ◌<◌, ◌⊎◌, true, false, IfErr, IfOk, MatchOption, length, map, nat_lt, slice_index_or};
 ghost use Rattle.std.specs.List.{list_all};
 ghost use Rattle.desk_model.specs.Rows.{record_code, table_number};
 ghost use Rattle.desk_history.specs.Breaches.{Breaks};
@@ -73,7 +73,15 @@ fn first_broken<R: TestedRow>(tables: &Tables, rows: &[R], limit: usize) -> Opti
 pub(crate) fn fault_at<R: TestedRow>(alloc: Global, table: u8, row: &R) -> SoundFault
     ensures { IsNaming table (record_code (R.TestedRow.as_row row.now)) result }
 {
-    match row.key(alloc) {
+    naming(table, row.key(alloc))
+}
+
+/// The fault that names a row of the table by its code, where there was memory for the code.
+pub(crate) fn naming(table: u8, key: Result<Bytes, OutOfMemory>) -> SoundFault
+    ensures unsound { IfOk key (λ key. result ≡ SoundFault.Unsound table key) }
+    ensures memory { IfErr key (λ _. result ≡ SoundFault.OutOfMemory) }
+{
+    match key {
         Ok(key) => SoundFault::Unsound { table, key },
         Err(_) => SoundFault::OutOfMemory,
     }

@@ -7,6 +7,7 @@ ghost use Rattle.desk_history.specs.Sound.{IsTicketOfEdit};
 ghost use Rattle.desk_tables.specs.Soundness.{AreTicketsGood, IsNaming, IsTicketBroken, NamesBreach};
 
 use crate::numbers_sound::odd_number;
+use crate::tested_row::naming;
 use crate::{SoundFault, Tables};
 use desk_fields::{TextFault, read_edit_text};
 use desk_model::TicketRow;
@@ -62,10 +63,7 @@ impl Tables {
 fn fault_of(alloc: Global, ticket: &TicketRow) -> SoundFault
     ensures { IsNaming 10 ticket.now.code result }
 {
-    match ticket.code.copied(alloc) {
-        Ok(key) => SoundFault::Unsound { table: 10, key },
-        Err(_) => SoundFault::OutOfMemory,
-    }
+    naming(10, ticket.code.copied(alloc))
 }
 
 /// The place of the first ticket that is that of no edit.

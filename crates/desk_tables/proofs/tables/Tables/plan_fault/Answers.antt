@@ -7,8 +7,8 @@ returns-in-Kept-clause-plan c = λ _. kept_plan c.args.self.now c.args.edit.now 
 pub returns-in-New-clause-fault : goal.returns-in-New-clause-fault
 returns-in-New-clause-fault c =
     let limits = limits_of c.args.self.now c.args.edit.now c.args.plan.now c.in-New.change c.in-New.ticket c.in-New.room c.in-New.is c.requires.plan in
-    fault_of c.args.self.now.lists c.args.edit.now limits.new limits.unrefused c.refused_by_bill.result c.refused_by_bill.ensures
+    fault_of c.args.self.now.lists c.args.edit.now limits.new limits.unrefused c.refused_by_bill.result c.refused_by_bill.ensures.fault
 
 pub returns-in-New-clause-plan : goal.returns-in-New-clause-plan
 returns-in-New-clause-plan c =
-    plan_of c.args.self.now c.args.edit.now c.args.plan.now c.in-New.change c.in-New.ticket c.in-New.room c.in-New.is c.requires.plan c.refused_by_bill.result c.refused_by_bill.ensures
+    plan_of c.args.self.now c.args.edit.now c.args.plan.now c.in-New.change c.in-New.ticket c.in-New.room c.in-New.is c.requires.plan c.refused_by_bill.result c.refused_by_bill.ensures.fault
