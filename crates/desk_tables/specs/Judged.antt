@@ -1,20 +1,11 @@
 -- What the rules 1 to 19 leave of an edit: a plan, which the rules on the whole bill have yet to pass, or a refusal.
-<<<<<<< HEAD
-use Rattle.std.specs.Prelude.{◌≡◌, ℕ, true, Option, Some, None, Err}
-=======
-use Rattle.std.specs.Prelude.{◌≡◌, ℕ, true, List, [], ◌∷◌, Option, Some, None, Result, Ok, Err}
->>>>>>> 0014fe96ebf322e36afb57177c9d9a2b99ccb898
+use Rattle.std.specs.Prelude.{◌≡◌, ℕ, true, Option, Some, None, Result, Ok, Err}
 use Rattle.desk_model.specs.declared.edit.Edit.{Edit}
 use Rattle.desk_model.specs.declared.rows.ticket.TicketRow.{TicketRow}
+use Rattle.desk_model.specs.declared.rule_fault.RuleFault.{RuleFault}
 use Rattle.desk_model.specs.Effect.{entered, made, next_number}
 use Rattle.desk_model.specs.Lists.{Lists}
-<<<<<<< HEAD
-use Rattle.desk_history.specs.Refused.{refused_by_rows}
-=======
-use Rattle.desk_history.specs.Refused.{exemption_span, first_some, foreign_material, kind_changed, masses_exceed, name_taken, no_such_line, outside_annex}
-use Rattle.desk_history.specs.Refused.{refused_by_rows, ship_below_zero, stale_declaration, ticket_reused, unknown_exemption, unknown_material}
-use Rattle.desk_history.specs.Refused.{unknown_part, unknown_product, unknown_substance, units_too_large, wrong_child}
->>>>>>> 0014fe96ebf322e36afb57177c9d9a2b99ccb898
+use Rattle.desk_history.specs.Refused.{first_some, refused_by_rows, rules_of_names, rules_of_values, ticket_reused}
 use Rattle.desk_history.specs.Step.{kept_number, step}
 use Rattle.desk_tables.specs.Change.{changed}
 use Rattle.desk_tables.specs.Desk.{Desk}
@@ -26,34 +17,6 @@ use Rattle.desk_tables.specs.declared.plan.TablesPlan.{TablesPlan}
 use Rattle.desk_tables.specs.declared.plan.TablesPlan.TheVariants as plan
 use Rattle.desk_tables.specs.declared.row_change.RowChange.{RowChange}
 
-<<<<<<< HEAD
-=======
--- what the rules 2 to 10 say of the edit, in order: its names decide them
-abbrev pub rules_of_names : Lists → Edit → List (Option RuleFault)
-rules_of_names t edit =
-    unknown_substance t edit
-    ∷ unknown_material t edit
-    ∷ unknown_part t edit
-    ∷ unknown_product t edit
-    ∷ unknown_exemption t edit
-    ∷ name_taken t edit
-    ∷ kind_changed t edit
-    ∷ wrong_child t edit
-    ∷ no_such_line t edit
-    ∷ []
-
--- what the rules 11 to 17 say of the edit, in order: its values decide them
-abbrev pub rules_of_values : Lists → Edit → List (Option RuleFault)
-rules_of_values t edit =
-    foreign_material t edit
-    ∷ stale_declaration t edit
-    ∷ masses_exceed t edit
-    ∷ exemption_span t edit
-    ∷ outside_annex t edit
-    ∷ ship_below_zero t edit
-    ∷ units_too_large t edit
-    ∷ []
-
 -- a new edit that breaks none of the rules 1 to 17, which are tried without memory
 pub record PassesValues (t : Lists) (edit : Edit) : Type 0 where
   pub new : kept_number t edit ≡ None
@@ -61,7 +24,6 @@ pub record PassesValues (t : Lists) (edit : Edit) : Type 0 where
   pub names : first_some (rules_of_names t edit) ≡ None
   pub values : first_some (rules_of_values t edit) ≡ None
 
->>>>>>> 0014fe96ebf322e36afb57177c9d9a2b99ccb898
 -- a new edit that breaks none of the rules 1 to 19, with its rows and its ticket
 pub record PassesLimits (desk : Desk) (edit : Edit) (change : RowChange) (ticket : TicketRow) (room : Option ℕ) : Type 0 where
   pub new : kept_number desk.lists edit ≡ None

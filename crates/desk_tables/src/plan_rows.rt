@@ -3,14 +3,9 @@ ghost use Rattle.desk_model.specs.Effect.{entered, made};
 ghost use Rattle.desk_history.specs.Refused.{first_some, refused_by_rows, ticket_reused, table_full, text_full};
 ghost use Rattle.desk_history.specs.Sound.{Sound};
 ghost use Rattle.desk_history.specs.Step.{kept_number};
-<<<<<<< HEAD
-ghost use Rattle.desk_tables.specs.Change.{IsReady};
-ghost use Rattle.desk_history.specs.Refused.{rules_of_limits, rules_of_names, rules_of_values};
-ghost use Rattle.desk_tables.specs.Judged.{IsRowsFault, IsRowsPlan};
-=======
 ghost use Rattle.desk_tables.specs.Change.{IsReady, changed};
-ghost use Rattle.desk_tables.specs.Judged.{IsRowsFault, IsRowsPlan, PassesValues, rules_of_names, rules_of_values};
->>>>>>> 0014fe96ebf322e36afb57177c9d9a2b99ccb898
+ghost use Rattle.desk_history.specs.Refused.{rules_of_limits, rules_of_names, rules_of_values};
+ghost use Rattle.desk_tables.specs.Judged.{IsRowsFault, IsRowsPlan, PassesValues};
 ghost use Rattle.desk_tables.specs.Plan.{CanCommit, entered_by};
 ghost use Rattle.desk_tables.specs.Sums.{is_of_sums, may_raise_sums};
 ghost use Rattle.desk_tables.specs.Ticket.{ticket_for};
