@@ -5,7 +5,7 @@ use Rattle.std.specs.List.{list_any}
 use Rattle.std.specs.Option.{ok_or}
 use Rattle.std.specs.Result.{result_ok}
 use Rattle.std.specs.Str.{bytes_eq}
-use Rattle.desk_text.specs.Day.{Date}
+use Rattle.desk_text.specs.Day.{Date, is_askable}
 use Rattle.desk_text.specs.Forms.{an_askable_day}
 use Rattle.desk_text.specs.Number.{number_below}
 use Rattle.desk_law.specs.declared.kind.Kind.{Kind}
