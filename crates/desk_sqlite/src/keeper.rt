@@ -170,7 +170,9 @@ impl<S: Alter> SqlKeeper<S> {
 impl<S: Alter + Drop> SqlKeeper<S> {
     /// A keeper over the database of the connection, made ready where the database is new or a store. `Failed` comes where it is of
     /// somebody else, to which nothing is done, or can't be made ready. Then the connection is given back.
-    pub(crate) fn over(connection: Connection<S>) -> Result<SqlKeeper<S>, (KeepFault, Connection<S>)>
+    pub(crate) fn over(
+        connection: Connection<S>,
+    ) -> Result<SqlKeeper<S>, (KeepFault, Connection<S>)>
         ensures count { IfOk result (λ keeper. keeper.faults ≡ 0) }
         ensures ours { IfOk result (λ keeper. keeper.is_ours ≡ true) }
         ensures kept { IfOk result (λ keeper. KeepsRows (state S.Store connection) (state S.Store keeper.connection)) }

@@ -43,7 +43,11 @@ impl SqlShelf {
 }
 
 /// The store in the file at the path, which is entered among those that are lent.
-fn open_and_lend(rt: &HostRuntime, lent: &mut Lent, path: &[u8]) -> Result<FileKeeper<File>, KeepFault>
+fn open_and_lend(
+    rt: &HostRuntime,
+    lent: &mut Lent,
+    path: &[u8],
+) -> Result<FileKeeper<File>, KeepFault>
     ensures fresh { IfOk result (λ store. store.keeper.faults ≡ 0) }
     ensures lent { IfOk result (λ store. is_among lent.new path.now ≡ true) }
     ensures lends { (other : List ℕ) → is_among lent.old other ≡ true → is_among lent.new other ≡ true }

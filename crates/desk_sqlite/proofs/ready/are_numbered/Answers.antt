@@ -50,8 +50,7 @@ rows-preserved g c =
           let was = c.rows.invariant.2 (omega (arith, moved.survives.clean)) in
           let given = (rw (c.in_ok-row.was, c.in-Some.is) at (moved.ok clean)) numbers_text [] was.0 was.1 in
           let same = unchanged_then _ _ _ was.2 (rw c.in_ok-row.was at (moved.same clean)) in
-          let more = rising_push was.0 row number c.rows.last was.3 was.4 c.in_ok-number.ensures.ok.1 (search rules) in
-          (
+          let more = rising_push was.0 row number c.rows.last was.3 was.4 c.in_ok-number.ensures.ok.1 (search rules) in (
             was.0 ++ row ∷ [],
             given,
             same,
