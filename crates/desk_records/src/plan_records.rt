@@ -1,4 +1,4 @@
-ghost use Rattle.std.specs.Prelude.{◌≡◌, ◌<◌, ◌^◌, [], ◌∷◌, ◌++◌, decimal, IfOk, map, true};
+ghost use Rattle.std.specs.Prelude.{◌≡◌, ◌<◌, ◌^◌, [], ◌∷◌, ◌++◌, ◌≢◌, ℕ, decimal, IfErr, IfOk, map, true};
 ghost use Rattle.desk_edge.specs.Content.{IsChanged};
 ghost use Rattle.desk_edge.specs.declared.change.Change.TheVariants.{Put, Drop};
 ghost use Rattle.desk_history.specs.Sound.{Sound};
@@ -23,7 +23,7 @@ use std::alloc::Global;
 /// What the plan does to the records of a store of the tables: the record of each row that goes in is put, with the
 /// ticket's at the end, or the key of the row that is taken out is dropped. An edit that is kept changes nothing.
 ///
-/// `OutOfMemory`: none was left for the changes.
+/// `OutOfMemory`: none was left for the changes. An edit that is kept takes none.
 #[tactic(auto, unfolding(crate::specs::Changes::plan_changes))]
 pub fn changes(alloc: Global, plan: &TablesPlan) -> Result<Vec<Change>, OutOfMemory>
     ensures changes { IfOk result (λ changes. changes.items ≡ plan_changes plan.now) }
@@ -32,6 +32,7 @@ pub fn changes(alloc: Global, plan: &TablesPlan) -> Result<Vec<Change>, OutOfMem
     ensures moves { IfOk result (λ changes. (desk : Desk) (edit : Edit)
         → Sound desk.lists → is_edit_in_form edit ≡ true → IsPlan desk edit plan.now
         → IsChanged changes.items (tables_content desk.lists) (tables_content (step desk.lists edit).1)) }
+    ensures memory { IfErr result (λ _. (n : ℕ) → plan.now ≢ TablesPlan.Kept n) }
 {
     match plan {
         TablesPlan::Kept { .. } => Ok(Vec::new(alloc)),

@@ -1,5 +1,5 @@
-ghost use Rattle.std.specs.Prelude.{◌≡◌, Err, IfNone, IfOk, IfSome};
-ghost use Rattle.desk_fields.specs.RowTexts.{HasVersion};
+ghost use Rattle.std.specs.Prelude.{◌≡◌, Err, IfErr, IfNone, IfOk, IfSome, true};
+ghost use Rattle.desk_fields.specs.RowTexts.{HasVersion, has_texts};
 ghost use Rattle.desk_model.specs.declared.row.Row.{Row};
 ghost use Rattle.desk_model.specs.Rows.{table_number};
 ghost use Rattle.desk_records.specs.Records.{IsOfNoRow, IsRecordOf, record_of};
@@ -51,22 +51,25 @@ fn kind_of(row: &Row) -> u8
 ///
 /// `Version`: the first field of the body isn't `1`. `Shape`: it is, and no row has this record: its kind is no
 /// table's, its code or a field has another form or another spelling, a value is out of range, or a field is
-/// missing or too many. `OutOfMemory`: there was no memory to read it.
+/// missing or too many. `OutOfMemory`: there was no memory to read it; it comes only behind the version, and only where rows of the
+/// table hold texts or lists.
 pub fn read_record(alloc: Global, kept: &Record) -> Result<Row, RecordFault>
     ensures row { IfOk result (λ row. IsRecordOf row kept.now) }
     ensures version { result ≡ Err RecordFault.Version → HasVersion kept.now.body → ⊥ }
     ensures versioned { result ≡ Err RecordFault.Shape → HasVersion kept.now.body }
     ensures shape { result ≡ Err RecordFault.Shape → (row : Row) → IsRecordOf row kept.now → ⊥ }
+    ensures memory { result ≡ Err RecordFault.OutOfMemory → HasVersion kept.now.body × (has_texts kept.now.kind ≡ true) }
 {
     read_row(alloc, kept.kind, kept.code.as_slice(), kept.body.as_slice())
 }
 
 /// The row that has this record, if one does. It is for callers to whom it doesn't matter why no row has it.
 ///
-/// `OutOfMemory`: there was no memory to read it.
+/// `OutOfMemory`: there was no memory to read it; it comes only where `read_record` may tell it.
 pub fn row_of_record(alloc: Global, kept: &Record) -> Result<Option<Row>, OutOfMemory>
     ensures some { IfOk result (λ found. IfSome found (λ row. IsRecordOf row kept.now)) }
     ensures none { IfOk result (λ found. IfNone found (IsOfNoRow kept.now)) }
+    ensures memory { IfErr result (λ _. HasVersion kept.now.body × (has_texts kept.now.kind ≡ true)) }
 {
     match read_record(alloc, kept) {
         Ok(row) => Ok(Some(row)),
