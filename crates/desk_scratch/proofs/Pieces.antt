@@ -36,21 +36,21 @@ each_joined Q (x ∷ xs) ys a b = (a.0, each_joined Q xs ys a.1 b)
 -- the texts of the elements that pass are of the elements that pass
 each_passed : {X T : Type 0} (Q : T → Type 0) (f : X → T) (p : X → Bool) → ((x : X) → p x ≡ true → Q (f x)) → (xs : List X) → AllByRecursion Q (map f (filter p xs))
 each_passed Q f p good [] = tt
-each_passed Q f p good (x ∷ xs) = by (p x) refl
+each_passed Q f p good (x ∷ xs) = by (p x) refl (each_passed Q f p good xs)
   where
-    by : (b : Bool) → p x ≡ b → AllByRecursion Q (map f (cond b (x ∷ filter p xs) (filter p xs)))
-    by true e = (good x e, each_passed Q f p good xs)
-    by false e = each_passed Q f p good xs
+    by : (b : Bool) → p x ≡ b → AllByRecursion Q (map f (filter p xs)) → AllByRecursion Q (map f (cond b (x ∷ filter p xs) (filter p xs)))
+    by true e others = (good x e, others)
+    by false e others = others
 
 -- so are the texts of lists that each of them has
 each_passed_list : {X T : Type 0} (Q : T → Type 0) (f : X → List T) (p : X → Bool) → ((x : X) → p x ≡ true → AllByRecursion Q (f x)) → (xs : List X)
     → AllByRecursion Q (flat_map f (filter p xs))
 each_passed_list Q f p good [] = tt
-each_passed_list Q f p good (x ∷ xs) = by (p x) refl
+each_passed_list Q f p good (x ∷ xs) = by (p x) refl (each_passed_list Q f p good xs)
   where
-    by : (b : Bool) → p x ≡ b → AllByRecursion Q (flat_map f (cond b (x ∷ filter p xs) (filter p xs)))
-    by true e = each_joined Q (f x) (flat_map f (filter p xs)) (good x e) (each_passed_list Q f p good xs)
-    by false e = each_passed_list Q f p good xs
+    by : (b : Bool) → p x ≡ b → AllByRecursion Q (flat_map f (filter p xs)) → AllByRecursion Q (flat_map f (cond b (x ∷ filter p xs) (filter p xs)))
+    by true e others = each_joined Q (f x) (flat_map f (filter p xs)) (good x e) others
+    by false e others = others
 
 joined_map : {X : Type 0} (f : X → List ℕ) (xs : List X) → concat (map f xs) ≡ flat_map f xs
 joined_map f [] = refl
