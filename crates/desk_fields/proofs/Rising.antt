@@ -39,7 +39,7 @@ module _ {A : Type 0} (order : A → A → Ordering) (total : IsTotalOrder order
       let parts = and_parts (list_all (λ later. is_lt (order a later)) (b ∷ rest)) (rises order (b ∷ rest)) e in
       and_from (is_lt (order a b)) (in_turn order (b ∷ rest)) (and_parts (is_lt (order a b)) (list_all (λ later. is_lt (order a later)) rest) parts.0).0 (turn_from_rises (b ∷ rest) parts.1)
 
--- by their keys
+  -- by their keys
   -- so a list whose values rise one after the other is one whose values rise
   pub rises_in_turn : (xs : List A) → rises order xs ≡ in_turn order xs
   rises_in_turn xs = same (rises order xs) (in_turn order xs) (turn_from_rises xs) (rises_from_turn xs)

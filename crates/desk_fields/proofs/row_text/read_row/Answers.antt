@@ -29,6 +29,7 @@ returns-clause-row c =
 pub returns-in_err-row_of-clause-memory : goal.returns-in_err-row_of-clause-memory
 unfolding fields_of
 returns-in_err-row_of-clause-memory c =
-    λ e.
-    ((c.take_version.new.fields, sym c.of-fields.ensures ∙ c.if-not-take_version.ensures),
-      c.row_of.ensures.memory (c.in_err-row_of.was ∙ ap (λ f. Err f) (handed_memory _ _ c.from_residual.ensures.1 e)))
+    λ e. (
+      (c.take_version.new.fields, sym c.of-fields.ensures ∙ c.if-not-take_version.ensures),
+      c.row_of.ensures.memory (c.in_err-row_of.was ∙ ap (λ f. Err f) (handed_memory _ _ c.from_residual.ensures.1 e)),
+    )
