@@ -41,4 +41,4 @@ replied R old new served.Ended unread now before after x same = let y = (x (λ e
 replied R old new served.Cut unread now before after x same = let y = (x (λ e. cc)).3 in (y.requests, y.said, y.answered)
 replied R old new served.TooLong unread now before after x same = let y = (x (λ e. cc)).3 in (y.requests, y.said, y.answered)
 replied R old new served.LinkFault unread now before after x same = let y = (x (λ e. cc)).3 in (y.requests, y.said, y.answered)
-replied R old new served.OutOfMemory unread now before after x same = ([], [], (refl, same refl))
+replied R old new served.OutOfMemory unread now before after x same = ([], [], ([], same refl, refl))
