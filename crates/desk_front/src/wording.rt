@@ -4,6 +4,7 @@ ghost use Rattle.desk_front.specs.Replies.{accepted_body, answer_at, bad_declara
 ghost use Rattle.desk_history.specs.Sound.{Sound};
 ghost use Rattle.desk_http.specs.declared.fixed.Fixed.TheVariants as refusal;
 ghost use Rattle.desk_http.specs.declared.http_fault.HttpFault.TheVariants as cause;
+ghost use Rattle.desk_http.specs.declared.http_fault.QueryKey.{QueryKey};
 ghost use Rattle.desk_http.specs.declared.method.Method.{Method};
 ghost use Rattle.desk_http.specs.declared.method.Method.TheVariants as method;
 ghost use Rattle.desk_declare.specs.declared.declare_fault.DeclareFault.TheVariants as undeclared;
@@ -160,7 +161,8 @@ pub(crate) fn tell_bad_declaration(
     tell(StatusCode::BAD_REQUEST, body.as_bytes(), close, out)
 }
 
-/// Appends why a request asks nothing, where that takes a body of its own.
+/// Appends why a request asks nothing, where that takes a body of its own. Memory is wanting only for such a body, or where it was wanting
+/// before.
 pub(crate) fn tell_no_ask(
     alloc: Global,
     fault: HttpFault,
@@ -170,6 +172,7 @@ pub(crate) fn tell_no_ask(
     requires { (allow : Method) → fault ≡ cause.WrongMethod allow → allow ≢ method.Other }
     ensures ok { OnOk result ((fault ≢ cause.OutOfMemory) × (out.new ≡ out.old ++ bytes_with close (no_ask fault))) }
     ensures fixed { IfErr result (λ told. (told ≡ refusal.Memory) ⊎ ((fault ≢ cause.OutOfMemory) × (no_ask fault ≡ fixed told))) }
+    ensures memory { result ≡ Err refusal.Memory → (fault ≡ cause.OutOfMemory) ⊎ ((key : QueryKey) × (fault ≡ cause.BadQuery key)) }
     ensures allow { IfErr result (λ told. allow_of told ≢ Some method.Other) }
     ensures err { OnErr result (out.new ≡ out.old) }
 {
