@@ -1,9 +1,10 @@
 -- What a query says: its pairs of name and value, by the form of `application/x-www-form-urlencoded`.
 use Rattle.std.specs.Prelude.{ℕ, List, [], ◌∷◌, Option, Some, None, codes, filter, map}
+use Rattle.std.specs.List.{AllByRecursion}
 use Rattle.std.specs.Option.{option_and_then}
 use Rattle.std.specs.Str.{bytes_eq}
 use Rattle.std.specs.Str.Lossy.{utf8_lossy}
-use Rattle.form_urlencoded.specs.Form.{decode, raw_pairs}
+use Rattle.form_urlencoded.specs.Form.{IsPlainText, decode, raw_pairs}
 use Rattle.desk_text.specs.Day.{Date}
 use Rattle.desk_text.specs.Forms.{an_askable_day}
 use Rattle.desk_law.specs.declared.kind.Kind.{Kind}
@@ -12,6 +13,10 @@ use Rattle.desk_law.specs.Kind.{kind_of}
 -- a name and its value
 abbrev pub Pair : Type 0
 Pair = List ℕ × List ℕ
+
+-- no name and no value of these pairs has to be decoded
+abbrev pub ArePlain : List Pair → Type 0
+ArePlain raw = AllByRecursion (λ pair. IsPlainText pair.0 × IsPlainText pair.1) raw
 
 -- the text that a name or a value spells: `+` is a space, escapes are decoded, and what is no UTF-8 becomes U+FFFD
 abbrev pub text_of : List ℕ → List ℕ

@@ -1,4 +1,4 @@
-ghost use Rattle.std.specs.Prelude.{◌≡◌, ◌≢◌, ◌++◌, ℕ, List, [], ◌∷◌, Err, IfOk};
+ghost use Rattle.std.specs.Prelude.{◌≡◌, ◌≢◌, ◌++◌, ℕ, List, [], ◌∷◌, Err, IfOk, IsOk};
 ghost use Rattle.std.specs.Cow.{cow_str_bytes};
 ghost use Rattle.std.specs.Option.{ok_or};
 ghost use Rattle.desk_text.specs.Day.{Date};
@@ -10,7 +10,8 @@ ghost use Rattle.desk_law.specs.Kind.{kind_of};
 ghost use Rattle.desk_http.specs.Endpoints.{row_at};
 ghost use Rattle.desk_http.specs.Fields.{IsAsked, IsField, IsQueryOf, by_day, by_kind_and_day, by_nothing, is_absent, key_named, names_of};
 ghost use Rattle.desk_text.specs.Forms.{an_askable_day};
-ghost use Rattle.desk_http.specs.Query.{Pair, day_in, kind_in, pairs_of};
+ghost use Rattle.desk_http.specs.Query.{ArePlain, Pair, day_in, kind_in, pairs_of};
+ghost use Rattle.form_urlencoded.specs.Form.{raw_pairs};
 ghost use Rattle.desk_http.specs.Routes.{are_named, asked_at, asked_by};
 
 use crate::ask::Ask;
@@ -63,9 +64,10 @@ impl Query {
         }
     }
 
-    /// Reads the pairs between the `&` of a query.
+    /// Reads the pairs between the `&` of a query. Memory is wanting only where a name or a value has to be decoded.
     pub(crate) fn read(alloc: Global, bytes: &[u8]) -> Result<Query, AllocError>
-        ensures { IfOk result (λ query. IsQueryOf query (pairs_of bytes.now)) }
+        ensures value { IfOk result (λ query. IsQueryOf query (pairs_of bytes.now)) }
+        ensures memory { ArePlain (raw_pairs bytes.now) → IsOk result }
     {
         let mut query = Query::new();
         for pair in parse(alloc, bytes) {
