@@ -9,6 +9,7 @@ ghost use Rattle.desk_history.specs.Step.{kept_number, step};
 ghost use Rattle.desk_model.specs.Lists.{Lists};
 ghost use Rattle.desk_model.specs.declared.rule_fault.RuleFault.{RuleFault as Fault};
 ghost use Rattle.desk_records.specs.Records.{tables_content};
+ghost use Rattle.desk_tables.specs.Plan.{IsPlan};
 
 use crate::accepted::Accepted;
 use crate::keeping::{keep, refusal};
@@ -17,7 +18,7 @@ use crate::open_refused::OpenRefused;
 use crate::opening::open_tables;
 use crate::submit_fault::SubmitFault;
 use desk_edge::Keeper;
-use desk_tables::{Edit, Tables};
+use desk_tables::{Edit, Tables, TablesPlan};
 use std::alloc::Global;
 use std::marker::Model;
 use std::sync::Wait;
@@ -120,6 +121,33 @@ impl<K: Keeper> Clerk<K> {
             Ok(plan) => plan,
             Err(fault) => return Err(refusal(fault, self.number())),
         };
+        self.carry_out(alloc, &edit, plan)
+    }
+
+    /// Keeps what the plan of the edit changes in the store, in one commit, and then makes it in the tables. For an edit that is kept
+    /// already memory isn't wanting.
+    fn carry_out(
+        &mut self,
+        alloc: Global,
+        edit: &Edit,
+        plan: TablesPlan,
+    ) -> Result<Accepted, SubmitFault>
+        requires { IsPlan self.old.desk edit.now plan }
+        ensures number { IfOk result (λ accepted. (step (whole self.old) edit.now).0 ≡ Ok accepted.number) }
+        ensures list { IfOk result (λ accepted. accepted.whole ≡ number_at (whole self.new)) }
+        ensures ok { OnOk result (whole self.new ≡ (step (whole self.old) edit.now).1) }
+        ensures err { OnErr result (whole self.new ≡ whole self.old) }
+        ensures no_rule { (fault : Fault) (n : ℕ) → result ≢ Err (SubmitFault.Rule fault n) }
+        ensures again { (n : ℕ) → kept_number (whole self.old) edit.now ≡ Some n → keeper_of self.new ≡ keeper_of self.old }
+        ensures memory { (n : ℕ) → kept_number (whole self.old) edit.now ≡ Some n → result ≢ Err SubmitFault.OutOfMemory }
+        ensures told { K.Tells (keeper_of self.new) → K.Tells (keeper_of self.old) }
+        ensures never_falls { K.faults (keeper_of self.old) ≤ K.faults (keeper_of self.new) }
+        ensures steady { result ≢ Err SubmitFault.KeeperFault → K.faults (keeper_of self.new) ≡ K.faults (keeper_of self.old) }
+        ensures failed { IsErrOf result SubmitFault.KeeperFault → Rose (K.faults (keeper_of self.old)) (K.faults (keeper_of self.new)) }
+        ensures asked { IsErrOf result SubmitFault.KeeperFault
+            → (kept_number (whole self.old) edit.now ≡ None) × (is_ok (step (whole self.old) edit.now).0 ≡ true) }
+    {
+        edit.in_form();
         if let Err(fault) = keep(alloc, &mut self.keeper, &plan) {
             return Err(fault);
         }

@@ -30,6 +30,7 @@ pub(crate) fn keep<K: Keeper>(
     ensures err { OnErr result (K.Tells keeper.new → IsSame (K.content keeper.old) (K.content keeper.new)) }
     ensures again { (n : ℕ) → plan.now ≡ TablesPlan.Kept n → keeper.new ≡ keeper.old }
     ensures asked { (n : ℕ) → plan.now ≡ TablesPlan.Kept n → result ≢ Err SubmitFault.KeeperFault }
+    ensures memory { (n : ℕ) → plan.now ≡ TablesPlan.Kept n → result ≢ Err SubmitFault.OutOfMemory }
     ensures no_rule { (fault : RuleFault) (n : ℕ) → result ≢ Err (SubmitFault.Rule fault n) }
     ensures told { K.Tells keeper.new → K.Tells keeper.old }
     ensures never_falls { K.faults keeper.old ≤ K.faults keeper.new }

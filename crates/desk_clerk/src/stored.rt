@@ -1,7 +1,8 @@
-ghost use Rattle.std.specs.Prelude.{◌≡◌, ◌≢◌, ℕ, [], ◌∷◌, ◌++◌, List, Err, IfOk};
+ghost use Rattle.std.specs.Prelude.{◌≡◌, ◌≢◌, ℕ, [], ◌∷◌, ◌++◌, List, Err, IfErr, IfOk};
 ghost use Rattle.desk_clerk.specs.Opening.{AreTablesOf, IsDamage, content_in};
 ghost use Rattle.desk_clerk.specs.Stored.{IsMadeOf};
 ghost use Rattle.desk_edge.specs.Content.{IsSame, key_cmp, key_of};
+ghost use Rattle.desk_edge.specs.declared.key.Key.{Key as Named};
 ghost use Rattle.desk_edge.specs.declared.record.Record.{Record};
 ghost use Rattle.desk_history.specs.Breaches.{IsBrokenAt};
 ghost use Rattle.desk_history.specs.Sound.{Sound};
@@ -37,7 +38,8 @@ impl Stored {
     /// With one record more behind.
     #[tactic(auto, using(crate::proofs::Making::no_row_later), unfolding(crate::specs::Stored::IsMadeOf))]
     pub(crate) fn with_record(self, alloc: Global, kept: Record) -> Result<Stored, OutOfMemory>
-        ensures { IfOk result (λ stored. (records : List Record) → IsMadeOf records self → IsMadeOf (records ++ kept ∷ []) stored) }
+        ensures made { IfOk result (λ stored. (records : List Record) → IsMadeOf records self → IsMadeOf (records ++ kept ∷ []) stored) }
+        ensures memory { IfErr result (λ _. (key : Named) → self ≢ Stored.NoRow key) }
     {
         match self {
             Stored::Rows(tables) => with_row(alloc, tables, kept),
@@ -59,6 +61,9 @@ impl Stored {
             → (records : List Record) → IsByKey key_of key_cmp records → IsMadeOf records self
             → (t : Lists) → Sound t → IsSame (content_in records) (tables_content t) → ⊥ }
         ensures no_fault { result ≢ Err OpenFault.KeeperFault }
+
+        // That a record is that of no row is told without memory.
+        ensures memory { (key : Named) → self ≡ Stored.NoRow key → result ≢ Err OpenFault.OutOfMemory }
     {
         match self {
             Stored::Rows(gathering) => sound_tables(alloc, gathering),

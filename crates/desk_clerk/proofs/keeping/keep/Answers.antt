@@ -23,3 +23,11 @@ pub returns-in_err-commit-clause-asked : goal.returns-in_err-commit-clause-asked
 returns-in_err-commit-clause-asked g c = λ n kept.
     let changes = c.in_ok-changes.changes in
     absurd (some_there changes.items changes.len c.is_empty.result changes.ok.0 c.is_empty.ensures c.if-is_empty.false (c.in_ok-changes.ensures.changes ∙ ap plan_changes kept ∙ none_of_kept n))
+
+pub returns-in_err-commit-clause-memory : goal.returns-in_err-commit-clause-memory
+returns-in_err-commit-clause-memory g c = λ n kept.
+    let changes = c.in_ok-changes.changes in
+    absurd (some_there changes.items changes.len c.is_empty.result changes.ok.0 c.is_empty.ensures c.if-is_empty.false (c.in_ok-changes.ensures.changes ∙ ap plan_changes kept ∙ none_of_kept n))
+
+pub returns-in_err-changes-clause-memory : goal.returns-in_err-changes-clause-memory
+returns-in_err-changes-clause-memory g c = λ n kept. absurd (c.in_err-changes.ensures.memory n kept)
