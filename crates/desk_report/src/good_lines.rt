@@ -114,6 +114,9 @@ impl GoodLines {
             → (bytes : List ℕ) → IsReadTo bytes self → IsDamagedLine bytes line }
         ensures causes { (result ≢ Err ReportFault.KeeperFault) × (result ≢ Err ReportFault.LinkFault)
             × (result ≢ Err ReportFault.NotEmpty) × (result ≢ Err ReportFault.TooLong) }
+
+        // That a line is begun is told without memory.
+        ensures memory { result ≡ Err ReportFault.OutOfMemory → self.held ≡ [] }
     {
         let GoodLines {
             records,

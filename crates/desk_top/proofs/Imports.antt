@@ -9,6 +9,7 @@ use Rattle.desk_records.specs.Records.{tables_content}
 use Rattle.desk_top.specs.Answer.{Answer, Answers, answer_to_failed_reading, answer_to_store_fault, answer_without_memory, status_code}
 use Rattle.desk_top.specs.Console.{Console}
 use Rattle.desk_top.specs.Import.{EndsImport, IsImportRefusal}
+use Rattle.desk_top.specs.Store.{IsUnopened}
 use Rattle.desk_top.specs.declared.status.Status.{Status}
 use Rattle.desk_top.specs.declared.status.Status.TheVariants as status
 use Rattle.desk_top.proofs.Stores.{keeps_of, same_trans}
@@ -52,13 +53,14 @@ import_as Told Tells a b c d faults ended console rose tells same given (inr was
 }
 
 -- the shelf didn't open a store: nothing was put in, and the line tells why
-pub not_lent : (Told Tells lost : Type 0) (kept keeps : Content) (ended : Status) (console : Console) (rose : Type 0)
+pub not_lent : (Told Tells lost : Type 0) (kept keeps : Content) (count : ℕ) (ended : Status) (console : Console) (rose : Type 0)
     → (ended ≡ status.StoreFault) ⊎ (ended ≡ status.OutOfMemory) → (ended ≡ status.StoreFault → lost)
     → (ended ≡ status.StoreFault → Answers answer_to_store_fault (status_code ended) console.before console.after rose)
     → (ended ≡ status.OutOfMemory → Answers answer_without_memory (status_code ended) console.before console.after rose)
     → console.left ≡ console.unread → (Tells → Told × IsSame kept keeps)
     → (faults : ℕ) × EndsImport Tells kept keeps faults (status_code ended) console rose × (Tells → Told) × (0 < faults → lost)
-not_lent Told Tells lost kept keeps ended console rose (inl is) failed store_line memory_line stays others = (
+    × ((faults ≡ count) ⊎ IsUnopened (status_code ended) console)
+not_lent Told Tells lost kept keeps count ended console rose (inl is) failed store_line memory_line stays others = (
   1,
   inr record {
     answer = answer_to_store_fault;
@@ -69,9 +71,10 @@ not_lent Told Tells lost kept keeps ended console rose (inl is) failed store_lin
     taken = ([], rw stays (Consumes-nil console.unread), search (arith));
   },
   (λ tells. (others tells).0),
-  λ some. failed is,
+  (λ some. failed is),
+  inr (inl (ap status_code is), keeps_of _ _ stays),
 )
-not_lent Told Tells lost kept keeps ended console rose (inr is) failed store_line memory_line stays others = (
+not_lent Told Tells lost kept keeps count ended console rose (inr is) failed store_line memory_line stays others = (
   0,
   inr record {
     answer = answer_without_memory;
@@ -82,7 +85,8 @@ not_lent Told Tells lost kept keeps ended console rose (inr is) failed store_lin
     taken = ([], rw stays (Consumes-nil console.unread), search (arith));
   },
   (λ tells. (others tells).0),
-  λ some. absurd (search (arith, some)),
+  (λ some. absurd (search (arith, some))),
+  inr (inr (ap status_code is), keeps_of _ _ stays),
 )
 
 -- what is said of a line from where the reading ended is said of it from the beginning: reading writes nothing and counts nothing

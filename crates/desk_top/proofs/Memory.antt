@@ -7,7 +7,7 @@ use Rattle.desk_top.specs.Console.{Console}
 use Rattle.desk_top.specs.Run.{Does, IsAnswered, IsSession}
 use Rattle.desk_top.specs.Sample.{answer_to_sample}
 use Rattle.desk_top.specs.Session.{nothing_kept}
-use Rattle.desk_top.specs.Store.{WasNotBegun}
+use Rattle.desk_top.specs.Store.{IsUnopened, WasNotBegun}
 use Rattle.desk_top.specs.declared.status.Status.TheVariants as status
 use Rattle.desk_law.specs.declared.kind_on_day.KindOnDay.{KindOnDay}
 use Rattle.desk_words.specs.declared.command.Command.{Command}
@@ -33,6 +33,9 @@ module _ (console : Console) (rose : Type 0) (stays : console.left ≡ console.u
       unbegun Tells kept kept 0 (status_code status.OutOfMemory) answer_without_memory console rose (inr (inr refl)) (inl refl) told
       (keeps_of console.unread console.left stays) (λ tells key. refl)
 
+  unopened : IsUnopened (status_code status.OutOfMemory) console
+  unopened = (inr refl, keeps_of console.unread console.left stays)
+
   unchecked : (check : KindOnDay) → IsAnswered check (status_code status.OutOfMemory) console rose
   unchecked check =
       let (input, is) = some_input console.unread in record {
@@ -44,17 +47,17 @@ module _ (console : Console) (rose : Type 0) (stays : console.left ≡ console.u
         fault = λ other. cc other;
       }
 
-  unserved : (Tells : List ℕ → Type 0) (kept : List ℕ → Content) (lost : Type 0) (store : Option (List ℕ))
-      → IsSession Tells Tells kept kept lost store (status_code status.OutOfMemory) console rose
-  unserved Tells kept lost None = (nothing_kept, inr (not_begun (Unit {0}) nothing_kept))
-  unserved Tells kept lost (Some name) = (0, inr (not_begun (Tells name) (kept name)), (λ tells. tells), λ some. absurd (search (arith, some)))
+  unserved : (Tells : List ℕ → Type 0) (kept : List ℕ → Content) (count : List ℕ → ℕ) (lost : Type 0) (store : Option (List ℕ))
+      → IsSession Tells Tells kept kept count lost store (status_code status.OutOfMemory) console rose
+  unserved Tells kept count lost None = (nothing_kept, inr (not_begun (Unit {0}) nothing_kept))
+  unserved Tells kept count lost (Some name) = (0, inr (not_begun (Tells name) (kept name)), (λ tells. tells), (λ some. absurd (search (arith, some))), inr unopened)
 
-  pub undone : (Tells : List ℕ → Type 0) (kept : List ℕ → Content) (lost : Type 0) (command : Command)
-      → Does Tells Tells kept kept lost command (status_code status.OutOfMemory) console rose
-  undone Tells kept lost (asked.Check check) = unchecked check
-  undone Tells kept lost (asked.Session session) = unserved Tells kept lost session.store
-  undone Tells kept lost (asked.Export export) = (0, inr (not_begun (Tells export.store) (kept export.store)), (λ tells. tells), λ some. absurd (search (arith, some)))
-  undone Tells kept lost (asked.Import import) = (
+  pub undone : (Tells : List ℕ → Type 0) (kept : List ℕ → Content) (count : List ℕ → ℕ) (lost : Type 0) (command : Command)
+      → Does Tells Tells kept kept count lost command (status_code status.OutOfMemory) console rose
+  undone Tells kept count lost (asked.Check check) = unchecked check
+  undone Tells kept count lost (asked.Session session) = unserved Tells kept count lost session.store
+  undone Tells kept count lost (asked.Export export) = (0, inr (not_begun (Tells export.store) (kept export.store)), (λ tells. tells), (λ some. absurd (search (arith, some))), inr unopened)
+  undone Tells kept count lost (asked.Import import) = (
     0,
     inr record {
       answer = answer_without_memory;
@@ -65,7 +68,8 @@ module _ (console : Console) (rose : Type 0) (stays : console.left ≡ console.u
       taken = ([], rw stays (Consumes-nil console.unread), search (arith));
     },
     (λ tells. tells),
-    λ some. absurd (search (arith, some)),
+    (λ some. absurd (search (arith, some))),
+    inr unopened,
   )
-  undone Tells kept lost (asked.Audit audit) = (0, inr (not_begun (Tells audit.store) (kept audit.store)), (λ tells. tells), λ some. absurd (search (arith, some)))
-  undone Tells kept lost (asked.Sample sample) = (stays, any_answer (answer_to_sample sample.size) console.before console.after rose told)
+  undone Tells kept count lost (asked.Audit audit) = (0, inr (not_begun (Tells audit.store) (kept audit.store)), (λ tells. tells), (λ some. absurd (search (arith, some))), inr unopened)
+  undone Tells kept count lost (asked.Sample sample) = (stays, any_answer (answer_to_sample sample.size) console.before console.after rose told)

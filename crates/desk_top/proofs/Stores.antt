@@ -15,7 +15,7 @@ use Rattle.desk_records.specs.Records.{tables_content}
 use Rattle.desk_top.specs.Answer.{Answer, Answers, answer_of_opening, answer_to_store_fault, answer_without_memory, status_code}
 use Rattle.desk_top.specs.Console.{Console}
 use Rattle.desk_top.specs.Session.{EndsSession, WasServed, exit_status_of}
-use Rattle.desk_top.specs.Store.{IsCause, WasNotBegun}
+use Rattle.desk_top.specs.Store.{IsCause, IsUnopened, WasNotBegun}
 use Rattle.desk_top.specs.declared.status.Status.{Status}
 use Rattle.desk_top.specs.declared.status.Status.TheVariants as status
 
@@ -153,23 +153,26 @@ unbegun Tells kept keeps faults ended answer console rose cause is told unread s
 }
 
 -- the shelf didn't open a store: nothing began, and the line tells why
-pub not_lent : (Told Tells lost : Type 0) (kept keeps : Content) (ended : Status) (console : Console) (rose : Type 0)
+pub not_lent : (Told Tells lost : Type 0) (kept keeps : Content) (count : ℕ) (ended : Status) (console : Console) (rose : Type 0)
     → (ended ≡ status.StoreFault) ⊎ (ended ≡ status.OutOfMemory) → (ended ≡ status.StoreFault → lost)
     → (ended ≡ status.StoreFault → Answers answer_to_store_fault (status_code ended) console.before console.after rose)
     → (ended ≡ status.OutOfMemory → Answers answer_without_memory (status_code ended) console.before console.after rose)
     → console.left ≡ console.unread → (Tells → Told × IsSame kept keeps)
     → (faults : ℕ) × WasNotBegun Tells kept keeps faults (status_code ended) console rose × (Tells → Told) × (0 < faults → lost)
-not_lent Told Tells lost kept keeps ended console rose (inl is) failed store_line memory_line stays others = (
+    × ((faults ≡ count) ⊎ IsUnopened (status_code ended) console)
+not_lent Told Tells lost kept keeps count ended console rose (inl is) failed store_line memory_line stays others = (
   1,
   unbegun Tells kept keeps 1 (status_code ended) answer_to_store_fault console rose (inl (refl, search (arith))) (inl (ap status_code is))
       (store_line is) (keeps_of _ _ stays) (λ tells. (others tells).1),
   (λ tells. (others tells).0),
-  λ some. failed is,
+  (λ some. failed is),
+  inr (inl (ap status_code is), keeps_of _ _ stays),
 )
-not_lent Told Tells lost kept keeps ended console rose (inr is) failed store_line memory_line stays others = (
+not_lent Told Tells lost kept keeps count ended console rose (inr is) failed store_line memory_line stays others = (
   0,
   unbegun Tells kept keeps 0 (status_code ended) answer_without_memory console rose (inr (inr refl)) (inl (ap status_code is))
       (memory_line is) (keeps_of _ _ stays) (λ tells. (others tells).1),
   (λ tells. (others tells).0),
-  λ some. absurd (search (arith, some)),
+  (λ some. absurd (search (arith, some))),
+  inr (inr (ap status_code is), keeps_of _ _ stays),
 )

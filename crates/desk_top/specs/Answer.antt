@@ -108,6 +108,12 @@ IsInput (Some told) input = input ≡ told
 abbrev pub answer_to_check : KindOnDay → List ℕ → Answer
 answer_to_check check bytes = answer_of_check (checked check bytes)
 
+-- where a check ends with the status of a console's fault a read has failed, or what was to be written is the text of a success: the line
+-- of a refusal that can't be written changes no status
+abbrev pub IsReadingTold : KindOnDay → ℕ → Option (List ℕ) → Type 0 → Type 0
+IsReadingTold check ended unread failed =
+    ended ≡ status_code ConsoleFault → failed ⊎ ((input : List ℕ) × IsInput unread input × ((answer_to_check check input).status ≡ Done))
+
 -- what is written where the program ends with this status: the answer's text, or the line that memory was wanting
 abbrev pub text_with : ℕ → Answer → List ℕ
 text_with ended answer = if ended == status_code OutOfMemory then answer_without_memory.text else answer.text

@@ -7,4 +7,5 @@ pub mod Reports
 pub mod Run
 pub mod Sample
 pub mod Session
+pub mod Sorted
 pub mod Store

@@ -32,19 +32,19 @@ abbrev pub IsWritten : (Console → Type 0) → Console → Type 0
 IsWritten Told c = (c.left ≡ c.unread) × Told c
 
 -- a session is served over the desk of its store, or without one over a new desk, whose keeper counts no fault
-abbrev pub IsSession : (Told Tells : List ℕ → Type 0) → (kept keeps : List ℕ → Content) → Type 0 → Option (List ℕ) → ℕ → Console → Type 0 → Type 0
-IsSession Told Tells kept keeps lost None ended c rose = (content : Content) × EndsSession (Unit {0}) nothing_kept content 0 ended c rose
-IsSession Told Tells kept keeps lost (Some name) ended c rose = OnStore Told Tells kept keeps lost EndsSession name ended c rose
+abbrev pub IsSession : (Told Tells : List ℕ → Type 0) → (kept keeps : List ℕ → Content) → (List ℕ → ℕ) → Type 0 → Option (List ℕ) → ℕ → Console → Type 0 → Type 0
+IsSession Told Tells kept keeps count lost None ended c rose = (content : Content) × EndsSession (Unit {0}) nothing_kept content 0 ended c rose
+IsSession Told Tells kept keeps count lost (Some name) ended c rose = OnStore Told Tells kept keeps count lost EndsSession name ended c rose
 
 -- What each command comes to, where the program ends with this status. Of the shelf: of which stores it tells what they keep, before and
--- after, what these keep, before and after, and whether its count of faults rose.
-abbrev pub Does : (Told Tells : List ℕ → Type 0) → (kept keeps : List ℕ → Content) → Type 0 → Command → ℕ → Console → Type 0 → Type 0
-Does Told Tells kept keeps lost (asked.Check check) ended c rose = IsAnswered check ended c rose
-Does Told Tells kept keeps lost (asked.Session session) ended c rose = IsSession Told Tells kept keeps lost session.store ended c rose
-Does Told Tells kept keeps lost (asked.Export export) ended c rose = OnStore Told Tells kept keeps lost EndsExport export.store ended c rose
-Does Told Tells kept keeps lost (asked.Import import) ended c rose = OnStore Told Tells kept keeps lost EndsImport import.store ended c rose
-Does Told Tells kept keeps lost (asked.Audit audit) ended c rose = OnStore Told Tells kept keeps lost (EndsAudit audit.day) audit.store ended c rose
-Does Told Tells kept keeps lost (asked.Sample sample) ended c rose =
+-- after, what these keep, before and after, how many faults each had counted as it was given back, and whether its own count rose.
+abbrev pub Does : (Told Tells : List ℕ → Type 0) → (kept keeps : List ℕ → Content) → (List ℕ → ℕ) → Type 0 → Command → ℕ → Console → Type 0 → Type 0
+Does Told Tells kept keeps count lost (asked.Check check) ended c rose = IsAnswered check ended c rose
+Does Told Tells kept keeps count lost (asked.Session session) ended c rose = IsSession Told Tells kept keeps count lost session.store ended c rose
+Does Told Tells kept keeps count lost (asked.Export export) ended c rose = OnStore Told Tells kept keeps count lost EndsExport export.store ended c rose
+Does Told Tells kept keeps count lost (asked.Import import) ended c rose = OnStore Told Tells kept keeps count lost EndsImport import.store ended c rose
+Does Told Tells kept keeps count lost (asked.Audit audit) ended c rose = OnStore Told Tells kept keeps count lost (EndsAudit audit.day) audit.store ended c rose
+Does Told Tells kept keeps count lost (asked.Sample sample) ended c rose =
     IsWritten (λ c. Answers (answer_to_sample sample.size) ended c.before c.after rose) c
 
 -- the name of the store that a command is for, if it is for one

@@ -9,7 +9,7 @@ use Rattle.desk_model.specs.Start.{start}
 use Rattle.desk_records.specs.Records.{tables_content}
 use Rattle.desk_top.specs.Answer.{Answer, Answers, answer_to_damage, answer_to_store_fault, answer_without_memory, status_code}
 use Rattle.desk_top.specs.Console.{Console}
-use Rattle.desk_top.specs.declared.status.Status.TheVariants.{OutOfMemory}
+use Rattle.desk_top.specs.declared.status.Status.TheVariants.{OutOfMemory, StoreFault}
 
 -- why a command didn't begin: the store refused a call, its records aren't those of sound tables, or there was no memory
 abbrev pub IsCause : Type 0 → Content → ℕ → Answer → Type 0
@@ -34,8 +34,14 @@ pub record WasNotBegun (Tells : Type 0) (kept keeps : Content) (faults : ℕ) (e
 abbrev pub Ending : Type 1
 Ending = Type 0 → Content → Content → ℕ → ℕ → Console → Type 0 → Type 0
 
+-- the shelf opened no store, since it counted a fault or memory was wanting; nothing was read
+abbrev pub IsUnopened : ℕ → Console → Type 0
+IsUnopened ended c = ((ended ≡ status_code StoreFault) ⊎ (ended ≡ status_code OutOfMemory)) × Keeps c.unread c.left
+
 -- A command over the store of this name ended so. What the shelf tells of the store afterwards it told before, and a fault of the store
--- is one that the shelf has counted.
-abbrev pub OnStore : (Told Tells : List ℕ → Type 0) → (kept keeps : List ℕ → Content) → Type 0 → Ending → List ℕ → ℕ → Console → Type 0 → Type 0
-OnStore Told Tells kept keeps lost Ends name ended c rose =
+-- is one that the shelf has counted. How many the store has counted the shelf tells, to which it was given back, unless it wasn't opened.
+abbrev pub OnStore : (Told Tells : List ℕ → Type 0) → (kept keeps : List ℕ → Content) → (List ℕ → ℕ) → Type 0 → Ending → List ℕ → ℕ → Console → Type 0
+    → Type 0
+OnStore Told Tells kept keeps count lost Ends name ended c rose =
     (faults : ℕ) × Ends (Tells name) (kept name) (keeps name) faults ended c rose × (Tells name → Told name) × (0 < faults → lost)
+    × ((faults ≡ count name) ⊎ IsUnopened ended c)

@@ -27,7 +27,7 @@ pub fn answer_audit<R: Wait + Sync, L: Link, S: Shelf>(
     shelf: &mut S,
 ) -> Status
     requires { is_askable asked.now.day ≡ true }
-    ensures stored { OnStore (S.Tells shelf.old) (S.Tells shelf.new) (S.content shelf.old) (S.content shelf.new) (Rose (S.faults shelf.old) (S.faults shelf.new))
+    ensures stored { OnStore (S.Tells shelf.old) (S.Tells shelf.new) (S.content shelf.old) (S.content shelf.new) (S.count shelf.new) (Rose (S.faults shelf.old) (S.faults shelf.new))
         (EndsAudit asked.now.day) asked.now.store (status_code result)
         (console_of (L.unread console.old) (L.unread console.new) (L.written console.old) (L.written console.new)) (Rose (L.faults console.old) (L.faults console.new)) }
     ensures others { (other : List ℕ) → other ≢ asked.now.store → S.Tells shelf.new other

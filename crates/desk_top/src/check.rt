@@ -4,7 +4,7 @@ ghost use Rattle.desk_text.specs.Day.{is_askable};
 ghost use Rattle.desk_model.specs.Declaration.{Declared};
 ghost use Rattle.desk_model.specs.declared.edit.Edit.TheVariants.{Declare};
 ghost use Rattle.desk_edge.specs.Faults.{Rose};
-ghost use Rattle.desk_top.specs.Answer.{Answers, IsInput, answer_of_check, answer_to_check, status_code};
+ghost use Rattle.desk_top.specs.Answer.{Answers, IsInput, IsReadingTold, answer_of_check, answer_to_check, status_code};
 ghost use Rattle.desk_top.specs.Check.{Agrees, checked, input_limit, judged};
 
 use crate::refusal::Refusal;
@@ -79,6 +79,7 @@ pub fn answer_check<L: Link>(alloc: Global, check: &KindOnDay, console: &mut L) 
     requires { is_askable check.now.day ≡ true }
     ensures words { result ≢ Status.BadWords }
     ensures console_fault { result ≡ Status.ConsoleFault → Rose (L.faults console.old) (L.faults console.new) }
+    ensures reading { IsReadingTold check.now (status_code result) (L.unread console.old) (Rose (L.read_faults console.old) (L.read_faults console.new)) }
     ensures end { result ≡ Status.Done → IsAtEnd (L.unread console.new) }
     ensures no_fault { result ≡ Status.Done → L.faults console.new ≡ L.faults console.old }
     ensures answer { (input : List ℕ) × IsInput (L.unread console.old) input
@@ -129,6 +130,7 @@ pub fn check_input<L: Link>(
     ensures never_falls { L.faults console.old ≤ L.faults console.new }
     ensures steady { result ≢ Err CheckFault.Failed → L.faults console.new ≡ L.faults console.old }
     ensures failed { IsErrOf result CheckFault.Failed → Rose (L.faults console.old) (L.faults console.new) }
+    ensures read_failed { IsErrOf result CheckFault.Failed → Rose (L.read_faults console.old) (L.read_faults console.new) }
 {
     let bytes = read_up_to(alloc, console, INPUT_LIMIT)?;
     check_bytes(alloc, check, bytes.as_slice())

@@ -25,7 +25,7 @@ pub fn answer_import<L: Link, S: Shelf>(
     console: &mut L,
     shelf: &mut S,
 ) -> Status
-    ensures stored { OnStore (S.Tells shelf.old) (S.Tells shelf.new) (S.content shelf.old) (S.content shelf.new) (Rose (S.faults shelf.old) (S.faults shelf.new))
+    ensures stored { OnStore (S.Tells shelf.old) (S.Tells shelf.new) (S.content shelf.old) (S.content shelf.new) (S.count shelf.new) (Rose (S.faults shelf.old) (S.faults shelf.new))
         EndsImport asked.now.store (status_code result)
         (console_of (L.unread console.old) (L.unread console.new) (L.written console.old) (L.written console.new)) (Rose (L.faults console.old) (L.faults console.new)) }
     ensures others { (other : List ℕ) → other ≢ asked.now.store → S.Tells shelf.new other

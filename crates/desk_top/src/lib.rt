@@ -10,6 +10,7 @@ mod program_words;
 mod refusal;
 mod sample;
 mod session;
+mod sorted;
 mod status;
 mod store;
 mod summary;

@@ -1,8 +1,10 @@
 ghost use Rattle.std.specs.Prelude.{◌≡◌, ◌≢◌, ◌⊎◌, ◌≤◌, map, string_bytes, IfOk, IfErr, None, Some};
 ghost use Rattle.desk_edge.specs.Faults.{Rose};
-ghost use Rattle.desk_top.specs.Answer.{Answers, answer_to_other_words, answer_to_unread_words, status_code};
+ghost use Rattle.desk_law.specs.declared.kind_on_day.KindOnDay.{KindOnDay};
+ghost use Rattle.desk_top.specs.Answer.{Answers, IsReadingTold, answer_to_other_words, answer_to_unread_words, status_code};
 ghost use Rattle.desk_top.specs.Console.{console_of};
 ghost use Rattle.desk_top.specs.Run.{Does, OthersStay, store_in, store_of};
+ghost use Rattle.desk_top.specs.Sorted.{command_at_once, command_over_clerk};
 ghost use Rattle.desk_words.specs.Commands.{HasBounds, command_of};
 
 use crate::audit::answer_audit;
@@ -12,6 +14,7 @@ use crate::import::answer_import;
 use crate::program_words::WordsFault;
 use crate::sample::answer_sample;
 use crate::session::answer_session;
+use crate::sorted::{AtOnce, OverClerk, Sorted, sorted_command};
 use crate::status::Status;
 use crate::tell::{answer_no_memory, answer_other_words, answer_unread_words};
 use desk_edge::{Link, Shelf};
@@ -41,10 +44,14 @@ pub fn run<R: Wait + Sync + Threads, L: Link, S: Shelf>(
 
     // A command does what it is for.
     ensures command { (command : Command) → command_of (map string_bytes words.now.items) ≡ Some command
-        → Does (S.Tells shelf.old) (S.Tells shelf.new) (S.content shelf.old) (S.content shelf.new) (Rose (S.faults shelf.old) (S.faults shelf.new))
+        → Does (S.Tells shelf.old) (S.Tells shelf.new) (S.content shelf.old) (S.content shelf.new) (S.count shelf.new) (Rose (S.faults shelf.old) (S.faults shelf.new))
         command result
         (console_of (L.unread console.old) (L.unread console.new) (L.written console.old) (L.written console.new)) (Rose (L.faults console.old) (L.faults console.new)) }
     ensures known { (status : Status) × (result ≡ status_code status) }
+
+    // A check whose refusal can't be written ends as refused.
+    ensures reading { (check : KindOnDay) → command_of (map string_bytes words.now.items) ≡ Some (Command.Check check)
+        → IsReadingTold check result (L.unread console.old) (Rose (L.read_faults console.old) (L.read_faults console.new)) }
 
     // No store but the one that the words name is changed, and where they name none the shelf stays as it is.
     ensures others { OthersStay (store_in (map string_bytes words.now.items)) (S.Tells shelf.old) (S.Tells shelf.new) (S.content shelf.old) (S.content shelf.new) }
@@ -54,38 +61,91 @@ pub fn run<R: Wait + Sync + Threads, L: Link, S: Shelf>(
     ensures never_falls { L.faults console.old ≤ L.faults console.new }
 {
     match read_command(alloc, words.as_slice()) {
-        Ok(command) => follow(rt, alloc, &command, console, shelf).code(),
+        Ok(command) => follow(rt, alloc, command, console, shelf).code(),
         Err(CommandFault::NoCommand) => answer_other_words(console).code(),
         Err(CommandFault::OutOfMemory) => answer_no_memory(console).code(),
     }
 }
 
-/// Does what the command is for.
+/// Does what the command is for. What waits for nobody is done by a call that has no runtime, and the other call takes no such command.
 fn follow<R: Wait + Sync, L: Link, S: Shelf>(
     rt: &R,
     alloc: Global,
-    command: &Command,
+    command: Command,
     console: &mut L,
     shelf: &mut S,
 ) -> Status
-    requires { HasBounds command.now }
-    ensures command { Does (S.Tells shelf.old) (S.Tells shelf.new) (S.content shelf.old) (S.content shelf.new) (Rose (S.faults shelf.old) (S.faults shelf.new))
-        command.now (status_code result)
+    requires { HasBounds command }
+    ensures command { Does (S.Tells shelf.old) (S.Tells shelf.new) (S.content shelf.old) (S.content shelf.new) (S.count shelf.new) (Rose (S.faults shelf.old) (S.faults shelf.new))
+        command (status_code result)
         (console_of (L.unread console.old) (L.unread console.new) (L.written console.old) (L.written console.new)) (Rose (L.faults console.old) (L.faults console.new)) }
-    ensures others { OthersStay (store_of command.now) (S.Tells shelf.old) (S.Tells shelf.new) (S.content shelf.old) (S.content shelf.new) }
-    ensures shelf_stays { store_of command.now ≡ None → shelf.new ≡ shelf.old }
+    ensures reading { (check : KindOnDay) → command ≡ Command.Check check
+        → IsReadingTold check (status_code result) (L.unread console.old) (Rose (L.read_faults console.old) (L.read_faults console.new)) }
+    ensures others { OthersStay (store_of command) (S.Tells shelf.old) (S.Tells shelf.new) (S.content shelf.old) (S.content shelf.new) }
+    ensures shelf_stays { store_of command ≡ None → shelf.new ≡ shelf.old }
+    ensures words { result ≢ Status.BadWords }
+    ensures console_fault { result ≡ Status.ConsoleFault → Rose (L.faults console.old) (L.faults console.new) }
+    ensures no_fault { result ≡ Status.Done → L.faults console.new ≡ L.faults console.old }
+    ensures never_falls { L.faults console.old ≤ L.faults console.new }
+{
+    match sorted_command(command) {
+        Sorted::AtOnce(command) => do_at_once(alloc, &command, console, shelf),
+        Sorted::OverClerk(command) => do_over_clerk(rt, alloc, &command, console, shelf),
+    }
+}
+
+/// Does what a command is for that opens no clerk.
+///
+/// It has no runtime, so it waits for nobody but the calls of the console and of the store, and returns.
+fn do_at_once<L: Link, S: Shelf>(
+    alloc: Global,
+    command: &AtOnce,
+    console: &mut L,
+    shelf: &mut S,
+) -> Status
+    requires { HasBounds (command_at_once command.now) }
+    ensures command { Does (S.Tells shelf.old) (S.Tells shelf.new) (S.content shelf.old) (S.content shelf.new) (S.count shelf.new) (Rose (S.faults shelf.old) (S.faults shelf.new))
+        (command_at_once command.now) (status_code result)
+        (console_of (L.unread console.old) (L.unread console.new) (L.written console.old) (L.written console.new)) (Rose (L.faults console.old) (L.faults console.new)) }
+    ensures reading { (check : KindOnDay) → command_at_once command.now ≡ Command.Check check
+        → IsReadingTold check (status_code result) (L.unread console.old) (Rose (L.read_faults console.old) (L.read_faults console.new)) }
+    ensures others { OthersStay (store_of (command_at_once command.now)) (S.Tells shelf.old) (S.Tells shelf.new) (S.content shelf.old) (S.content shelf.new) }
+    ensures shelf_stays { store_of (command_at_once command.now) ≡ None → shelf.new ≡ shelf.old }
     ensures words { result ≢ Status.BadWords }
     ensures console_fault { result ≡ Status.ConsoleFault → Rose (L.faults console.old) (L.faults console.new) }
     ensures no_fault { result ≡ Status.Done → L.faults console.new ≡ L.faults console.old }
     ensures never_falls { L.faults console.old ≤ L.faults console.new }
 {
     match command {
-        Command::Check(check) => answer_check(alloc, check, console),
-        Command::Session(session) => answer_session(rt, alloc, session, console, shelf),
-        Command::Export(asked) => answer_export(rt, alloc, asked, console, shelf),
-        Command::Import(asked) => answer_import(alloc, asked, console, shelf),
-        Command::Audit(asked) => answer_audit(rt, alloc, asked, console, shelf),
-        Command::Sample(asked) => answer_sample(alloc, asked, console),
+        AtOnce::Check(check) => answer_check(alloc, check, console),
+        AtOnce::Import(asked) => answer_import(alloc, asked, console, shelf),
+        AtOnce::Sample(asked) => answer_sample(alloc, asked, console),
+    }
+}
+
+/// Does what a command is for that opens a clerk.
+fn do_over_clerk<R: Wait + Sync, L: Link, S: Shelf>(
+    rt: &R,
+    alloc: Global,
+    command: &OverClerk,
+    console: &mut L,
+    shelf: &mut S,
+) -> Status
+    requires { HasBounds (command_over_clerk command.now) }
+    ensures command { Does (S.Tells shelf.old) (S.Tells shelf.new) (S.content shelf.old) (S.content shelf.new) (S.count shelf.new) (Rose (S.faults shelf.old) (S.faults shelf.new))
+        (command_over_clerk command.now) (status_code result)
+        (console_of (L.unread console.old) (L.unread console.new) (L.written console.old) (L.written console.new)) (Rose (L.faults console.old) (L.faults console.new)) }
+    ensures others { OthersStay (store_of (command_over_clerk command.now)) (S.Tells shelf.old) (S.Tells shelf.new) (S.content shelf.old) (S.content shelf.new) }
+    ensures shelf_stays { store_of (command_over_clerk command.now) ≡ None → shelf.new ≡ shelf.old }
+    ensures words { result ≢ Status.BadWords }
+    ensures console_fault { result ≡ Status.ConsoleFault → Rose (L.faults console.old) (L.faults console.new) }
+    ensures no_fault { result ≡ Status.Done → L.faults console.new ≡ L.faults console.old }
+    ensures never_falls { L.faults console.old ≤ L.faults console.new }
+{
+    match command {
+        OverClerk::Session(session) => answer_session(rt, alloc, session, console, shelf),
+        OverClerk::Export(asked) => answer_export(rt, alloc, asked, console, shelf),
+        OverClerk::Audit(asked) => answer_audit(rt, alloc, asked, console, shelf),
     }
 }
 
@@ -111,9 +171,11 @@ pub fn launch<R: Wait + Sync + Threads, L: Link, S: Shelf>(
     ensures other_words { IfOk words (λ words. command_of (map string_bytes words.items) ≡ None → (L.unread console.new ≡ L.unread console.old)
         × Answers answer_to_other_words result (L.written console.old) (L.written console.new) (Rose (L.faults console.old) (L.faults console.new))) }
     ensures command { IfOk words (λ words. (command : Command) → command_of (map string_bytes words.items) ≡ Some command
-        → Does (S.Tells shelf.old) (S.Tells shelf.new) (S.content shelf.old) (S.content shelf.new) (Rose (S.faults shelf.old) (S.faults shelf.new))
+        → Does (S.Tells shelf.old) (S.Tells shelf.new) (S.content shelf.old) (S.content shelf.new) (S.count shelf.new) (Rose (S.faults shelf.old) (S.faults shelf.new))
         command result
         (console_of (L.unread console.old) (L.unread console.new) (L.written console.old) (L.written console.new)) (Rose (L.faults console.old) (L.faults console.new))) }
+    ensures reading { IfOk words (λ words. (check : KindOnDay) → command_of (map string_bytes words.items) ≡ Some (Command.Check check)
+        → IsReadingTold check result (L.unread console.old) (Rose (L.read_faults console.old) (L.read_faults console.new))) }
     ensures others { IfOk words (λ words. OthersStay (store_in (map string_bytes words.items)) (S.Tells shelf.old) (S.Tells shelf.new) (S.content shelf.old) (S.content shelf.new)) }
     ensures shelf_stays { IfOk words (λ words. store_in (map string_bytes words.items) ≡ None → shelf.new ≡ shelf.old) }
     ensures known { (status : Status) × (result ≡ status_code status) }

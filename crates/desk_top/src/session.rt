@@ -33,7 +33,7 @@ pub fn answer_session<R: Wait + Sync, L: Link, S: Shelf>(
     link: &mut L,
     shelf: &mut S,
 ) -> Status
-    ensures served { IsSession (S.Tells shelf.old) (S.Tells shelf.new) (S.content shelf.old) (S.content shelf.new) (Rose (S.faults shelf.old) (S.faults shelf.new))
+    ensures served { IsSession (S.Tells shelf.old) (S.Tells shelf.new) (S.content shelf.old) (S.content shelf.new) (S.count shelf.new) (Rose (S.faults shelf.old) (S.faults shelf.new))
         session.now.store (status_code result)
         (console_of (L.unread link.old) (L.unread link.new) (L.written link.old) (L.written link.new)) (Rose (L.faults link.old) (L.faults link.new)) }
     ensures shelf_stays { session.now.store ≡ None → shelf.new ≡ shelf.old }
@@ -58,7 +58,7 @@ fn serve_store<R: Wait + Sync, L: Link, S: Shelf>(
     link: &mut L,
     shelf: &mut S,
 ) -> Status
-    ensures stored { OnStore (S.Tells shelf.old) (S.Tells shelf.new) (S.content shelf.old) (S.content shelf.new) (Rose (S.faults shelf.old) (S.faults shelf.new))
+    ensures stored { OnStore (S.Tells shelf.old) (S.Tells shelf.new) (S.content shelf.old) (S.content shelf.new) (S.count shelf.new) (Rose (S.faults shelf.old) (S.faults shelf.new))
         EndsSession name.now (status_code result)
         (console_of (L.unread link.old) (L.unread link.new) (L.written link.old) (L.written link.new)) (Rose (L.faults link.old) (L.faults link.new)) }
     ensures others { (other : List ℕ) → other ≢ name.now → S.Tells shelf.new other

@@ -33,7 +33,7 @@ pub fn open_desk<R: Wait + Sync, L: Link, S: Shelf>(
     ensures counted { OnOk result (S.faults shelf.new ≡ S.faults shelf.old) }
     ensures untouched { OnOk result (console.new ≡ console.old) }
     ensures unopened { IfErr result (λ status. OnStore (S.Tells shelf.old) (S.Tells shelf.new) (S.content shelf.old) (S.content shelf.new)
-        (Rose (S.faults shelf.old) (S.faults shelf.new)) WasNotBegun name.now (status_code status)
+        (S.count shelf.new) (Rose (S.faults shelf.old) (S.faults shelf.new)) WasNotBegun name.now (status_code status)
         (console_of (L.unread console.old) (L.unread console.new) (L.written console.old) (L.written console.new)) (Rose (L.faults console.old) (L.faults console.new))) }
     ensures others { (other : List ℕ) → other ≢ name.now → S.Tells shelf.new other
         → S.Tells shelf.old other × IsSame (S.content shelf.old other) (S.content shelf.new other) }

@@ -1,5 +1,5 @@
 -- What is exported is the desk that the store was opened as.
-use Rattle.std.proofs.Common.{ap, inl, ◌∙◌}
+use Rattle.std.proofs.Common.{ap, inl, sym, ◌∙◌}
 use Rattle.desk_clerk.specs.Clerk.{whole}
 use Rattle.desk_records.specs.Records.{tables_content}
 use Rattle.desk_top.proofs.Stores.{keeps_of, same_trans}
@@ -21,5 +21,6 @@ returns-clause-stored g c = rw (← c.as_slice-name.ensures) (
     rw c.in-Ok.ensures.untouched at (rw c.tables.ensures.lists at c.write_export-status.ensures.written),
   ),
   (λ tells. c.in-Ok.ensures.told (rw c.close.ensures.keeper at (c.close_store.ensures.kept tells).0)),
-  λ some. rw (← c.in-Ok.ensures.counted) (c.close_store.ensures.rises some),
+  (λ some. rw (← c.in-Ok.ensures.counted) (c.close_store.ensures.rises some)),
+  inl (sym c.close_store.ensures.count),
 )

@@ -11,4 +11,4 @@ returns-in-Err-OutOfMemory-clause-command g c command is =
     (g.L.Link.written c.args.console.now) (g.L.Link.written c.answer_no_memory.new.console))
     (Rose (g.L.Link.faults c.args.console.now) (g.L.Link.faults c.answer_no_memory.new.console))
     c.answer_no_memory.ensures.input_stays (rw c.answer_no_memory.ensures.status at c.answer_no_memory.ensures.answer)
-    (g.S.Shelf.Tells c.args.shelf.now) (g.S.Shelf.content c.args.shelf.now) (Rose (g.S.Shelf.faults c.args.shelf.now) (g.S.Shelf.faults c.args.shelf.now)) command))
+    (g.S.Shelf.Tells c.args.shelf.now) (g.S.Shelf.content c.args.shelf.now) (g.S.Shelf.count c.args.shelf.now) (Rose (g.S.Shelf.faults c.args.shelf.now) (g.S.Shelf.faults c.args.shelf.now)) command))

@@ -1,5 +1,5 @@
 -- A session over an opened store is one over the store of that name.
-use Rattle.std.proofs.Common.{inr}
+use Rattle.std.proofs.Common.{inl, inr, sym}
 use Rattle.desk_edge.specs.Faults.{Rose}
 use Rattle.desk_top.specs.Console.{console_of}
 use Rattle.desk_top.proofs.Stores.{ends_as, ends_opened}
@@ -7,8 +7,8 @@ use Rattle.desk_top.proofs.session.serve_store.Goals as goal
 
 pub returns-in-Err-clause-stored : goal.returns-in-Err-clause-stored
 returns-in-Err-clause-stored g c =
-    let (faults, was, told, lost) = c.in-Err.ensures.unopened in
-    (faults, inr was, told, lost)
+    let (faults, was, told, lost, counted) = c.in-Err.ensures.unopened in
+    (faults, inr was, told, lost, counted)
 
 pub returns-clause-stored : goal.returns-clause-stored
 returns-clause-stored g c = (
@@ -21,5 +21,6 @@ returns-clause-stored g c = (
       (λ tells. c.in-Ok.ensures.opened (c.serve_clerk-status.ensures.told tells))
       (rw c.in-Ok.ensures.untouched at c.serve_clerk-status.ensures.served)),
   (λ tells. c.in-Ok.ensures.told (c.serve_clerk-status.ensures.told (c.close_store.ensures.kept tells).0)),
-  λ some. rw (← c.in-Ok.ensures.counted) (c.close_store.ensures.rises some),
+  (λ some. rw (← c.in-Ok.ensures.counted) (c.close_store.ensures.rises some)),
+  inl (sym c.close_store.ensures.count),
 )

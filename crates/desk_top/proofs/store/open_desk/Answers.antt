@@ -1,10 +1,11 @@
 -- What is opened of a store is opened of what the shelf keeps under its name.
+use Rattle.std.proofs.Common.{inl, sym}
 use Rattle.desk_top.proofs.Stores.{not_lent, opened_as, unbegun_as}
 use Rattle.desk_top.proofs.store.open_desk.Goals as goal
 
 pub returns-in-Err-clause-unopened : goal.returns-in-Err-clause-unopened
 returns-in-Err-clause-unopened g c =
-    not_lent _ _ _ _ _ c.in-Err.status _ _ c.in-Err.ensures.status c.in-Err.ensures.failed c.in-Err.ensures.store_line c.in-Err.ensures.memory_line
+    not_lent _ _ _ _ _ _ c.in-Err.status _ _ c.in-Err.ensures.status c.in-Err.ensures.failed c.in-Err.ensures.store_line c.in-Err.ensures.memory_line
     c.open_store.ensures.input_stays (c.open_store.ensures.others c.args.name.now)
 
 pub returns-in-Ok-open_keeper-clause-opened : goal.returns-in-Ok-open_keeper-clause-opened
@@ -21,5 +22,6 @@ returns-in-Err-open_keeper-clause-unopened g c = (
       (λ tells. c.in-Ok.ensures.same (c.in-Err-open_keeper.ensures.handed_back (c.close_store.ensures.kept tells).0).0)
       (λ tells. (c.close_store.ensures.kept tells).1) (rw c.in-Ok.ensures.untouched at c.in-Err-open_keeper.ensures.unopened),
   (λ tells. c.in-Ok.ensures.told (c.in-Err-open_keeper.ensures.handed_back (c.close_store.ensures.kept tells).0).0),
-  λ some. rw (← c.in-Ok.ensures.counted) (c.close_store.ensures.rises some),
+  (λ some. rw (← c.in-Ok.ensures.counted) (c.close_store.ensures.rises some)),
+  inl (sym c.close_store.ensures.count),
 )
