@@ -2,8 +2,9 @@
 
 A document's commands stand in blocks of the language `sh`. They are run by one shell in a copy of `examples/` and `scripts/`, with the
 tested program as `bin/desk`. A block without a language right behind one has what it writes, or, where it begins with `-- `, a part of
-that. The commands of `bare` are run elsewhere: the gate and these tests themselves.
+that; then those behind it that begin so have later parts. The commands of `bare` are run elsewhere: the gate and these tests themselves.
 """
+import itertools
 import pathlib
 import re
 import shutil
@@ -18,12 +19,17 @@ GIVEN = {"export.csv": "examples/padded.csv"}
 
 
 def blocks_of(document):
-    """The blocks of commands, each with the block of output behind it, or None."""
+    """The blocks of commands, each with the blocks of its output."""
     found = re.findall(r"^```(\w*)\n(.*?)^```$", (top / document).read_text(), re.M | re.S)
     for place, (language, text) in enumerate(found):
         if language == "sh":
-            follows = found[place + 1] if place + 1 < len(found) else ("sh", "")
-            yield text, None if follows[0] else follows[1]
+            follow = [it for _, it in itertools.takewhile(lambda block: not block[0], found[place + 1:])]
+            yield text, follow[:1] + list(itertools.takewhile(is_part, follow[1:]))
+
+
+def is_part(wanted):
+    """Whether a block of output shows a part of it."""
+    return wanted.startswith("-- ")
 
 
 def is_there(command):
@@ -49,13 +55,15 @@ def lay_out(room, program):
 def fault_of(text, wanted, status, written):
     """What is wrong with a block that was run, or None."""
     shown = text.strip().splitlines()[0]
-    if status not in (0, 6):
+    # (6 says that a declaration is refused; then the document shows the refusal)
+    if status != 0 and not (status == 6 and wanted):
         return f"`{shown}` ends with status {status}"
-    if wanted is None or wanted == written:
-        return None
-    if wanted.startswith("-- ") and wanted in written:
-        return None
-    return f"`{shown}` writes {written[:200]!r}, and the document shows {wanted[:200]!r}"
+    rest = written
+    for block in wanted:
+        before, found, rest = rest.partition(block)
+        if not found or not is_part(block) and (before or rest):
+            return f"`{shown}` writes {written[:200]!r}, and the document shows {block[:200]!r}"
+    return None
 
 
 def document_fault(program, document):
