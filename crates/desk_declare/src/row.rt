@@ -32,7 +32,7 @@ pub(crate) fn begin(alloc: Global, row: &ByteRecord) -> Result<Declaration, Decl
     fields.end(5)?;
     match Declaration::start(alloc, supplier, number, day) {
         Ok(declaration) => Ok(declaration),
-        // A declaration without materials takes no memory, and nothing else can be wanting.
+        // `start` fails for want of memory alone, and a declaration without materials takes none.
         Err(_) => unreachable!(),
     }
 }
@@ -91,8 +91,8 @@ fn add_material(
     }
 }
 
-/// The code of the material that a record is about. Such records mostly stand behind the material's own, so its code is looked for
-/// there first: to see that the bytes are the same takes less than to read them.
+/// The code of the material that a record is about. Most such records follow the material's own, so the code is compared with that of
+/// the last material first, which takes less than to read a code.
 #[tactic(auto, unfolding(crate::specs::Columns::read_in, desk_text::specs::Forms::a_code))]
 fn material_of(declaration: &Declaration, fields: &Fields<'_>) -> Result<Code, DeclareFault>
     ensures { result ≡ read_in 2 a_code fields.now.place (fields_of fields.now.row.now) }

@@ -60,7 +60,7 @@ impl<'a> Rows<'a> {
         };
         self.ended = true;
         match error.into_kind() {
-            // A slice refuses no read, so that memory is all that can be wanting.
+            // To read from a slice never fails, so there was no memory.
             ErrorKind::Io(_) | ErrorKind::OutOfMemory => Err(OutOfMemory),
             _ => unreachable!(),
         }

@@ -12,7 +12,7 @@ use std::alloc::Global;
 /// the keys of the word. A declaration is none: it comes in CSV.
 ///
 /// The faults are looked for in the order in which [`JsonFault`] lists them, so each comes exactly where the bytes
-/// have it and none before it. `OutOfMemory` may come for any bytes, but not for none.
+/// have it and none before it. `OutOfMemory` may come for any bytes, unless there are none.
 pub fn read_edit(alloc: Global, bytes: &[u8]) -> Result<Edit, JsonFault>
     ensures edit { result ≢ Err JsonFault.OutOfMemory → result ≡ edit_of bytes.now }
     ensures memory { result ≡ Err JsonFault.OutOfMemory → 0 < length bytes.now }
@@ -24,7 +24,7 @@ pub fn read_edit(alloc: Global, bytes: &[u8]) -> Result<Edit, JsonFault>
     }
 }
 
-/// The JSON value that bytes are. No bytes are none, and take no memory to tell.
+/// The JSON value that bytes are. An empty input is none, which is told without memory.
 #[tactic(auto, using(crate::proofs::Bytes::some_bytes, crate::proofs::Bytes::json_of_text, crate::proofs::Bytes::json_of_none))]
 fn value_of(alloc: Global, bytes: &[u8]) -> Result<Value, JsonFault>
     ensures value { IfOk result (λ value. json_of bytes.now ≡ Some (view value)) }

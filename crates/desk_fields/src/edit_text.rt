@@ -30,7 +30,7 @@ pub fn read_edit_text(alloc: Global, code: &[u8], text: &[u8]) -> Result<Edit, T
     }
 }
 
-/// Whether the bytes are the text of an edit, under whichever ticket. Memory is wanting only behind the word of an edit that holds texts.
+/// Whether the bytes are the text of an edit, under whichever ticket. Memory is taken only after the word of an edit that holds texts.
 pub fn is_edit_text(alloc: Global, text: &[u8]) -> Result<bool, OutOfMemory>
     ensures is { IfOk result (λ is. MatchBool is (IsEditText text.now) (IsEditText text.now → ⊥)) }
     ensures memory { IfErr result (λ _. begins_with_texts (fields_of text.now) ≡ true) }
@@ -65,7 +65,7 @@ fn has_code(alloc: Global, edit: &Edit, code: &[u8]) -> Result<bool, OutOfMemory
     Ok(own.as_slice() == code)
 }
 
-/// The ticket that a sender's code holds behind `E:`. Of any other code it is one that is read and then not asked for.
+/// The ticket that follows `E:` in a sender's code. Of any other code it is some ticket, which isn't used.
 #[tactic(auto, unfolding(desk_text::specs::Forms::a_code))]
 fn ticket_of(code: &[u8]) -> Code
     ensures { result ≡ ticket_in code.now }

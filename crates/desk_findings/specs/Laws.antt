@@ -65,8 +65,8 @@ pub record ChainLeads : Type 0 where
   pub linked : (t : Lists) → IsBill t → (part target : List ℕ) → are_linked t (chain t part target) ≡ true
   pub ends : (t : Lists) → IsBill t → (part target : List ℕ) → ends_with target (chain t part target) ≡ is_or_reaches t part target
 
--- where the definitions take the first, that is the least: of all children of a part that are the target or reach it the next of a
--- chain has the least code, of all parts that are too heavy the one that is told, and of all years that are too heavy likewise
+-- where the definitions take the first of several, it is the least: the next of a chain has the least code of all children of the part
+-- that are the target or reach it; the part that is told as too heavy the least code of all such, and the year the least number
 pub record FirstsAreLeast : Type 0 where
   pub child : (t : Lists) → IsOrdered t → (part target child : List ℕ) → next_to t part target ≡ Some child →
       list_all (λ line. not (is_or_reaches t line.child target) || not (is_lt (code_cmp line.child child))) (lines_of t.lines part) ≡ true

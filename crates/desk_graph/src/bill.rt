@@ -62,7 +62,8 @@ impl Model for Bill {
 }
 
 impl Bill {
-    /// No nodes. Room for all nodes that a bill may have is taken at once.
+    /// No nodes. Room for all nodes that a bill may have is taken at once, so that a planned change is put in without memory: some 3 MB,
+    /// which the system gives as they are written.
     pub fn start(alloc: Global) -> Result<Bill, OutOfMemory>
         ensures { IfOk result (λ bill. bill ≡ record { labels = []; lines = [] }) }
     {

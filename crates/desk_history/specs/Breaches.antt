@@ -32,8 +32,8 @@ use Rattle.desk_history.specs.Sound.{IsTicketOfEdit}
 abbrev pub is_overfull : Lists → ℕ → Bool
 is_overfull t table = list_any (λ over. over == table) (tables_over t)
 
--- a row of table 1 breaks a clause of soundness: it is out of form or range, or its table is overfull, which both are
--- tested of each row below too
+-- a row of table 1 breaks a clause of soundness: it is out of form or range, or its table has too many rows; each row below is
+-- tested for both too
 abbrev pub breaks_substance : Lists → SubstanceRow → Bool
 breaks_substance t row = not (is_substance_row row) || is_overfull t 1
 

@@ -53,7 +53,7 @@ pub(crate) fn find_head(bytes: &[u8]) -> Found
     }
 }
 
-/// The same for a head with more lines than most have, which alone pays for the room for all that are allowed.
+/// The same for a head with more lines than most have. Only here is there room for all lines that are allowed.
 fn find_long_head(bytes: &[u8]) -> Found
     requires { length bytes.now ≤ head_limit }
     ensures { Finds bytes.now result }
@@ -67,8 +67,8 @@ fn find_long_head(bytes: &[u8]) -> Found
     }
 }
 
-/// The same where a head has more lines than are allowed. It is whole, unfinished or hopeless all the
-/// same, which takes room for all its lines to tell. No other head pays for that room.
+/// The same where a head has more lines than are allowed. To tell whether it is whole, unfinished or
+/// hopeless takes room for all its lines, which is taken here alone.
 #[cold]
 #[inline(never)]
 fn find_crowded_head(bytes: &[u8]) -> Found

@@ -215,8 +215,8 @@ fn push_material(
     push_claims(alloc, text, material.claims.as_slice())
 }
 
-/// Appends how many substances there are, and then the code and the mass of each (micrograms), each field behind a TAB: so
-/// stand they in the text of an edit, and in that of a row.
+/// Appends how many substances there are, and then the code and the mass in micrograms of each, each field after a TAB, as they
+/// stand in the text of an edit and in that of a row.
 ///
 /// `AllocError`: no memory was left for them. What stands in `text` then isn't told.
 pub fn push_substances(
@@ -235,7 +235,7 @@ pub fn push_substances(
     Ok(())
 }
 
-/// Appends the code and the mass of a substance, each behind a TAB.
+/// Appends the code and the mass of a substance, each after a TAB.
 fn push_substance(alloc: Global, text: &mut String, held: &SubstanceMass) -> Result<(), AllocError>
     ensures { OnOk result (string_bytes text.new ≡ string_bytes text.old ++ tabbed (held.now.substance ∷ decimal held.now.mass ∷ [])) }
 {
@@ -244,8 +244,8 @@ fn push_substance(alloc: Global, text: &mut String, held: &SubstanceMass) -> Res
     text.push_str(fields.as_str())
 }
 
-/// Appends how many claims there are, and then the rule and the number of each, each field behind a TAB: so stand they in
-/// the text of an edit, and in that of a row.
+/// Appends how many claims there are, and then the rule and the number of each, each field after a TAB, as they stand in the
+/// text of an edit and in that of a row.
 ///
 /// `AllocError`: no memory was left for them. What stands in `text` then isn't told.
 pub fn push_claims(alloc: Global, text: &mut String, claims: &[Claim]) -> Result<(), AllocError>

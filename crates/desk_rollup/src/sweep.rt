@@ -62,7 +62,7 @@ impl<'a, B: BillView> Sweep<'a, B> {
         Ok(rolled)
     }
 
-    /// Which weight is too large, where one is. All weights are made once more, as no node above such a one has values.
+    /// Which weight is too large, where one is. All weights are computed anew, as the nodes above such a one were given no values.
     fn too_large(&self, alloc: Global) -> Result<RollFault, OutOfMemory>
         requires sweep { IsSweep (B.graph self.now.bill.now) self.now.owns.now self.now.kept.now self.now.of_owns.now self.now.places.now (map (λ list. list.now) self.now.lists.now) }
         requires large { ¬ (AllFit (B.graph self.now.bill.now) (own_with self.now.owns.now self.now.kept.now.owns)) }

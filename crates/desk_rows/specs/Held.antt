@@ -6,8 +6,8 @@ pub record Held (R : Type 0) : Type 0 where
   pub rows : List R
   pub room : ℕ
 
--- so many rows more need no memory: the table has room for them itself, or a list of its own has room for them and for all rows of
--- the table
+-- so many more rows need no memory: the table has room for them, or another list, of this capacity, has room for them and for all
+-- rows of the table
 abbrev pub IsRoomFor : {R : Type 0} → ℕ → Held R → Option ℕ → Type 0
 IsRoomFor more held None = more ≤ held.room
 IsRoomFor more held (Some capacity) = length held.rows + more ≤ capacity

@@ -22,7 +22,7 @@ const KINDS: [Kind; 5] = [
 
 /// The edits of a sample of `n` materials, from 1 to 2,000, in the order in which tables take them: `n` declarations of a material
 /// each, `n` articles, assemblies of eight articles each, of which each but the first holds an earlier one twice, up to five products,
-/// two candidates, and a shipment of each product. The number tells all of it: two samples of one number are equal.
+/// two candidates, and a shipment of each product. Two samples of one number are equal.
 ///
 /// `OutOfMemory`: none was left for the edits.
 pub fn sample(alloc: Global, n: u64) -> Result<Vec<Edit>, OutOfMemory>

@@ -15,8 +15,7 @@ use Rattle.desk_model.specs.Lists.{Lists}
 use Rattle.desk_findings.specs.Share.{share}
 use Rattle.desk_findings.specs.Verdicts.{terms_of, verdict_on}
 
--- the words for the exemption row that a verdict names; that there is none never comes, since a verdict names no place
--- past the rows
+-- the words for the exemption row that a verdict names; the first case never comes, since a verdict names a place among the rows
 abbrev pub exempt_words : Option Terms → List ℕ
 exempt_words None = codes "exempt"
 exempt_words (Some row) = codes "exempt " ++ row.number ++ codes " row " ++ row.row

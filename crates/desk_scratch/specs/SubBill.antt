@@ -7,6 +7,6 @@ pub record Found : Type 0 where
   pub lists : Lists
   pub codes : List (List ℕ)
 
--- each amount is that of the code at its place; of the last codes the amounts may lack
+-- each amount is that of the code at its place; the last codes may have none yet
 abbrev pub AreOf : (List ℕ → ℕ) → List ℕ → List (List ℕ) → Type 0
 AreOf amount amounts codes = amounts ≡ map amount (take (length amounts) codes)

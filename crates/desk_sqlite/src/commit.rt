@@ -22,8 +22,8 @@ fn replace<S: Alter>(tx: &mut Transaction<'_, S>, kept: &Record) -> Result<(), E
     }
 }
 
-/// Keeps the record, in place of the one of its key if there is one. Most records that are put in are new, so that is looked at only
-/// where it is refused.
+/// Keeps the record, in place of the one of its key if there is one. Most records that are put in are new, so the other one is dropped
+/// only where the insert is refused. There is no upsert: so nothing rests on which row one would have met.
 fn put_record<S: Alter>(tx: &mut Transaction<'_, S>, kept: &Record) -> Result<(), Error>
     ensures same_reference { tx.new.conn.ghost_name ≡ tx.old.conn.ghost_name }
     ensures inside { IsInside (state S.Store tx.old.conn.now) (state S.Store tx.new.conn.now) }
@@ -157,7 +157,7 @@ pub(crate) fn commit_all<S: Alter>(conn: &mut Connection<S>, batch: &[Change]) -
     ensures undone { HasCleanDisk (state S.Store conn.new) → IsTrue (state S.Store conn.new).is_open
         → OnErr result ((state S.Store conn.new).now ≡ (state S.Store conn.old).now) }
 {
-    // Outside a transaction what is seen is what was committed, to which a transaction that fails goes back.
+    // Tells the proof that outside a transaction the rows are those that were committed, also after a transaction that fails.
     let _settled = conn.is_autocommit();
     let mut tx = conn.transaction();
     make_all(&mut tx, batch)?;

@@ -69,7 +69,7 @@ fn first_past<S: Alter>(conn: &mut Connection<S>, after: Option<&Key>) -> Result
     ensures first { Suits (state S.Store conn.old) → HasCleanDisk (state S.Store conn.new) → IsTrue (state S.Store conn.new).is_open
         → IfOk result (λ shown. AreFirstRows (option_copied after.entry) (rows_in (state S.Store conn.old)) shown.items) }
 {
-    // An open database keeps to its schema, by which no two rows have one key.
+    // Tells the proof that an open database keeps to its schema, by which no two rows have one key.
     let _keyed = conn.schema();
     match after {
         Some(key) => rows_past(conn, key),

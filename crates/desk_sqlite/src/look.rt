@@ -14,7 +14,7 @@ pub(crate) fn first_rows<S: Alter>(conn: &mut Connection<S>) -> Result<Vec<Row>,
     ensures look { Suits (state S.Store conn.old) → HasCleanDisk (state S.Store conn.new) → IsTrue (state S.Store conn.new).is_open
         → IfOk result (λ shown. AreLooked any_key (rows_in (state S.Store conn.old)) shown.items) }
 {
-    // Outside a transaction what is seen is what was committed, to which a query that fails goes back.
+    // Tells the proof that outside a transaction the rows are those that were committed, also after a query that fails.
     let _settled = conn.is_autocommit();
     conn.query_all(
         "SELECT kind, code, body FROM record ORDER BY kind, code LIMIT 64",
@@ -34,7 +34,7 @@ pub(crate) fn rows_within<S: Alter>(
     ensures look { Suits (state S.Store conn.old) → HasCleanDisk (state S.Store conn.new) → IsTrue (state S.Store conn.new).is_open
         → IfOk result (λ shown. AreLooked (is_within kind code.now) (rows_in (state S.Store conn.old)) shown.items) }
 {
-    // As for the first rows.
+    // Tells the proof the same as in `first_rows`.
     let _settled = conn.is_autocommit();
     conn.query_all(
         "SELECT kind, code, body FROM record WHERE kind = ?1 AND code > ?2 ORDER BY kind, code LIMIT 64",
@@ -50,7 +50,7 @@ pub(crate) fn rows_beyond<S: Alter>(conn: &mut Connection<S>, kind: u8) -> Resul
     ensures look { Suits (state S.Store conn.old) → HasCleanDisk (state S.Store conn.new) → IsTrue (state S.Store conn.new).is_open
         → IfOk result (λ shown. AreLooked (is_beyond kind) (rows_in (state S.Store conn.old)) shown.items) }
 {
-    // As for the first rows.
+    // Tells the proof the same as in `first_rows`.
     let _settled = conn.is_autocommit();
     conn.query_all(
         "SELECT kind, code, body FROM record WHERE kind > ?1 ORDER BY kind, code LIMIT 64",

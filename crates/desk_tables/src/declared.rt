@@ -40,7 +40,7 @@ impl Tables {
     fn unknown_among(&self, substances: &[SubstanceMass]) -> Option<Code>
         ensures { result ≡ find (λ code. not (is_substance self.now.lists code)) (map (λ held. held.substance) substances.now) }
     {
-        // Both lists stand in the order of codes, so that a substance mostly stands behind the one before it.
+        // Both lists stand in the order of codes, so most substances are found right after the one before.
         let mut near = 0;
         for held in substances {
             match self.substance_place(&held.substance, near) {

@@ -157,7 +157,7 @@ fn is_over_thousandth(part: u128, whole: u128) -> bool
 {
     match part.checked_mul(1000) {
         Some(times) => times > whole,
-        // A thousand times the part is then more than any mass that is kept.
+        // A thousand times the part is then 2^128 or more, and so more than any mass.
         None => true,
     }
 }

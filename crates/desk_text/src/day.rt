@@ -118,7 +118,7 @@ impl Day {
         self.day
     }
 
-    /// The day as `YYYY-MM-DD`, which reads as the day again.
+    /// The day as `YYYY-MM-DD`, which is read as the same day.
     #[tactic(auto, unfolding(crate::specs::Day::date_text))]
     pub fn to_text(self) -> [u8; 10]
         ensures value { result ≡ date_text self }

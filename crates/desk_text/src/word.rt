@@ -178,7 +178,7 @@ impl<const N: usize> Ord for Word<N> {
             }
             let (len, other_len) = (self.len(), other.len());
             if len <= HEAD_LEN && other_len <= HEAD_LEN {
-                // All that they have is in their heads, but for bytes that are zero.
+                // Both words lie in their heads, which are equal, so the longer one only has more bytes that are zero.
                 return len.cmp(&other_len);
             }
         }

@@ -5,7 +5,7 @@ use std::alloc::Global;
 
 /// The links in an order in which those below a node stand before those that lead to it, as far as a guess goes.
 ///
-/// Nothing is proved of it but that it ends well. Links on a cycle, and links above one, are left out. It takes one pass over
+/// Nothing is proved of it but that it ends. Links on a cycle, and links above one, are left out. It takes one pass over
 /// the nodes and a few over the links.
 pub(crate) fn children_first(
     alloc: Global,

@@ -1,8 +1,8 @@
 //! What a whole bill of materials comes to: what each node reaches and weighs, how many parts reach it, and the chain from one
 //! node to another.
 //!
-//! Each total is guessed by a sweep over the lines, children first, and then settled by rounds that change nothing where the
-//! guess was right. The guess costs no proof and is worth no trust: a wrong one would take time, and never truth.
+//! Each total is guessed first, by going over the lines once, children first. Then all lines are gone over until that changes nothing,
+//! which is at once where the guess was right. Nothing is proved of the guess: a wrong one takes time, and no total comes of it.
 #![tactic(auto)]
 
 mod acyclic;
