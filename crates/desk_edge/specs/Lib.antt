@@ -1,4 +1,5 @@
 pub mod Content
+pub mod Doors
 pub mod Failed
 pub mod Faults
 pub mod Memory

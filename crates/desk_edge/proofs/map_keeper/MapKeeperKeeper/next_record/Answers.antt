@@ -1,4 +1,4 @@
-use Rattle.std.proofs.Common.{◌≡◌, List, ap, sym, ◌∙◌, subst}
+use Rattle.std.proofs.Common.{◌≡◌, ap, sym, ◌∙◌, subst}
 use Rattle.std.specs.List.{find}
 use Rattle.std.specs.Prelude.{option_copied}
 use Rattle.desk_edge.specs.Content.{key_cmp, key_of, is_past}

@@ -1,10 +1,10 @@
-use Rattle.std.proofs.Common.{◌≡◌, ◌∷◌, None, Some, true, is_eq, ap, sym, ◌∙◌}
+use Rattle.std.proofs.Common.{◌≡◌, None, Some, true, is_eq, ap, sym, ◌∙◌}
 use Rattle.std.specs.Option.{option_map_or}
 use Rattle.std.proofs.lemmas.Cmp.{nat_list_cmp_total}
 use Rattle.desk_edge.specs.Shelves.{name_cmp}
 use Rattle.desk_edge.specs.Stores.{content_of}
 use Rattle.desk_edge.proofs.Lending.{found_in_front, itself, other_in_front, other_name}
-use Rattle.desk_rows.specs.Rows.{row_of, without_row}
+use Rattle.desk_rows.specs.Rows.{row_of}
 use Rattle.desk_rows.proofs.Lookups.{row_of-without_row_other}
 use Rattle.desk_edge.proofs.map_shelf.MapShelfShelf.close_store.Goals as goal
 
