@@ -11,6 +11,7 @@ use std::marker::Model;
 /// A book for a list of entries, which has none yet and belongs to no name. Contracts see it as which book it is.
 ///
 /// It is opened before the board, so that the top call of a program can pick the name by it.
+#[derive(Drop)]
 pub struct BlankBook<B: Board> {
     head: Word<B::Entry, u64, BookRule>,
     seen: Seen<B::Entry, u64, BookRule>,
@@ -44,6 +45,7 @@ impl<B: Board> BlankBook<B> {
     pub(crate) fn named<J: Naming<B>>(self, number: u64) -> (Book<B, J>, Version<B, J>)
         requires book { self ≡ J.book }
         requires number { number ≡ B.number_of (B.state J.opening) }
+        requires may_be_put { B.MayBePut (B.state J.opening) [] }
         ensures { result.1 ≡ [] }
     {
         let BlankBook { head, seen } = self;

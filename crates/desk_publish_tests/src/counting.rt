@@ -23,6 +23,9 @@ impl Board for Counting {
 
     ghost after = { λ count entry. count + 1 };
 
+    // Any entries may be put.
+    ghost MayBePut = { λ count entries. Unit {0} };
+
     ghost number_of = { λ count. count };
 
     fn absorb(&mut self, _alloc: Global, _entry: &u64) -> Result<(), OutOfMemory> {
