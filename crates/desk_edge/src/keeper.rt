@@ -14,6 +14,9 @@ use std::alloc::Global;
 /// database can promise no more than this: what is told after a call was told before it, and then the call did what it says. So the
 /// clauses on content go from the state after a call back to the one before it.
 pub trait Keeper {
+    // That no call of any keeper of this type ever fails: what is known of one behind a lock is known by its type alone.
+    ghost NeverFails: { Type 0 };
+
     // How many faults were counted so far. The count never falls.
     ghost faults: { Self → ℕ };
 
@@ -39,7 +42,8 @@ pub trait Keeper {
         ensures later { IfOk result (λ found. IfSome found (λ kept. is_past (option_copied after.entry) (key_of kept) ≡ true)) }
         ensures never_falls { faults self.old ≤ faults self.new }
         ensures steady { result ≢ Err KeepFault.Failed → faults self.new ≡ faults self.old }
-        ensures failed { IsErrOf result KeepFault.Failed → Rose (faults self.old) (faults self.new) };
+        ensures failed { IsErrOf result KeepFault.Failed → Rose (faults self.old) (faults self.new) }
+        ensures sure { NeverFails → result ≢ Err KeepFault.Failed };
 
     /// Makes all the changes, one after the other, or none of them.
     ///
@@ -50,5 +54,6 @@ pub trait Keeper {
         ensures err { OnErr result (Tells self.new → IsSame (content self.old) (content self.new)) }
         ensures never_falls { faults self.old ≤ faults self.new }
         ensures steady { result ≢ Err KeepFault.Failed → faults self.new ≡ faults self.old }
-        ensures failed { IsErrOf result KeepFault.Failed → Rose (faults self.old) (faults self.new) };
+        ensures failed { IsErrOf result KeepFault.Failed → Rose (faults self.old) (faults self.new) }
+        ensures sure { NeverFails → result ≢ Err KeepFault.Failed };
 }

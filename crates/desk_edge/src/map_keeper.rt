@@ -122,6 +122,8 @@ impl MapKeeper {
 }
 
 impl Keeper for MapKeeper {
+    ghost NeverFails = { ⊥ };
+
     ghost faults = { λ k. k.faults };
 
     ghost Tells = { λ _. Unit {0} };

@@ -19,14 +19,14 @@ use std::rt::HostRuntime;
 /// Records are read and written in the order of their keys, so few pages serve as well as many. The library's own choice is 2,000.
 const CACHE_PAGES: usize = 64;
 
-/// How many written pages are kept in memory until they go to the log, where they have no effect before the commit. The library's own
+/// How many written pages are kept in memory until they go to the log, where they count for nothing before the commit. The library's own
 /// choice is 2,000, which is more than an import of a large desk writes.
 const SPILL_PAGES: usize = 64;
 
 /// A store in a file that was found by its path.
 ///
-/// No clause can say which file a path finds, and who else writes it, so this keeper tells nothing of what it keeps. What a store
-/// keeps is proved of the keeper within, over any disk that a clause can speak of; the clauses here say that each call is handed to it.
+/// Which file a path finds, and who else writes it, no clause can tell: so it tells nothing of what it keeps. What its records are is
+/// proved of the keeper within, over any disk that a clause can speak of, and that it asks this one is in the clauses of its calls.
 #[derive(Drop)]
 pub struct FileKeeper<D: Disk + Drop> {
     keeper: SqlKeeper<FileStore<D>>,
@@ -45,7 +45,7 @@ impl FileKeeper<File> {
         };
         match SqlKeeper::over(connection_at(rt, path)?) {
             Ok(keeper) => Ok(FileKeeper { keeper }),
-            // The database is dropped and not closed: closing would copy its log into a file that may be of another program.
+            // (the database isn't closed, by which its log would be copied into it)
             Err((fault, _)) => Err(fault),
         }
     }
@@ -109,6 +109,8 @@ impl<D: Disk + Drop> FileKeeper<D> {
 }
 
 impl<D: Disk + Drop> Keeper for FileKeeper<D> {
+    ghost NeverFails = { ⊥ };
+
     ghost faults = { λ k. k.keeper.faults };
 
     ghost Tells = { λ k. ⊥ };
@@ -127,6 +129,7 @@ impl<D: Disk + Drop> Keeper for FileKeeper<D> {
         ensures never_falls { self.old.keeper.faults ≤ self.new.keeper.faults }
         ensures steady { result ≢ Err KeepFault.Failed → self.new.keeper.faults ≡ self.old.keeper.faults }
         ensures failed { IsErrOf result KeepFault.Failed → Rose self.old.keeper.faults self.new.keeper.faults }
+        ensures sure { ⊥ → result ≢ Err KeepFault.Failed }
         ensures ours { self.new.keeper.is_ours ≡ self.old.keeper.is_ours }
         ensures ready { self.new.keeper.is_ready ≡ self.old.keeper.is_ready }
 
@@ -147,6 +150,7 @@ impl<D: Disk + Drop> Keeper for FileKeeper<D> {
         ensures never_falls { self.old.keeper.faults ≤ self.new.keeper.faults }
         ensures steady { result ≢ Err KeepFault.Failed → self.new.keeper.faults ≡ self.old.keeper.faults }
         ensures failed { IsErrOf result KeepFault.Failed → Rose self.old.keeper.faults self.new.keeper.faults }
+        ensures sure { ⊥ → result ≢ Err KeepFault.Failed }
         ensures ours { self.new.keeper.is_ours ≡ self.old.keeper.is_ours }
         ensures ready { self.new.keeper.is_ready ≡ self.old.keeper.is_ready }
 

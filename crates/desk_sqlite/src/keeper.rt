@@ -192,6 +192,8 @@ impl<S: Alter + Drop> SqlKeeper<S> {
 }
 
 impl<S: Alter> Keeper for SqlKeeper<S> {
+    ghost NeverFails = { ⊥ };
+
     ghost faults = { λ k. k.faults };
 
     ghost Tells = { λ k. IsTold k.is_ours (state S.Store k.connection) };
@@ -212,6 +214,7 @@ impl<S: Alter> Keeper for SqlKeeper<S> {
         ensures never_falls { self.old.faults ≤ self.new.faults }
         ensures steady { result ≢ Err KeepFault.Failed → self.new.faults ≡ self.old.faults }
         ensures failed { IsErrOf result KeepFault.Failed → Rose self.old.faults self.new.faults }
+        ensures sure { ⊥ → result ≢ Err KeepFault.Failed }
         ensures ours { self.new.is_ours ≡ self.old.is_ours }
         ensures ready { self.new.is_ready ≡ self.old.is_ready }
     {
@@ -242,6 +245,7 @@ impl<S: Alter> Keeper for SqlKeeper<S> {
         ensures never_falls { self.old.faults ≤ self.new.faults }
         ensures steady { result ≢ Err KeepFault.Failed → self.new.faults ≡ self.old.faults }
         ensures failed { IsErrOf result KeepFault.Failed → Rose self.old.faults self.new.faults }
+        ensures sure { ⊥ → result ≢ Err KeepFault.Failed }
         ensures ours { self.new.is_ours ≡ self.old.is_ours }
         ensures ready { self.new.is_ready ≡ self.old.is_ready }
 
