@@ -6,6 +6,8 @@
 #[cfg(test)]
 mod edge;
 #[cfg(test)]
+mod edge_doors;
+#[cfg(test)]
 mod edge_store;
 #[cfg(test)]
 mod graph;
