@@ -287,26 +287,25 @@ converses start left last_met counted ms told said sound met x e =
       kept = conversation_kept start finish ms told x;
     }
 
--- what answers by turns converses, where each turn is right as long as this holds, and keeps it
-module _ {A : Type 0} (R : A → Message → List ℕ → A → Type 0) (standing : A → Standing) (P : A → Type 0)
-    (turns : (a b : A) (m : Message) (said : List ℕ) → R a m said b → P a → P b × Turns (standing a) m said (standing b)) where
-  conversation_of_each : (old new : A) (ms : List Message) (each : List (List ℕ)) → InOrder R old ms each new → P old
+-- what answers by turns converses
+module _ {A : Type 0} (R : A → Message → List ℕ → A → Type 0) (standing : A → Standing)
+    (turns : (a b : A) (m : Message) (said : List ℕ) → R a m said b → Turns (standing a) m said (standing b)) where
+  conversation_of_each : (old new : A) (ms : List Message) (each : List (List ℕ)) → InOrder R old ms each new
       → (told : List Told) × Conversation (standing old) ms told (standing new) × (concat each ≡ all_bytes ms (replies_of told))
-  conversation_of_each old new [] [] x ready = ([], ap standing x, refl)
-  conversation_of_each old new [] (said ∷ each) x ready = absurd x
-  conversation_of_each old new (m ∷ ms) [] x ready = absurd x
-  conversation_of_each old new (m ∷ ms) (said ∷ each) x ready =
-      let turn = turns old x.0 m said x.1 ready in
-      let first = turn.1 in
-      let others = conversation_of_each x.0 new ms each x.2 turn.0 in (
+  conversation_of_each old new [] [] x = ([], ap standing x, refl)
+  conversation_of_each old new [] (said ∷ each) x = absurd x
+  conversation_of_each old new (m ∷ ms) [] x = absurd x
+  conversation_of_each old new (m ∷ ms) (said ∷ each) x =
+      let first = turns old x.0 m said x.1 in
+      let others = conversation_of_each x.0 new ms each x.2 in (
         record { reply = first.0; added = first.1 } ∷ others.0,
         (standing x.0, first.2, others.1),
         ap (λ l. l ++ concat each) first.3 ∙ ap (λ l. bytes_of m first.0 ++ l) others.2,
       )
 
-  pub conversation_of : (old new : A) (ms : List Message) (said : List ℕ) → Replies R old ms said new → P old
+  pub conversation_of : (old new : A) (ms : List Message) (said : List ℕ) → Replies R old ms said new
       → (told : List Told) × Conversation (standing old) ms told (standing new) × (said ≡ all_bytes ms (replies_of told))
-  conversation_of old new ms said x ready = let y = conversation_of_each old new ms x.0 x.1 ready in (y.0, y.1, x.2 ∙ y.2)
+  conversation_of old new ms said x = let y = conversation_of_each old new ms x.0 x.1 in (y.0, y.1, x.2 ∙ y.2)
 
 -- what each turn keeps is kept
 pub kept_throughout : {A X : Type 0} (R : A → Message → List ℕ → A → Type 0) (name : A → X) → ((a b : A) (m : Message) (said : List ℕ) → R a m said b → name b ≡ name a)

@@ -1,5 +1,5 @@
 -- What a turn is, from what the calls that make it say.
-use Rattle.std.proofs.Common.{◌≡◌, ◌≢◌, ◌⊎◌, ℕ, ◌≤◌, Bool, true, false, cond, IfErr, IfSome, OnErr, OnOk, List, [], ◌∷◌, ◌++◌, Option, None, Some, Result, Ok, Err, is_ok, refl, sym, ap, ◌∙◌, subst, inl, inr}
+use Rattle.std.proofs.Common.{◌≡◌, ◌≢◌, ◌⊎◌, ℕ, ◌≤◌, Bool, true, false, cond, IfErr, OnOk, List, [], ◌∷◌, ◌++◌, Option, None, Some, Result, Ok, Err, is_ok, refl, sym, ap, ◌∙◌, subst, inl, inr}
 use Rattle.std.specs.List.{find}
 use Rattle.std.specs.List.{AllByRecursion}
 use Rattle.std.specs.Option.{option_and_then, option_map_or}
@@ -27,7 +27,6 @@ use Rattle.desk_model.specs.declared.edit.Edit.{Edit}
 use Rattle.desk_model.specs.declared.rule_fault.RuleFault.{RuleFault}
 use Rattle.desk_scratch.specs.declared.question.Question.{Question}
 use Rattle.desk_front.specs.Asked.{Asked, edit, nothing, question}
-use Rattle.desk_front.specs.Last.{IsFresh, IsReplyAt, Kept}
 use Rattle.desk_front.specs.Replies.{accepted_body, answer_at, reply_to_edit, refused_body}
 use Rattle.desk_front.specs.Turn.{Says, Standing, added_at}
 
@@ -219,12 +218,3 @@ if_err_weaker P Q (Err e) weaker h = weaker e h
 pub on_ok_weaker : {T E : Type 0} {P Q : Type 0} (r : Result T E) → (P → Q) → OnOk r P → OnOk r Q
 on_ok_weaker (Ok value) weaker h = weaker h
 on_ok_weaker (Err e) weaker h = tt
-
-pub if_err_both : {T E : Type 0} (P Q : E → Type 0) (X : Type 0) (r : Result T E) → ((e : E) → P e → X → Q e) → IfErr r P → OnErr r X → IfErr r Q
-if_err_both P Q X (Ok value) both h x = tt
-if_err_both P Q X (Err e) both h x = both e h x
-
--- what is kept as this is fresh where this is
-pub fresh_kept : (whole : Lists) (one : Kept) (last : Option Kept) → IfSome last (λ kept. kept ≡ one) → IsReplyAt whole one → IsFresh whole last
-fresh_kept whole one None same is = tt
-fresh_kept whole one (Some kept) same is = subst (IsReplyAt whole) (sym same) is

@@ -1,7 +1,6 @@
 pub mod Asked
 pub mod Held
 pub mod InOrder
-pub mod Last
 pub mod Laws
 pub mod Replies
 pub mod Served

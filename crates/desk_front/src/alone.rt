@@ -3,13 +3,11 @@ ghost use Rattle.std.specs.Io.KnownBytes.{Consumes};
 ghost use Rattle.desk_clerk.specs.Clerk.{keeper_of, whole};
 ghost use Rattle.desk_model.specs.Lists.{number_at};
 ghost use Rattle.desk_edge.specs.Faults.{Rose};
-ghost use Rattle.desk_front.specs.Last.{IsFresh};
 ghost use Rattle.desk_front.specs.Served.{Serves, stream_limit};
 ghost use Rattle.desk_front.specs.Turn.{Converses};
 ghost use Rattle.desk_history.specs.Sound.{Sound};
 
 use crate::connection::Connection;
-use crate::last_reply::LastReply;
 use crate::served::Served;
 use crate::stream::serve;
 use desk_clerk::Clerk;
@@ -79,14 +77,11 @@ fn serve_by<R: Wait + Sync, L: Link, K: Keeper>(
     let met = clerk.number();
     let mut room = Bytes::start(alloc);
     let body = &mut room;
-    let mut last_reply = LastReply::none(alloc);
-    let last = &mut last_reply;
     let mut connection = Connection {
         routes,
         clerk,
         met,
         body,
-        last,
     };
     serve_connection(rt, alloc, link, &mut connection)
 }
@@ -100,7 +95,6 @@ fn serve_connection<R: Wait + Sync, L: Link, K: Keeper>(
 ) -> Served
     requires sound { Sound (whole connection.old.clerk.now) }
     requires met { connection.old.met ≡ number_at (whole connection.old.clerk.now) }
-    requires fresh { IsFresh (whole connection.old.clerk.now) connection.old.last.now }
     ensures same_clerk { connection.new.clerk.ghost_name ≡ connection.old.clerk.ghost_name }
     ensures served { result ≢ Served.OutOfMemory → (bytes : List ℕ) × Consumes (L.unread link.old) (L.unread link.new) bytes × (length bytes ≤ stream_limit)
         × Serves (Converses

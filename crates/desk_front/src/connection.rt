@@ -1,18 +1,14 @@
 ghost use Rattle.std.specs.Prelude.{◌≡◌, ◌≢◌, ◌++◌, ℕ, List, true, Some, IfErr, OnErr, OnOk};
 ghost use Rattle.desk_clerk.specs.Clerk.{keeper_of, whole};
-ghost use Rattle.desk_model.specs.Lists.{number_at};
 ghost use Rattle.desk_declare.specs.Declaration.{declaration_of};
 ghost use Rattle.desk_edits.specs.Edit.{edit_of};
 ghost use Rattle.desk_front.specs.Asked.{a_question, an_edit, of_csv, of_json};
-ghost use Rattle.desk_http.specs.Reply.{allow_of, bytes_with, fixed_reply};
-ghost use Rattle.desk_front.specs.Replies.{answer_at};
+ghost use Rattle.desk_http.specs.Reply.{allow_of, fixed_reply};
 ghost use Rattle.desk_front.specs.Turn.{Says, Turns};
-ghost use Rattle.desk_http.specs.declared.fixed.Fixed.TheVariants as refusal;
 ghost use Rattle.desk_http.specs.declared.method.Method.TheVariants as method;
 ghost use Rattle.desk_scratch.specs.Questions.{is_question_in_range};
 
 use crate::answerer::Answerer;
-use crate::last_reply::LastReply;
 use crate::wording::{
     tell_accepted, tell_answer, tell_bad_declaration, tell_bad_edit, tell_no_ask, tell_refused,
 };
@@ -38,22 +34,17 @@ pub(crate) struct Connection<'a, K: Keeper> {
     pub(crate) met: u64,
     /// Room for the body of an answer, which is kept from one to the next.
     pub(crate) body: &'a mut Bytes,
-    /// The reply to the last question.
-    pub(crate) last: &'a mut LastReply,
 }
 
 impl<K: Keeper> Answerer for Connection<'_, K> {
     ghost use Rattle.std.specs.Prelude.{◌≡◌, ℕ, List};
     ghost use Rattle.desk_clerk.specs.Clerk.{keeper_of, whole};
-    ghost use Rattle.desk_front.specs.Last.{IsFresh};
     ghost use Rattle.desk_front.specs.Turn.{Turns};
 
-    // Each turn keeps that the last reply is the one at the clerk's list, and is right where that holds.
     ghost replies = { λ old request said new. (new.clerk.ghost_name ≡ old.clerk.ghost_name)
         × (K.Tells (keeper_of new.clerk.now) → K.Tells (keeper_of old.clerk.now))
-        × (IsFresh (whole old.clerk.now) old.last.now → IsFresh (whole new.clerk.now) new.last.now
         × Turns (record { whole = whole old.clerk.now; met = old.met; faults = K.faults (keeper_of old.clerk.now) }) request said
-        (record { whole = whole new.clerk.now; met = new.met; faults = K.faults (keeper_of new.clerk.now) })) };
+        (record { whole = whole new.clerk.now; met = new.met; faults = K.faults (keeper_of new.clerk.now) }) };
 
     fn reply<R: Wait + Sync>(
         &mut self,
@@ -63,48 +54,17 @@ impl<K: Keeper> Answerer for Connection<'_, K> {
         request: &Request,
         out: &mut Bytes,
     ) -> Result<(), Fixed> {
-        let target = request.target.of(buffer);
         let close = request.close;
-        if !close && let Some(said) = self.last.to(request.method, target) {
-            return say_again(said, self.clerk.number(), &mut self.met, out);
-        }
         let body = request.body.of(buffer);
         let met = &mut self.met;
         match route(alloc, self.routes, buffer, request) {
             Ok(Ask::Question(question)) => {
-                let from = out.len();
-                answer(alloc, self.clerk, met, &question, close, self.body, out)?;
-                if !close {
-                    let said = out.as_slice().split_at(from).1;
-                    self.last.keep(request.method, target, said);
-                }
-                Ok(())
+                answer(alloc, self.clerk, met, &question, close, self.body, out)
             }
-            Ok(Ask::Edit) => {
-                self.last.forget();
-                enter_json(rt, alloc, self.clerk, met, body, close, out)
-            }
-            Ok(Ask::Declaration) => {
-                self.last.forget();
-                enter_csv(rt, alloc, self.clerk, met, body, close, out)
-            }
+            Ok(Ask::Edit) => enter_json(rt, alloc, self.clerk, met, body, close, out),
+            Ok(Ask::Declaration) => enter_csv(rt, alloc, self.clerk, met, body, close, out),
             Err(fault) => tell_no_ask(alloc, fault, close, out),
         }
-    }
-}
-
-/// Says a reply once more, at a list of this number, which is met with that.
-fn say_again(said: &[u8], number: u64, met: &mut u64, out: &mut Bytes) -> Result<(), Fixed>
-    ensures ok { OnOk result ((out.new ≡ out.old ++ said.now) × (met.new ≡ number)) }
-    ensures memory { IfErr result (λ told. told ≡ refusal.Memory) }
-    ensures err { OnErr result ((out.new ≡ out.old) × (met.new ≡ met.old)) }
-{
-    match out.push_all(said) {
-        Ok(()) => {
-            *met = number;
-            Ok(())
-        }
-        Err(_) => Err(Fixed::Memory),
     }
 }
 
@@ -127,8 +87,6 @@ fn answer<K: Keeper>(
         (record { whole = whole clerk.now; met = met.new; faults = K.faults (keeper_of clerk.now) })) }
     ensures allow { IfErr result (λ fixed. allow_of fixed ≢ Some method.Other) }
     ensures err { OnErr result (out.new ≡ out.old) }
-    ensures answers { OnOk result ((out.new ≡ out.old ++ bytes_with close (answer_at (whole clerk.now) question.now)) × (met.new ≡ number_at (whole clerk.now))) }
-    ensures unmet { OnErr result (met.new ≡ met.old) }
 {
     match tell_answer(alloc, clerk.tables(), question, close, body, out) {
         Ok(()) => {

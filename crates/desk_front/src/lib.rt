@@ -6,7 +6,6 @@ mod answerer;
 mod connection;
 mod first;
 mod held;
-mod last_reply;
 pub mod laws;
 mod outbox;
 mod round;
