@@ -1,6 +1,7 @@
 pub mod Buffers
 pub mod InOrder
 pub mod Meeting
+pub mod Saying
 pub mod Sending
 pub mod Serving
 pub mod Streaming

@@ -1,7 +1,7 @@
 -- What each answer of a talk is at, and what stays told.
 use Rattle.std.proofs.Common.{◌≡◌, ◌⊎◌, ℕ, ◌≤◌, List, [], ◌∷◌, refl, sym, ap, ◌∙◌, subst, inl, inr, arith}
 use Rattle.desk_history.specs.History.{Begins, History, IsHistory, after, number_of, up_to}
-use Rattle.desk_history.proofs.Beginnings.{begins_number, opening_number, up_to_longer, up_to_up_to}
+use Rattle.desk_history.proofs.Beginnings.{begins_number, up_to_longer, up_to_up_to}
 use Rattle.desk_history.proofs.Histories.{number_of-up_to, up_to-IsHistory}
 use Rattle.desk_http.specs.Reply.{Reply, fixed}
 use Rattle.desk_http.specs.Rest.{Message}
@@ -11,7 +11,32 @@ use Rattle.desk_front.specs.Asked.{Asked, asked_of, edit, nothing, question}
 use Rattle.desk_front.specs.InOrder.{InOrder}
 use Rattle.desk_front.specs.Laws.{BeginsWithAllMet, IsAnsweredAt}
 use Rattle.desk_front.specs.Replies.{answer_at}
-use Rattle.desk_front.specs.Talk.{Follows, IsAnswered, IsJudged, IsTold, IsToldOfMemory, Talk}
+use Rattle.desk_front.specs.Talk.{Follows, IsAnswered, IsNumbered, IsTold, IsToldOfMemory, Numbered, Talk, TalkAt, TellsJudgement, replies_in}
+
+-- ---- a talk and its numbers
+
+numbers_each : (list : History) (met last : ℕ) (ms : List Message) (replies : List Reply) → InOrder (IsAnswered list) met ms replies last
+    → (numbered : List Numbered) × (replies_in numbered ≡ replies) × InOrder (IsNumbered list) met ms numbered last
+numbers_each list met last [] [] x = ([], refl, x)
+numbers_each list met last [] (reply ∷ replies) x = absurd x
+numbers_each list met last (m ∷ ms) [] x = absurd x
+numbers_each list met last (m ∷ ms) (reply ∷ replies) x =
+    let others = numbers_each list x.0 last ms replies x.2 in
+    (record { reply = reply; met = x.0 } ∷ others.0, ap (λ l. reply ∷ l) others.1, (x.0, (x.1, refl), others.2))
+
+pub with_numbers : (list : History) (met : ℕ) (ms : List Message) (replies : List Reply) → Talk list met ms replies
+    → (numbered : List Numbered) × (replies_in numbered ≡ replies) × TalkAt list met ms numbered
+with_numbers list met ms replies x = let y = numbers_each list met x.0 ms replies x.1 in (y.0, y.1, (x.0, y.2))
+
+pub replies_each : (list : History) (met last : ℕ) (ms : List Message) (numbered : List Numbered) → InOrder (IsNumbered list) met ms numbered last
+    → InOrder (IsAnswered list) met ms (replies_in numbered) last
+replies_each list met last [] [] x = x
+replies_each list met last [] (one ∷ numbered) x = absurd x
+replies_each list met last (m ∷ ms) [] x = absurd x
+replies_each list met last (m ∷ ms) (one ∷ numbered) x = (x.0, x.1.0, replies_each list x.0 last ms numbered x.2)
+
+pub without_numbers : (list : History) (met : ℕ) (ms : List Message) (numbered : List Numbered) → TalkAt list met ms numbered → Talk list met ms (replies_in numbered)
+without_numbers list met ms numbered x = (x.0, replies_each list met x.0 ms numbered x.1)
 
 -- ---- what is met is a number of the list, and never falls
 
@@ -44,8 +69,8 @@ told_at : (list : History) (asked : Asked) (met : ℕ) (reply : Reply) (now : �
 told_at list (nothing told) met reply now a b y = (y.0, ap (up_to list) y.1)
 told_at list (question asked) met reply now a b y = y.1
 told_at list (edit made) met reply now a b (inl y) =
-    inl (subst (λ n. IsJudged (after (up_to list now)) n (number_of (up_to list met)) made reply) (sym b)
-    (subst (λ n. IsJudged (after (up_to list now)) now n made reply) (sym a) y.1))
+    inl (subst (λ n. TellsJudgement (after (up_to list now)) n (number_of (up_to list met)) made reply) (sym b)
+    (subst (λ n. TellsJudgement (after (up_to list now)) now n made reply) (sym a) y.1))
 told_at list (edit made) met reply now a b (inr y) = inr (y.0, ap (up_to list) y.1)
 
 memory_told : (list : History) (asked : Asked) (met : ℕ) (reply : Reply) (now : ℕ) → IsToldOfMemory list asked met reply now → reply ≡ fixed refusal.Memory
@@ -58,7 +83,7 @@ answered_at : (list : History) (m : Message) (met : ℕ) (reply : Reply) (now : 
 answered_at list m met reply now a b (inl y) = inl (told_at list (asked_of m) met reply now a b y)
 answered_at list m met reply now a b (inr y) = inr (memory_told list (asked_of m) met reply now y)
 
-begins_each : (list : History) (met last : ℕ) (ms : List Message) (replies : List Reply) → IsHistory list → number_at list.opening ≤ met → met ≤ number_of list
+pub begins_each : (list : History) (met last : ℕ) (ms : List Message) (replies : List Reply) → IsHistory list → number_at list.opening ≤ met → met ≤ number_of list
     → InOrder (IsAnswered list) met ms replies last → InOrder (BeginsWithAllMet list) (up_to list met) ms replies (up_to list last)
 begins_each list met last [] [] h low high x = ap (up_to list) x
 begins_each list met last [] (reply ∷ replies) h low high x = absurd x
@@ -95,7 +120,7 @@ module _ (list longer : History) (a : IsHistory list) (b : IsHistory longer) (be
       (follows_longer met now y.0, y.1 ∙ ap (λ l. answer_at (after l) asked) (sym same))
   told_longer (edit made) met reply now (inl y) =
       let same = up_to_longer list longer now a b begins y.0.0 y.0.2 in
-      inl (follows_longer met now y.0, subst (λ l. IsJudged (after l) now met made reply) (sym same) y.1)
+      inl (follows_longer met now y.0, subst (λ l. TellsJudgement (after l) now met made reply) (sym same) y.1)
   told_longer (edit made) met reply now (inr y) = inr y
 
   moved_longer : (met now : ℕ) → (now ≡ met) ⊎ Follows list met now → (now ≡ met) ⊎ Follows longer met now
@@ -107,7 +132,7 @@ module _ (list longer : History) (a : IsHistory list) (b : IsHistory longer) (be
   memory_longer (question asked) met reply now y = (y.0, moved_longer met now y.1)
   memory_longer (edit made) met reply now y = (y.0, moved_longer met now y.1)
 
-  answered_longer : (m : Message) (met : ℕ) (reply : Reply) (now : ℕ) → IsAnswered list met m reply now → IsAnswered longer met m reply now
+  pub answered_longer : (m : Message) (met : ℕ) (reply : Reply) (now : ℕ) → IsAnswered list met m reply now → IsAnswered longer met m reply now
   answered_longer m met reply now (inl y) = inl (told_longer (asked_of m) met reply now y)
   answered_longer m met reply now (inr y) = inr (memory_longer (asked_of m) met reply now y)
 

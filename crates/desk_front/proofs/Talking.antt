@@ -1,6 +1,6 @@
 -- A conversation with a clerk, and the one list that its replies are from.
 use Rattle.std.proofs.Common.{◌≡◌, ◌≢◌, ◌⊎◌, ℕ, ◌+◌, ◌≤◌, true, List, [], ◌∷◌, ◌++◌, Option, None, Some, Result, Ok, Err, refl, sym, ap, ◌∙◌, subst, inl, inr, append_assoc, arith, length-append}
-use Rattle.std.specs.List.{AllByRecursion, concat}
+use Rattle.std.specs.List.{AllByRecursion}
 use Rattle.desk_model.specs.Lists.{number_at}
 use Rattle.desk_declare.specs.declared.declare_fault.DeclareFault.{DeclareFault}
 use Rattle.desk_edge.specs.Faults.{Rose}
@@ -20,7 +20,6 @@ use Rattle.desk_http.specs.declared.ask.Ask.TheVariants as ask
 use Rattle.desk_http.specs.declared.fixed.Fixed.TheVariants as refusal
 use Rattle.desk_http.specs.declared.http_fault.HttpFault.{HttpFault}
 use Rattle.desk_http.specs.declared.http_fault.HttpFault.TheVariants as fault
-use Rattle.desk_model.specs.Effect.{next_number}
 use Rattle.desk_model.specs.Forms.{is_edit_in_form}
 use Rattle.desk_model.specs.Lists.{Lists}
 use Rattle.desk_model.specs.declared.edit.Edit.{Edit}
@@ -29,12 +28,15 @@ use Rattle.desk_scratch.specs.Eval.{eval}
 use Rattle.desk_scratch.specs.declared.ask_fault.AskFault.{AskFault}
 use Rattle.desk_front.specs.Asked.{Asked, asked_of, edit, nothing, of_csv, of_json, of_route, question}
 use Rattle.desk_http.specs.Reply.{Reply, fixed}
-use Rattle.desk_front.specs.Replies.{all_bytes, answer_at, bytes_of, evaluated, reply_to_edit}
-use Rattle.desk_front.specs.Service.{Replies}
+use Rattle.desk_front.specs.Replies.{all_bytes, answer_at, evaluated, reply_to_edit}
 use Rattle.desk_front.specs.InOrder.{InOrder}
-use Rattle.desk_front.specs.Talk.{Follows, IsAnswered, IsJudged, IsTold, IsToldOfMemory}
-use Rattle.desk_front.specs.Turn.{Conversation, Converses, Standing, Told, Turn, Turns, added_at, added_by, if_new, replies_of}
+use Rattle.desk_front.specs.Talk.{Follows, IsAnswered, IsJudged, IsTold, IsToldOfMemory, TellsJudgement}
+use Rattle.desk_front.specs.Told.{Conversation, Told, added_by, replies_of}
+use Rattle.desk_front.specs.Turn.{Converses, Standing, Turn, added_at, if_new}
 use Rattle.desk_front.proofs.InOrder.{in_order_relates}
+
+abbrev met_of : Standing → ℕ
+met_of standing = standing.met
 
 -- ---- what a turn adds to the list
 
@@ -73,12 +75,12 @@ turn_grows old new asked reply added (inr (inl (memory, inl x))) = grows_nothing
 turn_grows old new asked reply added (inr (inl (memory, inr x))) = grows_edit old.whole new.whole x.0 added x.2 x.3 (ap (λ s. s.whole) x.4)
 turn_grows old new asked reply added (inr (inr x)) = grows_nothing old.whole new.whole added x.3 (ap (λ s. s.whole) x.6)
 
-pub conversation_grows : (old new : Standing) (ms : List Message) (told : List Told) → Conversation old ms told new → Grows old.whole (added_by told) new.whole
+pub conversation_grows : (old new : Standing) (ms : List Message) (told : List (Told Edit)) → Conversation Turn met_of old ms told new → Grows old.whole (added_by told) new.whole
 conversation_grows old new [] [] x = grows_nothing old.whole new.whole [] refl (ap (λ s. s.whole) x)
 conversation_grows old new [] (one ∷ told) x = absurd x
 conversation_grows old new (m ∷ ms) [] x = absurd x
 conversation_grows old new (m ∷ ms) (one ∷ told) x =
-    let first = turn_grows old x.0 (asked_of m) one.reply one.added x.1 in
+    let first = turn_grows old x.0 (asked_of m) one.reply one.added x.1.0 in
     let others = conversation_grows x.0 new ms told x.2 in (
       accepted_on old.whole one.added (added_by told) first.0 (subst (λ t. AreAccepted t (added_by told)) (sym first.1) others.0),
       after_on old.whole one.added (added_by told) ∙ ap (λ t. tables_after t (added_by told)) first.1 ∙ others.1,
@@ -123,17 +125,11 @@ moment t before rest sound all some =
       within = omega (arith, tickets-tables_after t (before ++ rest) all, tickets-tables_after t before some, length-append before rest);
     }
 
-judged_so : (t : Lists) (met : ℕ) (made : Edit) (reply : Reply) (kept : Option ℕ) (broken : Option RuleFault) → kept_number t made ≡ kept → refused t made ≡ broken
-    → reply ≡ reply_to_edit (number_at (step t made).1) met (step t made).0 → IsJudged (step t made).1 (number_at (step t made).1) met made reply
-judged_so t met made reply (Some number) broken a b e =
-    let s = step-kept t made number a in
-    inl (number, ap (λ r. kept_number r.1 made) s ∙ a, e ∙ ap (λ r. reply_to_edit (number_at (step t made).1) met r.0) s)
-judged_so t met made reply None (Some cause) a b e =
-    let s = step-refused t made cause a b in
-    inr (cause, ap (λ r. kept_number r.1 made) s ∙ a, ap (λ r. refused r.1 made) s ∙ b, e ∙ ap (λ r. reply_to_edit (number_at (step t made).1) met r.0) s)
-judged_so t met made reply None None a b e =
-    let s = step-accepted t made a b in
-    inl (next_number t, ap (λ r. kept_number r.1 made) s ∙ kept-entered t made, e ∙ ap (λ r. reply_to_edit (number_at (step t made).1) met r.0) s)
+judged_so : (t : Lists) (made : Edit) (kept : Option ℕ) (broken : Option RuleFault) → kept_number t made ≡ kept → refused t made ≡ broken
+    → IsJudged (step t made).1 made (step t made).0
+judged_so t made (Some number) broken a b = subst (λ s. IsJudged s.1 made s.0) (sym (step-kept t made number a)) a
+judged_so t made None (Some cause) a b = subst (λ s. IsJudged s.1 made s.0) (sym (step-refused t made cause a b)) (a, b)
+judged_so t made None None a b = subst (λ s. IsJudged s.1 made s.0) (sym (step-accepted t made a b)) (kept-entered t made)
 
 abbrev Tells : History → Asked → ℕ → Reply → ℕ → Type 0
 Tells list asked met reply now = IsTold list asked met reply now ⊎ IsToldOfMemory list asked met reply now
@@ -159,9 +155,9 @@ turn_tells list old new (edit made) reply added (inl x) h before now =
     let more = grown_number old.whole (step old.whole made).1 (added_at old.whole made) (grows_at old.whole made x.0) in
     inl (inl (
       subst (Follows list old.met) (sym met) (at.opened, omega (arith, h, more), at.within),
-      subst (λ n. IsJudged (after (up_to list n)) n old.met made reply) (sym met)
-          (subst (λ t. IsJudged t (number_at (step old.whole made).1) old.met made reply) (sym at.named)
-          (judged_so old.whole old.met made reply (kept_number old.whole made) (refused old.whole made) refl refl x.1)),
+      subst (λ n. TellsJudgement (after (up_to list n)) n old.met made reply) (sym met)
+          (subst (λ t. TellsJudgement t (number_at (step old.whole made).1) old.met made reply) (sym at.named)
+          ((step old.whole made).0, judged_so old.whole made (kept_number old.whole made) (refused old.whole made) refl refl, x.1)),
     ))
 turn_tells list old new asked reply added (inr (inl (memory, inl x))) h before now =
     inr (told_of_memory list asked old.met new.met reply memory (ap (λ s. s.met) x.1))
@@ -171,23 +167,23 @@ turn_tells list old new asked reply added (inr (inr x)) h before now =
     inl (subst (λ a. IsTold list a old.met reply new.met) (sym x.1) (inr (x.2, ap (λ s. s.met) x.6)))
 
 -- a conversation from a moment of the list on is a talk over the list
-talks : (t : Lists) (all before : List Edit) (old new : Standing) (ms : List Message) (told : List Told)
+talks : (t : Lists) (all before : List Edit) (old new : Standing) (ms : List Message) (told : List (Told Edit))
     → Sound t → AreAccepted t all → all ≡ before ++ added_by told → AreAccepted t before → tables_after t before ≡ old.whole → old.met ≤ number_at old.whole
-    → Conversation old ms told new → InOrder (IsAnswered (record { opening = t; edits = all })) old.met ms (replies_of told) new.met
+    → Conversation Turn met_of old ms told new → InOrder (IsAnswered (record { opening = t; edits = all })) old.met ms (replies_of told) new.met
 talks t all before old new [] [] sound fine split some at h x = ap (λ s. s.met) x
 talks t all before old new [] (one ∷ told) sound fine split some at h x = absurd x
 talks t all before old new (m ∷ ms) [] sound fine split some at h x = absurd x
 talks t all before old new (m ∷ ms) (one ∷ told) sound fine split some at h x =
     let list : History = record { opening = t; edits = all } in
-    let grown = turn_grows old x.0 (asked_of m) one.reply one.added x.1 in
+    let grown = turn_grows old x.0 (asked_of m) one.reply one.added x.1.0 in
     let further : AreAccepted t (before ++ one.added) = accepted_on t before one.added some (subst (λ u. AreAccepted u one.added) (sym at) grown.0) in
     let left : tables_after t (before ++ one.added) ≡ x.0.whole = after_on t before one.added ∙ ap (λ u. tables_after u one.added) at ∙ grown.1 in
     let parts : all ≡ (before ++ one.added) ++ added_by told = split ∙ sym (append_assoc before one.added (added_by told)) in
     let here : Moment list old.whole = subst (Moment list) at (moment_of t all before (one.added ++ added_by told) sound fine split some) in
     let there : Moment list x.0.whole = subst (Moment list) left (moment_of t all (before ++ one.added) (added_by told) sound fine parts further) in (
       x.0.met,
-      turn_tells list old x.0 (asked_of m) one.reply one.added x.1 h here there,
-      talks t all (before ++ one.added) x.0 new ms told sound fine parts further left (turn_meets old x.0 (asked_of m) one.reply one.added x.1 h).1 x.2,
+      turn_tells list old x.0 (asked_of m) one.reply one.added x.1.0 h here there,
+      talks t all (before ++ one.added) x.0 new ms told sound fine parts further left (turn_meets old x.0 (asked_of m) one.reply one.added x.1.0 h).1 x.2,
     )
   where
     moment_of : (t : Lists) (all before rest : List Edit) → Sound t → AreAccepted t all → all ≡ before ++ rest → AreAccepted t before
@@ -201,7 +197,7 @@ other_status : (reply : Reply) (status : ℕ) → reply.status ≡ status → st
 other_status reply status e other f = other (sym e ∙ f)
 
 -- a request that asks nothing isn't told of the store
-abbrev IsNotOfStore : Asked → Type 0
+abbrev pub IsNotOfStore : Asked → Type 0
 IsNotOfStore (nothing told) = told.status ≢ 503
 IsNotOfStore (question asked) = Unit {0}
 IsNotOfStore (edit made) = Unit {0}
@@ -214,7 +210,7 @@ csv_not_of_store : (x : Result Edit DeclareFault) → IsNotOfStore (of_csv x)
 csv_not_of_store (Ok made) = tt
 csv_not_of_store (Err cause) = λ e. absurd (omega (arith, e))
 
-route_not_of_store : (body : List ℕ) (x : Result Ask HttpFault) → IsNotOfStore (of_route body x)
+pub route_not_of_store : (body : List ℕ) (x : Result Ask HttpFault) → IsNotOfStore (of_route body x)
 route_not_of_store body (Ok (ask.Question asked)) = tt
 route_not_of_store body (Ok ask.Edit) = json_not_of_store (edit_of body)
 route_not_of_store body (Ok ask.Declaration) = csv_not_of_store (declaration_of body)
@@ -223,15 +219,15 @@ route_not_of_store body (Err (fault.WrongMethod allow)) = λ e. absurd (omega (a
 route_not_of_store body (Err (fault.BadQuery key)) = λ e. absurd (omega (arith, e))
 route_not_of_store body (Err fault.OutOfMemory) = λ e. absurd (omega (arith, e))
 
-evaluated_not_of_store : (t : Lists) (x : Result (List ℕ) AskFault) → (evaluated t x).status ≢ 503
+pub evaluated_not_of_store : (t : Lists) (x : Result (List ℕ) AskFault) → (evaluated t x).status ≢ 503
 evaluated_not_of_store t (Ok text) = λ e. absurd (omega (arith, e))
 evaluated_not_of_store t (Err cause) = λ e. absurd (omega (arith, e))
 
-judged_not_of_store : (whole met : ℕ) (x : Result ℕ RuleFault) → (reply_to_edit whole met x).status ≢ 503
+pub judged_not_of_store : (whole met : ℕ) (x : Result ℕ RuleFault) → (reply_to_edit whole met x).status ≢ 503
 judged_not_of_store whole met (Ok number) = λ e. absurd (omega (arith, e))
 judged_not_of_store whole met (Err cause) = λ e. absurd (omega (arith, e))
 
-same_other : (reply told : Reply) → reply ≡ told → told.status ≢ 503 → reply.status ≢ 503
+pub same_other : (reply told : Reply) → reply ≡ told → told.status ≢ 503 → reply.status ≢ 503
 same_other reply told e other f = other (sym (ap (λ r. r.status) e) ∙ f)
 
 turn_faults : (old new : Standing) (asked : Asked) (reply : Reply) (added : List Edit) → Turn old asked reply added new → old.faults ≤ new.faults
@@ -242,10 +238,10 @@ turn_faults old new asked reply added (inr (inl (memory, inl x))) = omega (arith
 turn_faults old new asked reply added (inr (inl (memory, inr x))) = omega (arith, ap (λ s. s.faults) x.4)
 turn_faults old new asked reply added (inr (inr x)) = x.4
 
-pub conversation_faults : (old new : Standing) (ms : List Message) (told : List Told) → Conversation old ms told new → old.faults ≤ new.faults
+pub conversation_faults : (old new : Standing) (ms : List Message) (told : List (Told Edit)) → Conversation Turn met_of old ms told new → old.faults ≤ new.faults
 conversation_faults =
-    in_order_relates (λ old m one new. Turn old (asked_of m) one.reply one.added new) (λ a b. a.faults ≤ b.faults) (λ a. omega arith)
-    (λ a b c x y. omega (arith, x, y)) (λ a b m one x. turn_faults a b (asked_of m) one.reply one.added x)
+    in_order_relates (λ old m one new. Turn old (asked_of m) one.reply one.added new × (one.met ≡ met_of new)) (λ a b. a.faults ≤ b.faults) (λ a. omega arith)
+    (λ a b c x y. omega (arith, x, y)) (λ a b m one x. turn_faults a b (asked_of m) one.reply one.added x.0)
 
 turn_kept : (old new : Standing) (asked : Asked) (reply : Reply) (added : List Edit) → IsNotOfStore asked → Turn old asked reply added new
     → (Rose old.faults new.faults → ⊥) → reply.status ≢ 503
@@ -257,22 +253,22 @@ turn_kept old new (edit made) reply added other (inl x) steady =
 turn_kept old new asked reply added other (inr (inl x)) steady = same_other reply (fixed refusal.Memory) x.0 (λ e. absurd (omega (arith, e)))
 turn_kept old new asked reply added other (inr (inr x)) steady = absurd (steady x.5)
 
-pub conversation_kept : (old new : Standing) (ms : List Message) (told : List Told) → Conversation old ms told new → (Rose old.faults new.faults → ⊥)
+pub conversation_kept : (old new : Standing) (ms : List Message) (told : List (Told Edit)) → Conversation Turn met_of old ms told new → (Rose old.faults new.faults → ⊥)
     → AllByRecursion (λ reply. reply.status ≢ 503) (replies_of told)
 conversation_kept old new [] [] x steady = tt
 conversation_kept old new [] (one ∷ told) x steady = absurd x
 conversation_kept old new (m ∷ ms) [] x steady = absurd x
 conversation_kept old new (m ∷ ms) (one ∷ told) x steady =
-    let first = turn_faults old x.0 (asked_of m) one.reply one.added x.1 in
+    let first = turn_faults old x.0 (asked_of m) one.reply one.added x.1.0 in
     let others = conversation_faults x.0 new ms told x.2 in (
-      turn_kept old x.0 (asked_of m) one.reply one.added (route_not_of_store m.body (route_of m.method m.target)) x.1 (λ rose. steady (omega (arith, rose, others))),
+      turn_kept old x.0 (asked_of m) one.reply one.added (route_not_of_store m.body (route_of m.method m.target)) x.1.0 (λ rose. steady (omega (arith, rose, others))),
       conversation_kept x.0 new ms told x.2 (λ rose. steady (omega (arith, rose, first))),
     )
 
 -- ---- all of it
 
-pub converses : (start : Standing) (left : Lists) (last_met counted : ℕ) (ms : List Message) (told : List Told) (said : List ℕ)
-    → Sound start.whole → start.met ≤ number_at start.whole → Conversation start ms told (record { whole = left; met = last_met; faults = counted })
+pub converses : (start : Standing) (left : Lists) (last_met counted : ℕ) (ms : List Message) (told : List (Told Edit)) (said : List ℕ)
+    → Sound start.whole → start.met ≤ number_at start.whole → Conversation Turn met_of start ms told (record { whole = left; met = last_met; faults = counted })
     → said ≡ all_bytes ms (replies_of told) → Converses start left counted ms said
 converses start left last_met counted ms told said sound met x e =
     let finish : Standing = record { whole = left; met = last_met; faults = counted } in
@@ -286,33 +282,3 @@ converses start left last_met counted ms told said sound met x e =
       talk = (last_met, talks start.whole (added_by told) [] start finish ms told sound grown.0 refl tt refl met x);
       kept = conversation_kept start finish ms told x;
     }
-
--- what answers by turns converses
-module _ {A : Type 0} (R : A → Message → List ℕ → A → Type 0) (standing : A → Standing)
-    (turns : (a b : A) (m : Message) (said : List ℕ) → R a m said b → Turns (standing a) m said (standing b)) where
-  conversation_of_each : (old new : A) (ms : List Message) (each : List (List ℕ)) → InOrder R old ms each new
-      → (told : List Told) × Conversation (standing old) ms told (standing new) × (concat each ≡ all_bytes ms (replies_of told))
-  conversation_of_each old new [] [] x = ([], ap standing x, refl)
-  conversation_of_each old new [] (said ∷ each) x = absurd x
-  conversation_of_each old new (m ∷ ms) [] x = absurd x
-  conversation_of_each old new (m ∷ ms) (said ∷ each) x =
-      let first = turns old x.0 m said x.1 in
-      let others = conversation_of_each x.0 new ms each x.2 in (
-        record { reply = first.0; added = first.1 } ∷ others.0,
-        (standing x.0, first.2, others.1),
-        ap (λ l. l ++ concat each) first.3 ∙ ap (λ l. bytes_of m first.0 ++ l) others.2,
-      )
-
-  pub conversation_of : (old new : A) (ms : List Message) (said : List ℕ) → Replies R old ms said new
-      → (told : List Told) × Conversation (standing old) ms told (standing new) × (said ≡ all_bytes ms (replies_of told))
-  conversation_of old new ms said x = let y = conversation_of_each old new ms x.0 x.1 in (y.0, y.1, x.2 ∙ y.2)
-
--- what each turn keeps is kept
-pub kept_throughout : {A X : Type 0} (R : A → Message → List ℕ → A → Type 0) (name : A → X) → ((a b : A) (m : Message) (said : List ℕ) → R a m said b → name b ≡ name a)
-    → (old new : A) (ms : List Message) (said : List ℕ) → Replies R old ms said new → name new ≡ name old
-kept_throughout R name keeps old new ms said x = in_order_relates R (λ a b. name b ≡ name a) (λ a. refl) (λ a b c f g. g ∙ f) keeps old new ms x.0 x.1
-
--- what each turn leads back from the end to the start is led back through all
-pub told_throughout : {A : Type 0} (R : A → Message → List ℕ → A → Type 0) (P : A → Type 0) → ((a b : A) (m : Message) (said : List ℕ) → R a m said b → P b → P a)
-    → (old new : A) (ms : List Message) (said : List ℕ) → Replies R old ms said new → P new → P old
-told_throughout R P back old new ms said x = in_order_relates R (λ a b. P b → P a) (λ a p. p) (λ a b c f g p. f (g p)) back old new ms x.0 x.1

@@ -1,5 +1,5 @@
 -- What a turn is, from what the calls that make it say.
-use Rattle.std.proofs.Common.{◌≡◌, ◌≢◌, ◌⊎◌, ℕ, ◌≤◌, Bool, true, false, cond, IfErr, OnOk, List, [], ◌∷◌, ◌++◌, Option, None, Some, Result, Ok, Err, is_ok, refl, sym, ap, ◌∙◌, subst, inl, inr}
+use Rattle.std.proofs.Common.{◌≡◌, ◌≢◌, ℕ, ◌≤◌, Bool, true, false, cond, List, [], ◌∷◌, Option, None, Some, Result, Ok, Err, is_ok, refl, sym, ap, ◌∙◌, subst, inl, inr}
 use Rattle.std.specs.List.{find}
 use Rattle.std.specs.List.{AllByRecursion}
 use Rattle.std.specs.Option.{option_and_then, option_map_or}
@@ -17,45 +17,34 @@ use Rattle.desk_http.specs.declared.http_fault.QueryKey.TheVariants as key
 use Rattle.desk_http.specs.declared.method.Method.{Method}
 use Rattle.desk_edge.specs.Faults.{Rose}
 use Rattle.desk_history.specs.Step.{kept_number, step}
-use Rattle.desk_http.specs.Reply.{Reply, allow_of, bytes_with, fixed, fixed_reply, with_body}
+use Rattle.desk_http.specs.Reply.{Reply, bytes_with, fixed, fixed_reply, with_body}
 use Rattle.desk_http.specs.declared.fixed.Fixed.{Fixed}
 use Rattle.desk_http.specs.declared.fixed.Fixed.TheVariants as refusal
 use Rattle.desk_http.specs.declared.method.Method.TheVariants as method
 use Rattle.desk_model.specs.Forms.{is_edit_in_form}
-use Rattle.desk_model.specs.Lists.{Lists}
 use Rattle.desk_model.specs.declared.edit.Edit.{Edit}
 use Rattle.desk_model.specs.declared.rule_fault.RuleFault.{RuleFault}
 use Rattle.desk_scratch.specs.declared.question.Question.{Question}
 use Rattle.desk_front.specs.Asked.{Asked, edit, nothing, question}
 use Rattle.desk_front.specs.Replies.{accepted_body, answer_at, reply_to_edit, refused_body}
-use Rattle.desk_front.specs.Turn.{Says, Standing, added_at}
+use Rattle.desk_front.specs.Told.{Says}
+use Rattle.desk_front.specs.Turn.{Standing, Turn, added_at}
+use Rattle.desk_front.proofs.Saying.{fixed_bytes}
 
-pub fixed_bytes : (refused : Fixed) (close : Bool) → fixed_reply refused close ≡ bytes_with close (fixed refused)
-unfolding fixed_reply
-fixed_bytes refused close = refl
+-- what asks nothing gets its reply, and whatever is asked may lack memory
+pub refuses : (old : Standing) (reply : Reply) → Turn old (nothing reply) reply [] old
+refuses old reply = inl (refl, refl, refl)
 
-pub memory_allows_none : (refused : Fixed) → refused ≡ refusal.Memory → allow_of refused ≢ Some method.Other
-memory_allows_none refused e = subst (λ r. allow_of r ≢ Some method.Other) (sym e) (λ h. cc)
-
--- nothing has changed, and memory was wanting
-pub says_memory : (old : Standing) (asked : Asked) (close : Bool) (refused : Fixed) → refused ≡ refusal.Memory → Says old asked close (fixed_reply refused close) old
-says_memory old asked close refused e =
-    subst (λ r. Says old asked close (fixed_reply r close) old) (sym e)
-    (fixed refusal.Memory, [], inr (inl (refl, inl (refl, refl))), fixed_bytes refusal.Memory close)
-
-pub says_nothing : (old : Standing) (reply : Reply) (close : Bool) → Says old (nothing reply) close (bytes_with close reply) old
-says_nothing old reply close = (reply, [], inl (refl, refl, refl), refl)
-
-pub says_fixed : (old : Standing) (refused : Fixed) (close : Bool) → Says old (nothing (fixed refused)) close (fixed_reply refused close) old
-says_fixed old refused close = (fixed refused, [], inl (refl, refl, refl), fixed_bytes refused close)
+pub lacks : (old : Standing) (asked : Asked) → Turn old asked (fixed refusal.Memory) [] old
+lacks old asked = inr (inl (refl, inl (refl, refl)))
 
 pub says_answer : (old : Standing) (asked : Question) (close : Bool) (met : ℕ) → met ≡ number_at old.whole
-    → Says old (question asked) close (bytes_with close (answer_at old.whole asked)) (record old { met = met })
+    → Says Turn old (question asked) close (bytes_with close (answer_at old.whole asked)) (record old { met = met })
 says_answer old asked close met e = (answer_at old.whole asked, [], inl (refl, refl, ap (λ n. record old { met = n }) e), refl)
 
 pub says_accepted : (old new : Standing) (made : Edit) (close : Bool) (number whole : ℕ) → is_edit_in_form made ≡ true → (step old.whole made).0 ≡ Ok number
     → whole ≡ number_at new.whole → new.whole ≡ (step old.whole made).1 → new.faults ≡ old.faults → new.met ≡ whole
-    → Says old (edit made) close (bytes_with close (with_body 200 (accepted_body whole old.met number))) new
+    → Says Turn old (edit made) close (bytes_with close (with_body 200 (accepted_body whole old.met number))) new
 says_accepted old new made close number whole form answer counted left steady met =
     let at : whole ≡ number_at (step old.whole made).1 = counted ∙ ap number_at left in
     let met_at : new.met ≡ number_at (step old.whole made).1 = met ∙ at in (
@@ -72,7 +61,7 @@ says_accepted old new made close number whole form answer counted left steady me
 
 pub says_refused : (old new : Standing) (made : Edit) (close : Bool) (cause : RuleFault) (whole : ℕ) → is_edit_in_form made ≡ true → (step old.whole made).0 ≡ Err cause
     → (step old.whole made).1 ≡ old.whole → whole ≡ number_at old.whole → new.whole ≡ old.whole → new.faults ≡ old.faults → new.met ≡ whole
-    → Says old (edit made) close (bytes_with close (with_body 409 (refused_body whole old.met cause))) new
+    → Says Turn old (edit made) close (bytes_with close (with_body 409 (refused_body whole old.met cause))) new
 says_refused old new made close cause whole form answer stays counted left steady met =
     let left_at : new.whole ≡ (step old.whole made).1 = left ∙ sym stays in
     let at : whole ≡ number_at (step old.whole made).1 = counted ∙ ap number_at (sym stays) in
@@ -90,9 +79,9 @@ says_refused old new made close cause whole form answer stays counted left stead
 
 -- an edit was made, and there was no memory to tell it
 pub says_made : (old new : Standing) (made : Edit) (close : Bool) (refused : Fixed) → refused ≡ refusal.Memory → is_edit_in_form made ≡ true
-    → new.whole ≡ (step old.whole made).1 → new.met ≡ old.met → new.faults ≡ old.faults → Says old (edit made) close (fixed_reply refused close) new
+    → new.whole ≡ (step old.whole made).1 → new.met ≡ old.met → new.faults ≡ old.faults → Says Turn old (edit made) close (fixed_reply refused close) new
 says_made old new made close refused e form left met steady =
-    subst (λ r. Says old (edit made) close (fixed_reply r close) new) (sym e) (
+    subst (λ r. Says Turn old (edit made) close (fixed_reply r close) new) (sym e) (
       fixed refusal.Memory,
       added_at old.whole made,
       inr (inl (refl, inr (made, refl, form, refl, (λ i. record { whole = left i; met = met i; faults = steady i })))),
@@ -101,9 +90,9 @@ says_made old new made close refused e form left met steady =
 
 -- nothing was made, and there was no memory to tell why
 pub says_unmade : (old new : Standing) (asked : Asked) (close : Bool) (refused : Fixed) → refused ≡ refusal.Memory → new.whole ≡ old.whole → new.met ≡ old.met
-    → new.faults ≡ old.faults → Says old asked close (fixed_reply refused close) new
+    → new.faults ≡ old.faults → Says Turn old asked close (fixed_reply refused close) new
 says_unmade old new asked close refused e left met steady =
-    subst (λ r. Says old asked close (fixed_reply r close) new) (sym e) (
+    subst (λ r. Says Turn old asked close (fixed_reply r close) new) (sym e) (
       fixed refusal.Memory,
       [],
       inr (inl (refl, inl (refl, (λ i. record { whole = left i; met = met i; faults = steady i })))),
@@ -112,34 +101,13 @@ says_unmade old new asked close refused e left met steady =
 
 -- the store failed to keep an edit that is new and that no rule refuses
 pub says_failed : (old new : Standing) (made : Edit) (close : Bool) → new.whole ≡ old.whole → new.met ≡ old.met → old.faults ≤ new.faults → Rose old.faults new.faults
-    → (kept_number old.whole made ≡ None) × (is_ok (step old.whole made).0 ≡ true) → Says old (edit made) close (fixed_reply refusal.StoreFault close) new
+    → (kept_number old.whole made ≡ None) × (is_ok (step old.whole made).0 ≡ true) → Says Turn old (edit made) close (fixed_reply refusal.StoreFault close) new
 says_failed old new made close left met falls rose asked = (
   fixed refusal.StoreFault,
   [],
   inr (inr (made, refl, refl, refl, falls, rose, (λ i. record { whole = left i; met = met i; faults = new.faults }), asked.0, asked.1)),
   fixed_bytes refusal.StoreFault close,
 )
-
--- ---- what is told of a request that asks nothing, or of which memory was wanting
-
-pub says_memory_of : (old : Standing) (asked : Asked) (close : Bool) (r : Result (Unit {0}) Fixed) → IfErr r (λ told. told ≡ refusal.Memory)
-    → IfErr r (λ told. Says old asked close (fixed_reply told close) old)
-says_memory_of old asked close (Ok done) h = tt
-says_memory_of old asked close (Err told) h = says_memory old asked close told h
-
--- the reply is appended, where it is what is asked for
-pub says_told : (Q : Type 0) (old : Standing) (asked : Asked) (close : Bool) (told : Reply) (before after : List ℕ) (r : Result (Unit {0}) Fixed) → (Q → asked ≡ nothing told)
-    → OnOk r (Q × (after ≡ before ++ bytes_with close told)) → OnOk r ((said : List ℕ) × (after ≡ before ++ said) × Says old asked close said old)
-says_told Q old asked close told before after (Ok done) same h =
-    (bytes_with close told, h.1, subst (λ a. Says old a close (bytes_with close told) old) (sym (same h.0)) (says_nothing old told close))
-says_told Q old asked close told before after (Err fixed) same h = tt
-
-pub says_refusal : (Q : Type 0) (old : Standing) (asked : Asked) (close : Bool) (reply : Reply) (r : Result (Unit {0}) Fixed) → (Q → asked ≡ nothing reply)
-    → IfErr r (λ told. (told ≡ refusal.Memory) ⊎ (Q × (reply ≡ fixed told))) → IfErr r (λ told. Says old asked close (fixed_reply told close) old)
-says_refusal Q old asked close reply (Ok done) same h = tt
-says_refusal Q old asked close reply (Err told) same (inl h) = says_memory old asked close told h
-says_refusal Q old asked close reply (Err told) same (inr h) =
-    subst (λ a. Says old a close (fixed_reply told close) old) (ap nothing (sym h.1) ∙ sym (same h.0)) (says_fixed old told close)
 
 -- ---- the method that a path takes is one that the desk knows
 
@@ -210,11 +178,3 @@ allows_known sent target allowed e =
           where
             inside : (a b : Method) → ◌≡◌ {A = Result Ask HttpFault} (Err (cause.WrongMethod a)) (Err (cause.WrongMethod b)) → a ≡ b
             inside a b f = cc
-
-pub if_err_weaker : {T E : Type 0} (P Q : E → Type 0) (r : Result T E) → ((e : E) → P e → Q e) → IfErr r P → IfErr r Q
-if_err_weaker P Q (Ok value) weaker h = tt
-if_err_weaker P Q (Err e) weaker h = weaker e h
-
-pub on_ok_weaker : {T E : Type 0} {P Q : Type 0} (r : Result T E) → (P → Q) → OnOk r P → OnOk r Q
-on_ok_weaker (Ok value) weaker h = weaker h
-on_ok_weaker (Err e) weaker h = tt

@@ -8,3 +8,7 @@ InOrder Step old [] [] new = new ≡ old
 InOrder Step old [] (y ∷ ys) new = ⊥
 InOrder Step old (x ∷ xs) [] new = ⊥
 InOrder {S} Step old (x ∷ xs) (y ∷ ys) new = (next : S) × Step old x y next × InOrder Step next xs ys new
+
+-- the two lists are as long, and each of the first goes so with what stands at its place in the second
+abbrev pub Each : {X Y : Type 0} → (X → Y → Type 0) → List X → List Y → Type 0
+Each Goes xs ys = InOrder {S = Unit {0}} (λ before x y next. Goes x y) tt xs ys tt

@@ -8,7 +8,7 @@ use Rattle.desk_model.specs.Lists.{number_at}
 use Rattle.desk_front.specs.Asked.{Asked, asked_of, edit, nothing, question}
 use Rattle.desk_front.specs.InOrder.{InOrder}
 use Rattle.desk_front.specs.Replies.{answer_at}
-use Rattle.desk_front.specs.Talk.{IsJudged, Talk}
+use Rattle.desk_front.specs.Talk.{Numbered, Talk, TalkAt, TellsJudgement, replies_in}
 
 -- what is asked is answered at this list, by one who had met the other before: a question is evaluated, and an edit judged, at the tables
 -- after it; the reply to an edit tells the numbers of both
@@ -16,7 +16,7 @@ abbrev pub IsAnsweredAt : History → Asked → Reply → History → Type 0
 IsAnsweredAt before (nothing refused) reply now = (reply ≡ refused) × (now ≡ before)
 IsAnsweredAt before (question asked) reply now = reply ≡ answer_at (after now) asked
 IsAnsweredAt before (edit made) reply now =
-    IsJudged (after now) (number_of now) (number_of before) made reply ⊎ ((reply ≡ fixed refusal.StoreFault) × (now ≡ before))
+    TellsJudgement (after now) (number_of now) (number_of before) made reply ⊎ ((reply ≡ fixed refusal.StoreFault) × (now ≡ before))
 
 -- a request gets this reply at a list that begins with every list met before and is the beginning of the whole one that its number names,
 -- or memory was wanting
@@ -25,6 +25,13 @@ pub record BeginsWithAllMet (list before : History) (request : Message) (reply :
   pub named : now ≡ up_to list (number_of now)
   pub begins : Begins before now
   pub answered : IsAnsweredAt before (asked_of request) reply now ⊎ (reply ≡ fixed refusal.Memory)
+
+-- a talk has numbers, and a talk by its numbers is a talk
+pub record TalksHaveNumbers : Type 0 where
+  pub numbers : (list : History) (met : ℕ) (requests : List Message) (replies : List Reply) → Talk list met requests replies
+      → (numbered : List Numbered) × (replies_in numbered ≡ replies) × TalkAt list met requests numbered
+  pub talk : (list : History) (met : ℕ) (requests : List Message) (numbered : List Numbered) → TalkAt list met requests numbered
+      → Talk list met requests (replies_in numbered)
 
 -- each answer of a talk is at a list that begins with every list met before it
 abbrev pub AnswersBeginWithAllMet : Type 0

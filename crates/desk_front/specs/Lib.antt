@@ -6,4 +6,5 @@ pub mod Replies
 pub mod Served
 pub mod Service
 pub mod Talk
+pub mod Told
 pub mod Turn

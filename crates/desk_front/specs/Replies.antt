@@ -11,12 +11,11 @@ use Rattle.desk_http.specs.Rest.{Message}
 use Rattle.desk_http.specs.declared.fixed.Fixed.TheVariants as refusal
 use Rattle.desk_http.specs.declared.http_fault.HttpFault.{HttpFault}
 use Rattle.desk_http.specs.declared.http_fault.HttpFault.TheVariants as fault
-use Rattle.desk_model.specs.Lists.{Lists}
+use Rattle.desk_model.specs.Lists.{Lists, number_at}
 use Rattle.desk_model.specs.Refusals.{refusal_words}
 use Rattle.desk_model.specs.declared.rule_fault.RuleFault.{RuleFault}
 use Rattle.desk_scratch.specs.Eval.{eval}
 use Rattle.desk_scratch.specs.Faults.{ask_fault_words}
-use Rattle.desk_scratch.specs.SharedLines.{version_line}
 use Rattle.desk_scratch.specs.declared.ask_fault.AskFault.{AskFault}
 use Rattle.desk_scratch.specs.declared.question.Question.{Question}
 
@@ -49,14 +48,14 @@ bad_edit_body cause = codes "bad-edit " ++ json_fault_words cause ++ codes "\n"
 unfoldable pub bad_declaration_body : DeclareFault → List ℕ
 bad_declaration_body cause = codes "bad-declaration " ++ declare_fault_words cause ++ codes "\n"
 
--- `version N`, and why the question has no answer at these tables
-unfoldable pub no_answer_body : Lists → AskFault → List ℕ
-no_answer_body t cause = version_line t ++ ask_fault_words cause ++ codes "\n"
+-- `version N`, the number of the tables, and why the question has no answer at them
+unfoldable pub no_answer_body : ℕ → AskFault → List ℕ
+no_answer_body number cause = codes "version " ++ decimal number ++ codes "\n" ++ ask_fault_words cause ++ codes "\n"
 
 -- the reply to a question that is evaluated so at these tables
 abbrev pub evaluated : Lists → Result (List ℕ) AskFault → Reply
 evaluated t (Ok text) = with_body 200 text
-evaluated t (Err cause) = with_body 404 (no_answer_body t cause)
+evaluated t (Err cause) = with_body 404 (no_answer_body (number_at t) cause)
 
 -- the reply to a question at these tables: its evaluation from scratch
 abbrev pub answer_at : Lists → Question → Reply

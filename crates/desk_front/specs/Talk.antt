@@ -1,5 +1,5 @@
 -- What a client may be told whose requests are answered from one growing list, whoever else adds to it.
-use Rattle.std.specs.Prelude.{◌≡◌, ℕ, ◌≤◌, ◌⊎◌, List, None, Some, Ok, Err}
+use Rattle.std.specs.Prelude.{◌≡◌, ℕ, ◌≤◌, ◌⊎◌, List, None, Some, Result, Ok, Err, map}
 use Rattle.desk_history.specs.History.{History, after, number_of, up_to}
 use Rattle.desk_history.specs.Refused.{refused}
 use Rattle.desk_history.specs.Step.{kept_number}
@@ -17,12 +17,14 @@ use Rattle.desk_front.specs.Replies.{answer_at, reply_to_edit}
 abbrev pub Follows : History → ℕ → ℕ → Type 0
 Follows list met now = (number_at list.opening ≤ now) × (met ≤ now) × (now ≤ number_of list)
 
--- the tables of this number hold the edit, and the reply tells its own; or they don't hold it, a rule refuses it there, and the reply
--- tells the rule
-abbrev pub IsJudged : Lists → ℕ → ℕ → Edit → Reply → Type 0
-IsJudged t now met made reply =
-    ((number : ℕ) × (kept_number t made ≡ Some number) × (reply ≡ reply_to_edit now met (Ok number)))
-    ⊎ ((cause : RuleFault) × (kept_number t made ≡ None) × (refused t made ≡ Some cause) × (reply ≡ reply_to_edit now met (Err cause)))
+-- how these tables judge an edit: they hold it, by this number; or they don't hold it, and this is the rule that refuses it there
+abbrev pub IsJudged : Lists → Edit → Result ℕ RuleFault → Type 0
+IsJudged t made (Ok number) = kept_number t made ≡ Some number
+IsJudged t made (Err cause) = (kept_number t made ≡ None) × (refused t made ≡ Some cause)
+
+-- the reply tells how these tables judge the edit, with their number and the one that was met before
+abbrev pub TellsJudgement : Lists → ℕ → ℕ → Edit → Reply → Type 0
+TellsJudgement t now met made reply = (judged : Result ℕ RuleFault) × IsJudged t made judged × (reply ≡ reply_to_edit now met judged)
 
 -- what is asked gets this reply from the list, by one who had met the number before and has met the other after: a question is
 -- evaluated, and an edit judged, at the tables of the number that the reply tells
@@ -30,7 +32,7 @@ abbrev pub IsTold : History → Asked → ℕ → Reply → ℕ → Type 0
 IsTold list (nothing refused) met reply now = (reply ≡ refused) × (now ≡ met)
 IsTold list (question asked) met reply now = Follows list met now × (reply ≡ answer_at (after (up_to list now)) asked)
 IsTold list (edit made) met reply now =
-    (Follows list met now × IsJudged (after (up_to list now)) now met made reply) ⊎ ((reply ≡ fixed refusal.StoreFault) × (now ≡ met))
+    (Follows list met now × TellsJudgement (after (up_to list now)) now met made reply) ⊎ ((reply ≡ fixed refusal.StoreFault) × (now ≡ met))
 
 -- where memory was wanting, what was met stays, or becomes another number of the list
 abbrev pub IsToldOfMemory : History → Asked → ℕ → Reply → ℕ → Type 0
@@ -45,3 +47,20 @@ IsAnswered list met request reply now = IsTold list (asked_of request) met reply
 -- requests get these replies from one list, each one reply, in order: every answer begins with all that was met before it
 abbrev pub Talk : History → ℕ → List Message → List Reply → Type 0
 Talk list met requests replies = (last : ℕ) × InOrder (IsAnswered list) met requests replies last
+
+-- a reply, and the number of the longest list that was met with it: of an answer, the number that it prints
+pub record Numbered : Type 0 where
+  pub reply : Reply
+  pub met : ℕ
+
+-- the replies alone
+abbrev pub replies_in : List Numbered → List Reply
+replies_in numbered = map (λ one. one.reply) numbered
+
+-- a request gets this reply from the list, and this is the number met with it
+abbrev pub IsNumbered : History → ℕ → Message → Numbered → ℕ → Type 0
+IsNumbered list before request one now = IsAnswered list before request one.reply now × (one.met ≡ now)
+
+-- a talk by its numbers
+abbrev pub TalkAt : History → ℕ → List Message → List Numbered → Type 0
+TalkAt list met requests numbered = (last : ℕ) × InOrder (IsNumbered list) met requests numbered last

@@ -1,6 +1,6 @@
 -- One connection that has a clerk to itself, turn by turn: each answer is at the whole list of its moment.
-use Rattle.std.specs.Prelude.{◌≡◌, ◌≢◌, ℕ, ◌≤◌, ◌⊎◌, is_ok, true, List, [], ◌∷◌, Option, None, Some, Bool, map}
-use Rattle.std.specs.List.{AllByRecursion, flat_map}
+use Rattle.std.specs.Prelude.{◌≡◌, ◌≢◌, ℕ, ◌≤◌, ◌⊎◌, is_ok, true, List, [], ◌∷◌, Option, None, Some}
+use Rattle.std.specs.List.{AllByRecursion}
 use Rattle.desk_model.specs.Lists.{number_at}
 use Rattle.desk_edge.specs.Faults.{Rose}
 use Rattle.desk_history.specs.History.{History, IsHistory, after}
@@ -12,11 +12,11 @@ use Rattle.desk_model.specs.Forms.{is_edit_in_form}
 use Rattle.desk_model.specs.Lists.{Lists}
 use Rattle.desk_model.specs.declared.edit.Edit.{Edit}
 use Rattle.desk_model.specs.declared.rule_fault.RuleFault.{RuleFault}
-use Rattle.desk_front.specs.Asked.{Asked, asked_of, edit, nothing, question}
-use Rattle.desk_http.specs.Reply.{Reply, bytes_with, fixed}
-use Rattle.desk_front.specs.InOrder.{InOrder}
+use Rattle.desk_front.specs.Asked.{Asked, edit, nothing, question}
+use Rattle.desk_http.specs.Reply.{Reply, fixed}
 use Rattle.desk_front.specs.Replies.{all_bytes, answer_at, reply_to_edit}
 use Rattle.desk_front.specs.Talk.{Talk}
+use Rattle.desk_front.specs.Told.{Conversation, Told, added_by, replies_of}
 
 -- how a connection stands: the tables after the clerk's whole list, the number of the longest list that it has met, and how many
 -- faults the store has counted
@@ -64,43 +64,18 @@ FailsToKeep old asked reply added new =
 abbrev pub Turn : Standing → Asked → Reply → List Edit → Standing → Type 0
 Turn old asked reply added new = AnswersRequest old asked reply added new ⊎ LacksMemory old asked reply added new ⊎ FailsToKeep old asked reply added new
 
--- what is asked is answered by these bytes, in a turn
-abbrev pub Says : Standing → Asked → Bool → List ℕ → Standing → Type 0
-Says old asked close said new = (reply : Reply) × (added : List Edit) × Turn old asked reply added new × (said ≡ bytes_with close reply)
-
--- a request is answered by these bytes, in a turn
-abbrev pub Turns : Standing → Message → List ℕ → Standing → Type 0
-Turns old request said new = Says old (asked_of request) request.close said new
-
--- what a request was told, and the edits that this added to the list
-pub record Told : Type 0 where
-  pub reply : Reply
-  pub added : List Edit
-
--- the replies to requests that were told so, in order
-abbrev pub replies_of : List Told → List Reply
-replies_of told = map (λ one. one.reply) told
-
--- the edits that were added to the list by all of them, in order, and no other
-abbrev pub added_by : List Told → List Edit
-added_by told = flat_map (λ one. one.added) told
-
--- a conversation: a turn for each request, in order
-abbrev pub Conversation : Standing → List Message → List Told → Standing → Type 0
-Conversation old requests told new = InOrder (λ before request one next. Turn before (asked_of request) one.reply one.added next) old requests told new
-
 -- the list at entry, followed by the edits that were added
 abbrev pub list_with : Standing → List Edit → History
 list_with start added = record { opening = start.whole; edits = added }
 
 -- Requests are answered by these bytes, from the first standing on, and leave the tables of the whole list and the store's count so.
 pub record Converses (start : Standing) (left : Lists) (counted : ℕ) (requests : List Message) (said : List ℕ) : Type 0 where
-  pub told : List Told
+  pub told : List (Told Edit)
   pub last_met : ℕ
   -- the bytes are those of the replies
   pub bytes : said ≡ all_bytes requests (replies_of told)
   -- each reply is at the whole list of its moment
-  pub turns : Conversation start requests told (record { whole = left; met = last_met; faults = counted })
+  pub turns : Conversation Turn (λ standing. standing.met) start requests told (record { whole = left; met = last_met; faults = counted })
   -- the whole list at the end is the one at entry followed by the new accepted edits of the requests, in order, and by no other
   pub grown : IsHistory (list_with start (added_by told)) × (after (list_with start (added_by told)) ≡ left)
   -- each reply is from that one list, at a number that is no smaller than those met before

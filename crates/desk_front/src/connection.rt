@@ -4,7 +4,8 @@ ghost use Rattle.desk_declare.specs.Declaration.{declaration_of};
 ghost use Rattle.desk_edits.specs.Edit.{edit_of};
 ghost use Rattle.desk_front.specs.Asked.{a_question, an_edit, of_csv, of_json};
 ghost use Rattle.desk_http.specs.Reply.{allow_of, fixed_reply};
-ghost use Rattle.desk_front.specs.Turn.{Says, Turns};
+ghost use Rattle.desk_front.specs.Told.{Says};
+ghost use Rattle.desk_front.specs.Turn.{Turn};
 ghost use Rattle.desk_http.specs.declared.method.Method.TheVariants as method;
 ghost use Rattle.desk_scratch.specs.Questions.{is_question_in_range};
 
@@ -39,11 +40,12 @@ pub(crate) struct Connection<'a, K: Keeper> {
 impl<K: Keeper> Answerer for Connection<'_, K> {
     ghost use Rattle.std.specs.Prelude.{◌≡◌, ℕ, List};
     ghost use Rattle.desk_clerk.specs.Clerk.{keeper_of, whole};
-    ghost use Rattle.desk_front.specs.Turn.{Turns};
+    ghost use Rattle.desk_front.specs.Told.{Turns};
+    ghost use Rattle.desk_front.specs.Turn.{Turn};
 
     ghost replies = { λ old request said new. (new.clerk.ghost_name ≡ old.clerk.ghost_name)
         × (K.Tells (keeper_of new.clerk.now) → K.Tells (keeper_of old.clerk.now))
-        × Turns (record { whole = whole old.clerk.now; met = old.met; faults = K.faults (keeper_of old.clerk.now) }) request said
+        × Turns Turn (record { whole = whole old.clerk.now; met = old.met; faults = K.faults (keeper_of old.clerk.now) }) request said
         (record { whole = whole new.clerk.now; met = new.met; faults = K.faults (keeper_of new.clerk.now) }) };
 
     fn reply<R: Wait + Sync>(
@@ -80,10 +82,10 @@ fn answer<K: Keeper>(
 ) -> Result<(), Fixed>
     requires { is_question_in_range question.now ≡ true }
     ensures ok { OnOk result ((said : List ℕ) × (out.new ≡ out.old ++ said)
-        × Says (record { whole = whole clerk.now; met = met.old; faults = K.faults (keeper_of clerk.now) }) (a_question question.now) close said
+        × Says Turn (record { whole = whole clerk.now; met = met.old; faults = K.faults (keeper_of clerk.now) }) (a_question question.now) close said
         (record { whole = whole clerk.now; met = met.new; faults = K.faults (keeper_of clerk.now) })) }
     ensures fixed { IfErr result (λ fixed.
-        Says (record { whole = whole clerk.now; met = met.old; faults = K.faults (keeper_of clerk.now) }) (a_question question.now) close (fixed_reply fixed close)
+        Says Turn (record { whole = whole clerk.now; met = met.old; faults = K.faults (keeper_of clerk.now) }) (a_question question.now) close (fixed_reply fixed close)
         (record { whole = whole clerk.now; met = met.new; faults = K.faults (keeper_of clerk.now) })) }
     ensures allow { IfErr result (λ fixed. allow_of fixed ≢ Some method.Other) }
     ensures err { OnErr result (out.new ≡ out.old) }
@@ -108,10 +110,10 @@ fn enter_json<R: Wait + Sync, K: Keeper>(
     out: &mut Bytes,
 ) -> Result<(), Fixed>
     ensures ok { OnOk result ((said : List ℕ) × (out.new ≡ out.old ++ said)
-        × Says (record { whole = whole clerk.old; met = met.old; faults = K.faults (keeper_of clerk.old) }) (of_json (edit_of body.now)) close said
+        × Says Turn (record { whole = whole clerk.old; met = met.old; faults = K.faults (keeper_of clerk.old) }) (of_json (edit_of body.now)) close said
         (record { whole = whole clerk.new; met = met.new; faults = K.faults (keeper_of clerk.new) })) }
     ensures fixed { IfErr result (λ fixed.
-        Says (record { whole = whole clerk.old; met = met.old; faults = K.faults (keeper_of clerk.old) }) (of_json (edit_of body.now)) close (fixed_reply fixed close)
+        Says Turn (record { whole = whole clerk.old; met = met.old; faults = K.faults (keeper_of clerk.old) }) (of_json (edit_of body.now)) close (fixed_reply fixed close)
         (record { whole = whole clerk.new; met = met.new; faults = K.faults (keeper_of clerk.new) })) }
     ensures allow { IfErr result (λ fixed. allow_of fixed ≢ Some method.Other) }
     ensures err { OnErr result (out.new ≡ out.old) }
@@ -134,10 +136,10 @@ fn enter_csv<R: Wait + Sync, K: Keeper>(
     out: &mut Bytes,
 ) -> Result<(), Fixed>
     ensures ok { OnOk result ((said : List ℕ) × (out.new ≡ out.old ++ said)
-        × Says (record { whole = whole clerk.old; met = met.old; faults = K.faults (keeper_of clerk.old) }) (of_csv (declaration_of body.now)) close said
+        × Says Turn (record { whole = whole clerk.old; met = met.old; faults = K.faults (keeper_of clerk.old) }) (of_csv (declaration_of body.now)) close said
         (record { whole = whole clerk.new; met = met.new; faults = K.faults (keeper_of clerk.new) })) }
     ensures fixed { IfErr result (λ fixed.
-        Says (record { whole = whole clerk.old; met = met.old; faults = K.faults (keeper_of clerk.old) }) (of_csv (declaration_of body.now)) close (fixed_reply fixed close)
+        Says Turn (record { whole = whole clerk.old; met = met.old; faults = K.faults (keeper_of clerk.old) }) (of_csv (declaration_of body.now)) close (fixed_reply fixed close)
         (record { whole = whole clerk.new; met = met.new; faults = K.faults (keeper_of clerk.new) })) }
     ensures allow { IfErr result (λ fixed. allow_of fixed ≢ Some method.Other) }
     ensures err { OnErr result (out.new ≡ out.old) }
@@ -160,10 +162,10 @@ fn enter<R: Wait + Sync, K: Keeper>(
     out: &mut Bytes,
 ) -> Result<(), Fixed>
     ensures ok { OnOk result ((said : List ℕ) × (out.new ≡ out.old ++ said)
-        × Says (record { whole = whole clerk.old; met = met.old; faults = K.faults (keeper_of clerk.old) }) (an_edit edit) close said
+        × Says Turn (record { whole = whole clerk.old; met = met.old; faults = K.faults (keeper_of clerk.old) }) (an_edit edit) close said
         (record { whole = whole clerk.new; met = met.new; faults = K.faults (keeper_of clerk.new) })) }
     ensures fixed { IfErr result (λ fixed.
-        Says (record { whole = whole clerk.old; met = met.old; faults = K.faults (keeper_of clerk.old) }) (an_edit edit) close (fixed_reply fixed close)
+        Says Turn (record { whole = whole clerk.old; met = met.old; faults = K.faults (keeper_of clerk.old) }) (an_edit edit) close (fixed_reply fixed close)
         (record { whole = whole clerk.new; met = met.new; faults = K.faults (keeper_of clerk.new) })) }
     ensures allow { IfErr result (λ fixed. allow_of fixed ≢ Some method.Other) }
     ensures err { OnErr result (out.new ≡ out.old) }

@@ -23,7 +23,12 @@ use http::StatusCode;
 use std::alloc::Global;
 
 /// Appends a reply with a body. Where there is no memory for it, that is the reply.
-fn tell(status: StatusCode, body: &[u8], close: bool, out: &mut Bytes) -> Result<(), Fixed>
+pub(crate) fn tell(
+    status: StatusCode,
+    body: &[u8],
+    close: bool,
+    out: &mut Bytes,
+) -> Result<(), Fixed>
     requires status { IsTrue (is_reply_status status) }
     requires allows_none { status ≢ 405 }
     ensures ok { OnOk result (out.new ≡ out.old ++ bytes_with close (with_body status body.now)) }
@@ -55,24 +60,23 @@ pub(crate) fn tell_answer(
     match answer_plain(alloc, tables, question, body) {
         Ok(()) => tell(StatusCode::OK, body.as_slice(), close, out),
         Err(AskFault::OutOfMemory) => Err(Fixed::Memory),
-        Err(fault) => tell_no_answer(alloc, tables, &fault, close, out),
+        Err(fault) => tell_no_answer(alloc, tables.number(), &fault, close, out),
     }
 }
 
-/// Appends why a question has no answer.
-#[tactic(auto, unfolding(crate::specs::Replies::no_answer_body, desk_scratch::specs::SharedLines::version_line))]
-fn tell_no_answer(
+/// Appends why a question has no answer at tables of this number.
+#[tactic(auto, unfolding(crate::specs::Replies::no_answer_body))]
+pub(crate) fn tell_no_answer(
     alloc: Global,
-    tables: &Tables,
+    number: u64,
     fault: &AskFault,
     close: bool,
     out: &mut Bytes,
 ) -> Result<(), Fixed>
-    ensures ok { OnOk result (out.new ≡ out.old ++ bytes_with close (with_body 404 (no_answer_body tables.now.lists fault.now))) }
+    ensures ok { OnOk result (out.new ≡ out.old ++ bytes_with close (with_body 404 (no_answer_body number fault.now))) }
     ensures memory { IfErr result (λ told. told ≡ refusal.Memory) }
     ensures err { OnErr result (out.new ≡ out.old) }
 {
-    let number = tables.number();
     let Ok(body) = format!(in alloc; "version {number}\n{fault}\n") else {
         return Err(Fixed::Memory);
     };

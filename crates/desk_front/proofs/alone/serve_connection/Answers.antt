@@ -3,10 +3,11 @@ use Rattle.std.proofs.Common.{◌≤◌, arith}
 use Rattle.desk_clerk.specs.Clerk.{keeper_of, whole}
 use Rattle.desk_model.specs.Lists.{number_at}
 use Rattle.desk_front.specs.Service.{Replies}
-use Rattle.desk_front.specs.Turn.{Converses, Standing}
+use Rattle.desk_front.specs.Turn.{Converses, Standing, Turn}
 use Rattle.desk_front.specs.contracts.connection.ConnectionAnswerer.TheImpl.{ghosts}
 use Rattle.desk_front.proofs.Closing.{replied, serves_weaker}
-use Rattle.desk_front.proofs.Talking.{conversation_faults, conversation_of, converses, kept_throughout, told_throughout}
+use Rattle.desk_front.proofs.Saying.{conversation_of, kept_throughout, told_throughout}
+use Rattle.desk_front.proofs.Talking.{conversation_faults, converses}
 use Rattle.desk_front.proofs.alone.serve_connection.Goals as goal
 
 pub returns-clause-same_clerk : goal.returns-clause-same_clerk
@@ -33,7 +34,7 @@ returns-clause-keeper_never_falls g c =
     let x = replied R c.args.connection.now c.serve.new.answerer c.serve.result (g.L.Link.unread c.args.link.now) (g.L.Link.unread c.serve.new.link)
     (g.L.Link.written c.args.link.now) (g.L.Link.written c.serve.new.link) c.serve.ensures.served (λ e. (c.serve.ensures.nothing e).0)
     in
-    let y = conversation_of R (λ a. record { whole = whole a.clerk.now; met = a.met; faults = g.K.Keeper.faults (keeper_of a.clerk.now) }) (λ a b m said turn. turn.2)
+    let y = conversation_of R (λ a. record { whole = whole a.clerk.now; met = a.met; faults = g.K.Keeper.faults (keeper_of a.clerk.now) }) Turn (λ standing. standing.met) (λ a b m said turn. turn.2)
     c.args.connection.now c.serve.new.answerer x.0 x.1 x.2
     in
     conversation_faults old new x.0 y.0 y.1
@@ -52,7 +53,7 @@ returns-clause-served g c other =
       serves_weaker (λ requests said. Replies R c.args.connection.now requests said c.serve.new.answerer) (Converses old left counted) c.serve.result x.0
           (g.L.Link.unread c.serve.new.link) (g.L.Link.written c.args.link.now) (g.L.Link.written c.serve.new.link)
           (λ ms said replies.
-          let y = conversation_of R (λ a. record { whole = whole a.clerk.now; met = a.met; faults = g.K.Keeper.faults (keeper_of a.clerk.now) }) (λ a b m said turn. turn.2)
+          let y = conversation_of R (λ a. record { whole = whole a.clerk.now; met = a.met; faults = g.K.Keeper.faults (keeper_of a.clerk.now) }) Turn (λ standing. standing.met) (λ a b m said turn. turn.2)
           c.args.connection.now c.serve.new.answerer ms said replies
           in
           converses old left c.serve.new.answerer.met counted ms y.0 said c.requires.sound met y.1 y.2)

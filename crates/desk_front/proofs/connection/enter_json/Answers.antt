@@ -8,8 +8,9 @@ use Rattle.desk_model.specs.declared.edit.Edit.{Edit}
 use Rattle.desk_front.specs.Asked.{of_json}
 use Rattle.desk_http.specs.Reply.{with_body}
 use Rattle.desk_front.specs.Replies.{bad_edit_body}
-use Rattle.desk_front.specs.Turn.{Standing}
-use Rattle.desk_front.proofs.Turning.{says_memory_of, says_told}
+use Rattle.desk_front.specs.Turn.{Standing, Turn}
+use Rattle.desk_front.proofs.Saying.{says_memory_of, says_told}
+use Rattle.desk_front.proofs.Turning.{lacks, refuses}
 use Rattle.desk_front.proofs.connection.enter_json.Goals as goal
 
 unlike : (x : JsonFault) → x ≢ fault.OutOfMemory → ◌≢◌ {A = Result Edit JsonFault} (Err x) (Err fault.OutOfMemory)
@@ -21,10 +22,10 @@ unlike x other e = other (inside x fault.OutOfMemory e)
 pub returns-in-Err-clause-ok : goal.returns-in-Err-clause-ok
 returns-in-Err-clause-ok g c =
     let old : Standing = record { whole = whole c.args.clerk.now; met = c.args.met.now; faults = g.K.Keeper.faults (keeper_of c.args.clerk.now) } in
-    says_told (c.in-Err.fault ≢ fault.OutOfMemory) old (of_json (edit_of c.args.body.now)) c.args.close (with_body 400 (bad_edit_body c.in-Err.fault)) c.args.out.now
+    says_told Turn refuses lacks (c.in-Err.fault ≢ fault.OutOfMemory) old (of_json (edit_of c.args.body.now)) c.args.close (with_body 400 (bad_edit_body c.in-Err.fault)) c.args.out.now
     c.tell_bad_edit.new.out c.tell_bad_edit.result (λ other. ap of_json (sym (c.in-Err.ensures.edit (unlike c.in-Err.fault other)))) c.tell_bad_edit.ensures.ok
 
 pub returns-in-Err-clause-fixed : goal.returns-in-Err-clause-fixed
 returns-in-Err-clause-fixed g c =
     let old : Standing = record { whole = whole c.args.clerk.now; met = c.args.met.now; faults = g.K.Keeper.faults (keeper_of c.args.clerk.now) } in
-    says_memory_of old (of_json (edit_of c.args.body.now)) c.args.close c.tell_bad_edit.result c.tell_bad_edit.ensures.memory
+    says_memory_of Turn refuses lacks old (of_json (edit_of c.args.body.now)) c.args.close c.tell_bad_edit.result c.tell_bad_edit.ensures.memory

@@ -9,8 +9,10 @@ use Rattle.desk_http.specs.declared.http_fault.HttpFault.TheVariants as cause
 use Rattle.desk_http.specs.declared.method.Method.{Method}
 use Rattle.desk_front.specs.Asked.{asked_of, of_route}
 use Rattle.desk_front.specs.Replies.{no_ask}
-use Rattle.desk_front.specs.Turn.{Says, Standing}
-use Rattle.desk_front.proofs.Turning.{allows_known, if_err_weaker, says_refusal}
+use Rattle.desk_front.specs.Told.{Says}
+use Rattle.desk_front.specs.Turn.{Standing, Turn}
+use Rattle.desk_front.proofs.Saying.{if_err_weaker, says_refusal}
+use Rattle.desk_front.proofs.Turning.{allows_known, lacks, refuses}
 use Rattle.desk_front.proofs.connection.ConnectionAnswerer.reply.Goals as goal
 
 unlike : (x : HttpFault) → x ≢ cause.OutOfMemory → ◌≢◌ {A = Result Ask HttpFault} (Err x) (Err cause.OutOfMemory)
@@ -31,6 +33,6 @@ pub returns-in-Err-clause-fixed : goal.returns-in-Err-clause-fixed
 returns-in-Err-clause-fixed g c =
     let s : Standing = record { whole = whole c.args.self.now.clerk.now; met = c.args.self.now.met; faults = g.K.Keeper.faults (keeper_of c.args.self.now.clerk.now) } in
     let asked = asked_of (message_of c.args.buffer.now c.args.request.now) in
-    if_err_weaker (λ told. Says s asked c.args.request.now.close (fixed_reply told c.args.request.now.close) s) _ c.tell_no_ask.result (λ told h. (refl, (λ tells. tells), h))
-    (says_refusal (c.in-Err.fault ≢ cause.OutOfMemory) s asked c.args.request.now.close (no_ask c.in-Err.fault) c.tell_no_ask.result
+    if_err_weaker (λ told. Says Turn s asked c.args.request.now.close (fixed_reply told c.args.request.now.close) s) _ c.tell_no_ask.result (λ told h. (refl, (λ tells. tells), h))
+    (says_refusal Turn refuses lacks (c.in-Err.fault ≢ cause.OutOfMemory) s asked c.args.request.now.close (no_ask c.in-Err.fault) c.tell_no_ask.result
     (λ other. ap (of_route (span_bytes c.args.buffer.now c.args.request.now.body)) (sym (c.in-Err.ensures.value (unlike c.in-Err.fault other)))) c.tell_no_ask.ensures.fixed)
