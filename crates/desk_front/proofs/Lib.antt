@@ -2,8 +2,10 @@ pub mod Buffers
 pub mod InOrder
 pub mod Meeting
 pub mod Saying
+pub mod Seating
 pub mod Sending
 pub mod Serving
+pub mod Sessions
 pub mod Streaming
 pub mod Talking
 pub mod Turning

@@ -5,6 +5,7 @@ pub mod Laws
 pub mod Replies
 pub mod Served
 pub mod Service
+pub mod Sitting
 pub mod Talk
 pub mod Told
 pub mod Turn
