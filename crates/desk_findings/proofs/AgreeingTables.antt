@@ -1,5 +1,5 @@
 -- Two tables that agree on what some codes have and lead to: there these codes weigh, reach, carry and find the same.
-use Rattle.std.proofs.Common.{◌≡◌, ℕ, ◌*◌, Bool, true, false, cond, ◌&&◌, ◌||◌, List, [], ◌∷◌, ◌++◌, filter, find, map, sum_by, Option, Some, refl, sym, ap, ◌∙◌, subst, ◌⊎◌, ⊎_elim, arith}
+use Rattle.std.proofs.Common.{◌≡◌, ℕ, ◌*◌, Bool, true, false, cond, ◌&&◌, ◌||◌, List, [], ◌∷◌, ◌++◌, filter, find, map, sum_by, Option, Some, None, refl, sym, ap, ◌∙◌, subst, ◌⊎◌, ⊎_elim, arith}
 use Rattle.std.specs.Prelude.{if◌then◌else◌, nat_lt, option_map}
 use Rattle.std.specs.List.{AllByRecursion, flat_map, list_any}
 use Rattle.std.specs.Option.{option_map_or}
@@ -15,15 +15,15 @@ use Rattle.desk_findings.specs.Above.{content, held_mass, is_above, is_candidate
 use Rattle.desk_findings.specs.Articles.{articles_in, is_article, is_article_sort, materials_in}
 use Rattle.desk_findings.specs.Carried.{carried, own_load}
 use Rattle.desk_findings.specs.Chain.{chain, next_to}
-use Rattle.desk_findings.specs.Findings.{Finding, above, findings, findings_of_article, findings_on, over}
-use Rattle.desk_model.specs.Lists.{Lists, material_row}
+use Rattle.desk_findings.specs.Findings.{Finding, above, findings, findings_of_article, findings_on, over, own_findings}
+use Rattle.desk_model.specs.Lists.{Lists, material_row, part_row}
 use Rattle.desk_findings.specs.Mass.{mass, own_mass}
 use Rattle.desk_findings.specs.Reaches.{is_or_reaches, lines_of, reaches}
 use Rattle.desk_findings.specs.Share.{share}
 use Rattle.desk_findings.specs.Bill.{IsBill}
 use Rattle.desk_findings.proofs.Bill.{bill_induction, chain-step, has_parents, reaches-step}
 use Rattle.desk_model.proofs.Elements.{any_same, each, each_both, each_filter, each_map, each_of_map, sum_same}
-use Rattle.desk_model.proofs.Kept.{same_code-true}
+use Rattle.desk_model.proofs.Kept.{found_each, same_code-true}
 use Rattle.desk_findings.proofs.Loads.{carried-step, mass-step}
 
 -- the second tables agree with the first on what free codes have and lead to
@@ -100,7 +100,7 @@ module _ (t u : Lists) (s : IsBill t) (r : IsBill u) (Free : List ℕ → Type 0
       (λ none. nothing_above u code substance none ∙ sym (nothing_above t code substance (sym (same_content code substance free) ∙ none)))
       (agrees.candidates code substance free)
 
-  same_load : (substance code : List ℕ) → Free code → own_load u substance code ≡ own_load t substance code
+  pub same_load : (substance code : List ℕ) → Free code → own_load u substance code ≡ own_load t substance code
   same_load substance code free =
       ap (λ b. if b && is_above u code substance then content u code substance else 0) (agrees.articles code free)
       ∙ ap (λ b. if is_article t code && b then content u code substance else 0) (same_above code substance free)
@@ -235,3 +235,33 @@ module _ (t u : Lists) (s : IsBill t) (r : IsBill u) (Free : List ℕ → Type 0
   same_findings code free =
       ap (λ front. front ++ flat_map (findings_of_article u) (articles_in u code)) (same_materials code free)
       ∙ ap (λ back. flat_map (findings_on t) (materials_in t code) ++ back) (same_articles code free)
+
+  pub same_own_mass : (code : List ℕ) → Free code → own_mass u code ≡ own_mass t code
+  same_own_mass code free = ap (λ o. option_map_or (λ material. material.mass) o 0) (agrees.materials code free)
+
+  -- what a free code has of its own is the same, in the same order
+  own_on_article : (v : Lists) (code : List ℕ) (o : Option PartRow) → part_row v code ≡ o → option_map_or (λ part. if is_article_sort part.sort then findings_of_article v part else []) o [] ≡ (if option_map_or (λ part. is_article_sort part.sort) o false then on_article v code else [])
+  unfolding on_article
+  own_on_article v code None e = refl
+  own_on_article v code (Some part) e =
+      let is = (found_each (λ row. row.code) (λ row. Unit {0}) code v.parts part (each (λ row. Unit {0}) (λ row. tt) v.parts) e).1 in
+      ap (λ list. if is_article_sort part.sort then list else [])
+      (map_map (λ candidate. candidate.substance) (above part.code) (filter (λ candidate. is_above v part.code candidate.substance) v.candidates)
+      ∙ ap (λ c. map (above c) (map (λ candidate. candidate.substance) (filter (λ candidate. is_above v c candidate.substance) v.candidates))) is)
+
+  own_on_material : (code : List ℕ) → Free code → (o : Option MaterialRow) → material_row t code ≡ o → option_map_or (findings_on u) o [] ≡ option_map_or (findings_on t) o []
+  own_on_material code free None e = refl
+  own_on_material code free (Some material) e =
+      let is = found_each (λ row. row.code) (λ row. Free row.code → (rule : Rule) → share u rule row ≡ share t rule row) code t.materials material agrees.shares e in
+      same_rules material (is.0 (subst Free (sym is.1) free))
+
+  pub same_own_findings : (code : List ℕ) → Free code → own_findings u code ≡ own_findings t code
+  unfolding own_findings
+  same_own_findings code free =
+      ap (λ front. front ++ option_map_or (λ part. if is_article_sort part.sort then findings_of_article u part else []) (part_row u code) [])
+      (ap (λ o. option_map_or (findings_on u) o []) (agrees.materials code free) ∙ own_on_material code free (material_row t code) refl)
+      ∙ ap (λ back. option_map_or (findings_on t) (material_row t code) [] ++ back)
+      (own_on_article u code (part_row u code) refl
+      ∙ ap (λ b. if b then on_article u code else []) (agrees.articles code free)
+      ∙ ap (λ list. if is_article t code then list else []) (same_on_article code free)
+      ∙ sym (own_on_article t code (part_row t code) refl))

@@ -10,3 +10,7 @@ pub mod Groups
 pub mod Lighter
 pub mod Loads
 pub mod AgreeingTables
+pub mod Holders
+pub mod OwnValues
+pub mod Counted
+pub mod Numbering

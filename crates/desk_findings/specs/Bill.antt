@@ -39,3 +39,9 @@ is_acyclic t = list_all (λ part. not (reaches t part.code part.code)) t.parts
 pub record IsBill (t : Lists) : Type 0 where
   pub parents : are_parents_kept t ≡ true
   pub acyclic : is_acyclic t ≡ true
+
+-- a bill whose lines lead to the right children, and where no part reaches itself
+pub record IsRight (t : Lists) : Type 0 where
+  pub children : are_children_right t ≡ true
+  pub apart : are_codes_apart t ≡ true
+  pub acyclic : is_acyclic t ≡ true

@@ -6,8 +6,11 @@ pub mod Chain
 pub mod Duties
 pub mod Examples
 pub mod Findings
+pub mod Holders
 pub mod Laws
 pub mod Mass
+pub mod Numbering
+pub mod OwnValues
 pub mod Reaches
 pub mod Rolled
 pub mod Share

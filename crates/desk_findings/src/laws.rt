@@ -1,6 +1,9 @@
 //! Laws of the definitions in `specs/`, each proved as the contract of a function that does nothing.
 
+ghost use Rattle.desk_findings.specs.Holders.{FindingsAreHeld};
 ghost use Rattle.desk_findings.specs.Laws.{CarriedByLines, CarriedWithinMass, ChainByNext, ChainLeads, DepthIsEnough, FindingsAreStored, FindingsByHolder, FindingsByLines, FirstsAreLeast, MassByLines, ReachesByLines, RowsStandTogether, StoredMarkIsRight, StoredRollUpIsRight};
+ghost use Rattle.desk_findings.specs.Numbering.{FindingsAreNumbered};
+ghost use Rattle.desk_findings.specs.OwnValues.{OwnBySort};
 
 /// On sound tables the recursions over the bill of materials come to the same at any greater depth.
 pub fn depth_is_enough()
@@ -72,4 +75,20 @@ pub fn findings_by_holder()
 /// The lines of a part, the shipments of a year and the members of a substance each stand together in their table.
 pub fn rows_stand_together()
     ensures { RowsStandTogether }
+{}
+
+/// A finding is at a code exactly where the code is its holder or reaches it, and the holder has it as its own; the first child that
+/// has it leads the way of the chain.
+pub fn findings_are_held()
+    ensures { FindingsAreHeld }
+{}
+
+/// What a code has of its own, by its sort: of an article it is made of its lines, the materials under them and the candidates.
+pub fn own_by_sort()
+    ensures { OwnBySort }
+{}
+
+/// Numbers that are stored by lines are those of the findings, and all findings are as many as are stored at codes that have lines.
+pub fn findings_are_numbered()
+    ensures { FindingsAreNumbered }
 {}

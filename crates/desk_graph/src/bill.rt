@@ -119,6 +119,21 @@ impl Bill {
         Ok(id as NodeId)
     }
 
+    /// Adds a node without lines, and gives its number. The label is known to be free, and there is room: no other label is looked at. It
+    /// takes no memory.
+    pub fn add_new_node(&mut self, alloc: Global, label: &[u8]) -> NodeId
+        requires some { 1 ≤ length label.now }
+        requires fits { length label.now ≤ 40 }
+        requires free { is_taken self.old.labels label.now ≡ false }
+        requires room { length self.old.labels < 24576 }
+        ensures answer { result ≡ length self.old.labels }
+        ensures bill { self.new ≡ with_node label.now self.old }
+    {
+        let id = self.labels.len();
+        self.push_node(alloc, Label::new(label));
+        id as NodeId
+    }
+
     /// Adds a node without lines. It takes no memory.
     pub(crate) fn push_node(&mut self, alloc: Global, label: Label)
         requires free { is_taken self.old.labels label ≡ false }

@@ -1,4 +1,4 @@
-ghost use Rattle.std.specs.Prelude.{◌≡◌, ◌≢◌, ◌+◌, ◌<◌, ◌≤◌, ℕ, true, [], None, length, slice_set, Ok, Err, IfOk, IfErr, OnOk, OnErr};
+ghost use Rattle.std.specs.Prelude.{◌≡◌, ◌≢◌, ◌+◌, ◌<◌, ◌≤◌, ℕ, true, false, [], None, length, slice_set, Ok, Err, IfOk, IfErr, OnOk, OnErr};
 ghost use Rattle.desk_graph.specs.Bill.{IsBill};
 ghost use Rattle.desk_graph.specs.Edits.{is_taken, line_answer, with_line_in, with_node, without_line_in};
 ghost use Rattle.desk_graph.specs.Graph.{IsByLabel, label_of, lines_of};
@@ -111,6 +111,26 @@ impl Bill {
                 fault: NodeFault::Full,
             });
         }
+        match self.plan_new_node(plan, label) {
+            Ok(node) => Ok(node),
+            Err(OutOfMemory) => Err(PlanFault::OutOfMemory),
+        }
+    }
+
+    /// Makes ready to add a node without lines, behind what is planned already, and gives its number. The label is known to be free, and
+    /// there is room: no other label is looked at.
+    pub fn plan_new_node(&self, plan: &mut BillPlan, label: &[u8]) -> Result<NodeId, OutOfMemory>
+        requires plan { IsBillPlan self.now plan.old }
+        requires some { 1 ≤ length label.now }
+        requires fits { length label.now ≤ 40 }
+        requires free { is_taken (planned plan.old self.now).labels label.now ≡ false }
+        requires room { length (planned plan.old self.now).labels < 24576 }
+        ensures answer { IfOk result (λ id. id ≡ length (planned plan.old self.now).labels) }
+        ensures bill { OnOk result (planned plan.new self.now ≡ with_node label.now (planned plan.old self.now)) }
+        ensures plan { OnOk result (IsBillPlan self.now plan.new) }
+        ensures err { OnErr result (plan.new ≡ plan.old) }
+    {
+        let id = self.labels.len() + plan.labels.len();
         plan.labels.push(Label::new(label))?;
         Ok(id as NodeId)
     }

@@ -20,3 +20,4 @@ pub mod Unaffected
 pub mod Unsound
 pub mod Untouched
 pub mod Years
+pub mod AffectedAbove

@@ -1,28 +1,34 @@
 -- Codes that an accepted edit doesn't affect stay as they were.
-use Rattle.std.proofs.Common.{◌≡◌, ℕ, zero, suc, ◌+◌, ◌-◌, false, List, [], Some, is_some, refl, sym, ap, ◌∙◌, subst}
+use Rattle.std.proofs.Common.{◌≡◌, ℕ, zero, suc, ◌+◌, ◌-◌, Bool, true, false, ◌||◌, List, [], ◌∷◌, Some, is_some, inl, inr, refl, sym, ap, ◌∙◌, subst}
 use Rattle.std.specs.Prelude.{if◌then◌else◌}
 use Rattle.std.specs.List.{list_any}
+use Rattle.std.proofs.lemmas.Bool.{both_ways, cases_Bool, or_parts}
+use Rattle.desk_text.specs.Code.{code_cmp, same_code}
+use Rattle.desk_rows.specs.Rows.{row_of}
+use Rattle.desk_rows.proofs.Lookups.{row_of-with_row, row_of-with_row_other}
+use Rattle.desk_model.specs.declared.part_sort.PartSort.{PartSort}
+use Rattle.desk_history.proofs.Untouched.{parts_of_member, parts_of_ship, parts_of_unship}
 use Rattle.desk_model.specs.declared.edit.Edit.{Edit}
 use Rattle.desk_model.specs.declared.edit.Edit.TheVariants.{Substance, Member, Declare, Part, Line, Unline, Product, Exemption, Unexempt, Candidate, Ship, Unship}
 use Rattle.desk_findings.specs.Above.{is_candidate}
 use Rattle.desk_history.specs.Affected.{is_affected, seeds_of_new}
-use Rattle.desk_findings.specs.Carried.{carried}
+use Rattle.desk_findings.specs.Carried.{carried, own_load}
 use Rattle.desk_findings.specs.Chain.{chain}
 use Rattle.desk_model.specs.Effect.{entered, made, units_of, with_units}
-use Rattle.desk_findings.specs.Findings.{findings}
+use Rattle.desk_findings.specs.Findings.{findings, own_findings}
 use Rattle.desk_history.specs.History.{PassesRows}
 use Rattle.desk_law.specs.declared.rule.Rule.{Rule}
 use Rattle.desk_model.specs.declared.rows.material.MaterialRow.{MaterialRow}
-use Rattle.desk_model.specs.Lists.{Lists, is_part, material_row}
-use Rattle.desk_findings.specs.Mass.{mass}
+use Rattle.desk_model.specs.Lists.{Lists, is_kept, is_material, is_part, material_row}
+use Rattle.desk_findings.specs.Mass.{mass, own_mass}
 use Rattle.desk_findings.specs.Reaches.{is_or_reaches, lines_of, reaches}
 use Rattle.desk_findings.specs.Share.{share}
 use Rattle.desk_history.specs.Laws.{Stays}
 use Rattle.desk_history.specs.Sound.{IsConsistent}
 use Rattle.desk_history.proofs.Affects.{IsFree, agrees-candidate, agrees-declare, agrees-line, agrees-member, agrees-part, agrees-unline, agrees_plain}
 use Rattle.desk_history.proofs.SoundClauses.{bill_of, good_of}
-use Rattle.desk_model.proofs.Kept.{found_each}
-use Rattle.desk_findings.proofs.AgreeingTables.{Agrees, same_carried, same_chain, same_findings, same_mass, same_reached}
+use Rattle.desk_model.proofs.Kept.{code_cmp_total, found_each, same_code-from, same_code-true}
+use Rattle.desk_findings.proofs.AgreeingTables.{Agrees, same_carried, same_chain, same_findings, same_load, same_mass, same_own_findings, same_own_mass, same_reached}
 use Rattle.desk_history.proofs.MadeBill.{kind_kept}
 use Rattle.desk_history.proofs.Rules.{unrefused}
 use Rattle.desk_history.proofs.SoundSteps.{IsConsistent-entered}
@@ -85,6 +91,45 @@ unfolding is_affected
 free_of t edit a code e =
     sym (ap (λ o. list_any (λ seed. is_or_reaches (entered t edit) code seed) (if is_some o then [] else seeds_of_new t edit)) a.is_new) ∙ e
 
+-- another part is kept as it was: a new one is a seed
+part_other : (t : Lists) (ticket code name : List ℕ) (sort : PartSort) (other : List ℕ) → same_code code other ≡ false → is_part (entered t (Part ticket code sort name)) other ≡ is_part t other
+unfolding entered made
+part_other t ticket code name sort other e = ap is_some (row_of-with_row_other (λ row. row.code) code_cmp code_cmp_total (record { code = code; sort = sort; name = name }) other t.parts e)
+
+part_itself : (t : Lists) (ticket code name : List ℕ) (sort : PartSort) → is_part (entered t (Part ticket code sort name)) code ≡ true
+unfolding entered made
+part_itself t ticket code name sort = ap is_some (row_of-with_row (λ row. row.code) code_cmp code_cmp_total (record { code = code; sort = sort; name = name }) t.parts)
+
+part_free : (t : Lists) (ticket code name : List ℕ) (sort : PartSort) (other : List ℕ) (kept : Bool) → is_part t code ≡ kept → IsFree (entered t (Part ticket code sort name)) (if kept then [] else code ∷ []) other → is_part (entered t (Part ticket code sort name)) other ≡ is_part t other
+part_free t ticket code name sort other kept e free =
+    elim (cases_Bool (same_code code other)) [
+      | inl same ↦
+          let is = same_code-true code other same in
+          subst (λ c. is_part (entered t (Part ticket code sort name)) c ≡ is_part t c) is (part_itself t ticket code name sort ∙ sym (was kept e free is))
+      | inr differs ↦ part_other t ticket code name sort other differs
+    ]
+  where
+    was : (kept : Bool) → is_part t code ≡ kept → IsFree (entered t (Part ticket code sort name)) (if kept then [] else code ∷ []) other → code ≡ other → is_part t code ≡ true
+    was true e free is = e
+    was false e free is =
+        absurd (both_ways (same_code other code) (or_parts (same_code other code) (reaches (entered t (Part ticket code sort name)) other code) (or_parts (is_or_reaches (entered t (Part ticket code sort name)) other code) false free).0).0 (same_code-from other code (sym is)))
+
+-- the parts that are free of the seeds
+parts_free : (t : Lists) (edit : Edit) (code : List ℕ) → IsFree (entered t edit) (seeds_of_new t edit) code → is_part (entered t edit) code ≡ is_part t code
+unfolding seeds_of_new entered made
+parts_free t (Substance ticket substance name cas) code free = refl
+parts_free t (Member ticket substance rule factor) code free = ap (λ rows. is_some (row_of (λ row. row.code) code_cmp code rows)) (parts_of_member t ticket substance rule factor)
+parts_free t (Declare declaration) code free = refl
+parts_free t (Part ticket part sort name) code free = part_free t ticket part name sort code (is_part t part) refl free
+parts_free t (Line ticket parent child count) code free = refl
+parts_free t (Unline ticket parent child) code free = refl
+parts_free t (Product ticket part kind) code free = refl
+parts_free t (Exemption ticket exemption) code free = refl
+parts_free t (Unexempt ticket row) code free = refl
+parts_free t (Candidate ticket substance day) code free = refl
+parts_free t (Ship ticket product year units) code free = ap (λ rows. is_some (row_of (λ row. row.code) code_cmp code rows)) (parts_of_ship t ticket product year units)
+parts_free t (Unship ticket product year units) code free = ap (λ rows. is_some (row_of (λ row. row.code) code_cmp code rows)) (parts_of_unship t ticket product year units)
+
 module _ (t : Lists) (s : IsConsistent t) (edit : Edit) (a : PassesRows t edit) (code : List ℕ) (unaffected : is_affected t edit code ≡ false) where
   consistent_after : IsConsistent (entered t edit)
   consistent_after = IsConsistent-entered t edit s a
@@ -107,11 +152,25 @@ module _ (t : Lists) (s : IsConsistent t) (edit : Edit) (a : PassesRows t edit) 
   pub findings_stay : findings (entered t edit) code ≡ findings t code
   findings_stay = same_findings t (entered t edit) (bill_of t s) (bill_of (entered t edit) consistent_after) (IsFree (entered t edit) (seeds_of_new t edit)) both_agree code (free_of t edit a code unaffected)
 
+  pub own_mass_stays : own_mass (entered t edit) code ≡ own_mass t code
+  own_mass_stays = same_own_mass t (entered t edit) (bill_of t s) (bill_of (entered t edit) consistent_after) (IsFree (entered t edit) (seeds_of_new t edit)) both_agree code (free_of t edit a code unaffected)
+
+  pub own_load_stays : (substance : List ℕ) → own_load (entered t edit) substance code ≡ own_load t substance code
+  own_load_stays substance = same_load t (entered t edit) (bill_of t s) (bill_of (entered t edit) consistent_after) (IsFree (entered t edit) (seeds_of_new t edit)) both_agree substance code (free_of t edit a code unaffected)
+
+  pub own_findings_stay : own_findings (entered t edit) code ≡ own_findings t code
+  own_findings_stay = same_own_findings t (entered t edit) (bill_of t s) (bill_of (entered t edit) consistent_after) (IsFree (entered t edit) (seeds_of_new t edit)) both_agree code (free_of t edit a code unaffected)
+
   pub lines_stay : lines_of (entered t edit).lines code ≡ lines_of t.lines code
   lines_stay = both_agree.lines code (free_of t edit a code unaffected)
 
   pub material_stays : material_row (entered t edit) code ≡ material_row t code
   material_stays = both_agree.materials code (free_of t edit a code unaffected)
+
+  pub kept_stays : is_kept (entered t edit) code ≡ is_kept t code
+  kept_stays =
+      ap (λ o. is_some o || is_part (entered t edit) code) material_stays
+      ∙ ap (λ b. is_material t code || b) (parts_free t edit code (free_of t edit a code unaffected))
 
   pub share_stays : (material : MaterialRow) → material_row t code ≡ Some material → (rule : Rule) → share (entered t edit) rule material ≡ share t rule material
   share_stays material found rule =
@@ -128,7 +187,11 @@ stays t s edit a code unaffected = record {
   chains = chain_stays t s edit a code unaffected;
   loads = carried_stays t s edit a code unaffected;
   found = findings_stay t s edit a code unaffected;
+  own_masses = own_mass_stays t s edit a code unaffected;
+  own_loads = own_load_stays t s edit a code unaffected;
+  own_found = own_findings_stay t s edit a code unaffected;
   lines = lines_stay t s edit a code unaffected;
   material = material_stays t s edit a code unaffected;
+  kept = kept_stays t s edit a code unaffected;
   shares = share_stays t s edit a code unaffected;
 }

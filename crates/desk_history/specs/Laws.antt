@@ -12,10 +12,10 @@ use Rattle.desk_model.specs.Effect.{entered, next_number}
 use Rattle.desk_model.specs.Forms.{is_edit_in_form}
 use Rattle.desk_model.specs.Lists.{IsOrdered, Lists, is_kept, material_row, number_at, ticket_row}
 use Rattle.desk_model.specs.Start.{start}
-use Rattle.desk_findings.specs.Carried.{carried}
+use Rattle.desk_findings.specs.Carried.{carried, own_load}
 use Rattle.desk_findings.specs.Chain.{chain}
-use Rattle.desk_findings.specs.Findings.{findings}
-use Rattle.desk_findings.specs.Mass.{mass}
+use Rattle.desk_findings.specs.Findings.{findings, own_findings}
+use Rattle.desk_findings.specs.Mass.{mass, own_mass}
 use Rattle.desk_findings.specs.Reaches.{lines_of, reaches}
 use Rattle.desk_findings.specs.Share.{share}
 use Rattle.desk_findings.specs.Tonnage.{shipments_in}
@@ -119,21 +119,30 @@ pub record UnsoundIsTold : Type 0 where
   pub told : (t : Lists) (table : ℕ) (code : List ℕ) → IsBrokenAt t table code → Sound t → ⊥
   pub found : (t : Lists) → IsOrdered t → AllByRecursion IsDecided t.tickets → Sound t ⊎ ((table : ℕ) × (code : List ℕ) × IsBrokenAt t table code)
 
--- a material or part that an edit doesn't affect weighs, reaches, carries and is found to have what it did, and by the same chains; a
--- part has its lines, and a material is the same, with the same share for each rule
+-- a code that an edit doesn't affect weighs, reaches, carries and is found to have what it did, and by the same chains; so does what it
+-- has of its own; it is kept or not as it was, a part has its lines, and a material is the same, with the same share for each rule
 pub record Stays (t : Lists) (edit : Edit) (code : List ℕ) : Type 0 where
   pub masses : mass (entered t edit) code ≡ mass t code
   pub reached : (target : List ℕ) → reaches (entered t edit) code target ≡ reaches t code target
   pub chains : (target : List ℕ) → chain (entered t edit) code target ≡ chain t code target
   pub loads : (substance : List ℕ) → carried (entered t edit) substance code ≡ carried t substance code
   pub found : findings (entered t edit) code ≡ findings t code
+  pub own_masses : own_mass (entered t edit) code ≡ own_mass t code
+  pub own_loads : (substance : List ℕ) → own_load (entered t edit) substance code ≡ own_load t substance code
+  pub own_found : own_findings (entered t edit) code ≡ own_findings t code
   pub lines : lines_of (entered t edit).lines code ≡ lines_of t.lines code
   pub material : material_row (entered t edit) code ≡ material_row t code
+  pub kept : is_kept (entered t edit) code ≡ is_kept t code
   pub shares : (material : MaterialRow) → material_row t code ≡ Some material → (rule : Rule) → share (entered t edit) rule material ≡ share t rule material
 
 -- what an edit that passes the rules 1 to 20 doesn't affect stays as it was
 abbrev pub OthersStay : Type 0
 OthersStay = (t : Lists) → IsConsistent t → (edit : Edit) → PassesRows t edit → (code : List ℕ) → is_affected t edit code ≡ false → Stays t edit code
+
+-- what reaches an affected code once the edit is entered is affected
+abbrev pub AffectedRise : Type 0
+AffectedRise = (t : Lists) (edit : Edit) → IsConsistent (entered t edit) → (code target : List ℕ) →
+    reaches (entered t edit) code target ≡ true → is_affected t edit target ≡ true → is_affected t edit code ≡ true
 
 -- each kept material and part that an edit affects, where it passes the rules 1 to 20, is listed once, and nothing else
 -- is

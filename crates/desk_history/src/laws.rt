@@ -1,6 +1,6 @@
 //! Laws of the definitions in `specs/`, each proved as the contract of a function that does nothing.
 
-ghost use Rattle.desk_history.specs.Laws.{AcceptedEditsAreKept, AffectedAreListed, BeginningsAreNumbered, EditsAreEnteredOnce, NumbersNamePrefixes, NumbersStayWhole, OnlyNewEditsChange, OnlySomeSumsRise, OthersStay, RefusalsAreTold, SumsDecideTheRest, TablesStayConsistent, TablesStaySound, UnsoundIsTold, YearsChangeByTheirOwn};
+ghost use Rattle.desk_history.specs.Laws.{AcceptedEditsAreKept, AffectedAreListed, AffectedRise, BeginningsAreNumbered, EditsAreEnteredOnce, NumbersNamePrefixes, NumbersStayWhole, OnlyNewEditsChange, OnlySomeSumsRise, OthersStay, RefusalsAreTold, SumsDecideTheRest, TablesStayConsistent, TablesStaySound, UnsoundIsTold, YearsChangeByTheirOwn};
 
 /// A refused edit changes nothing, and neither does a repeated one, which gets its kept number.
 pub fn only_new_edits_change()
@@ -69,9 +69,14 @@ pub fn tables_stay_sound()
 {}
 
 /// A material or part that an edit, once it passes the rules 1 to 20, doesn't affect weighs, reaches, carries and is found to have what it did, by
-/// the same chains; a part has its lines, and a material is the same, with the same share for each rule.
+/// the same chains, and so does what it has of its own; a part has its lines, and a material is the same, with the same share for each rule.
 pub fn others_stay()
     ensures { OthersStay }
+{}
+
+/// What reaches an affected material or part is affected.
+pub fn affected_rise()
+    ensures { AffectedRise }
 {}
 
 /// Each kept material and part that such an edit affects is listed once, and nothing else is.

@@ -1,7 +1,9 @@
 -- How often a number stands in a list.
-use Rattle.std.proofs.Common.{◌≡◌, ℕ, zero, suc, ◌+◌, ◌<◌, ◌≤◌, Bool, true, false, cond, ◌==◌, List, [], ◌∷◌, length, count_by, slice_index, refl, sym, ap, ◌∙◌, subst, inl, inr, arith}
+use Rattle.std.proofs.Common.{◌≡◌, ℕ, zero, suc, ◌+◌, ◌<◌, ◌≤◌, Bool, true, false, cond, ◌==◌, List, [], ◌∷◌, length, count_by, slice_index, slice_index_or, sum_by, take, refl, sym, ap, ◌∙◌, subst, inl, inr, arith}
 use Rattle.std.proofs.lemmas.Bool.{cases_Bool, cases_eq, eq-eqb, eqb-true, or_parts}
-use Rattle.std.proofs.lemmas.List.Sums.{sum_by-cons}
+use Rattle.std.specs.List.{range_with_len}
+use Rattle.std.proofs.lemmas.List.FromFn.{get_or-range_with_len, length-range_with_len}
+use Rattle.std.proofs.lemmas.List.Sums.{sum_by-cons, sum_by_more}
 use Rattle.desk_rollup.specs.Numbers.{has}
 use Rattle.desk_rollup.specs.Plan.{AreDistinct}
 
@@ -144,3 +146,52 @@ once_distinct (first ∷ ns) single =
       ],
       once_distinct ns (λ n. omega (arith, single n, times-cons n first ns)),
     )
+
+sum_without : (f : ℕ → ℕ) (n : ℕ) (ns : List ℕ) → 1 ≤ times n ns → sum_by f ns ≡ f n + sum_by f (without n ns)
+sum_without f n [] h = absurd (omega arith)
+sum_without f n (first ∷ ns) h =
+    elim (cases_Bool (first == n)) [
+      | inl here ↦
+          let same = ap f (eqb-true first n here) in
+          rw here (omega (arith, sum_by-cons f first ns, same))
+      | inr away ↦
+          let none = ap one_if away in
+          let rest = sum_without f n ns (omega (arith, times-cons n first ns, none, h)) in
+          rw away (omega (arith, sum_by-cons f first ns, sum_by-cons f first (without n ns), rest))
+    ]
+
+-- a sum over different numbers is no more than that over all numbers below a bound
+pub sum_few : (f : ℕ → ℕ) (all bound : ℕ) → bound ≤ all → (ns : List ℕ) → ((n : ℕ) → times n ns ≤ 1) → ((n : ℕ) → has ns n ≡ true → n < bound) → sum_by f ns ≤ sum_by f (take bound (range_with_len 0 all))
+sum_few f all zero within [] single low = omega arith
+sum_few f all zero within (n ∷ ns) single low = absurd (omega (arith, low n (Rattle.std.proofs.lemmas.Bool.or_left (n == n) (has ns n) (eq-eqb n n refl))))
+sum_few f all (suc bound) within ns single low =
+    let in_range : bound < all = omega (arith, within) in
+    let last : slice_index_or (range_with_len 0 all) bound 0 ≡ bound = get_or-range_with_len 0 all bound 0 in_range ∙ omega arith in
+    let more = sum_by_more f (range_with_len 0 all) bound 0 (omega (arith, length-range_with_len 0 all, in_range)) in
+    let at = ap f last in
+    let next : bound + 1 ≡ suc bound = omega arith in
+    let grown = ap (λ k. sum_by f (take k (range_with_len 0 all))) next in
+    elim (cases_Bool (has ns bound)) [
+      | inl there ↦
+          let one = some_times bound ns there in
+          let rest = sum_few f all bound (omega (arith, within)) (without bound ns) (λ n. omega (arith, times_without bound n ns one, single n))
+          (λ n e.
+          let some = some_times n (without bound ns) e in
+          let still = low n (has_times n ns (omega (arith, times_without bound n ns one, some))) in
+          elim (cases_eq bound n) [
+            | inl same ↦
+                let test = ap one_if (eq-eqb bound n same) in
+                absurd (omega (arith, times_without bound n ns one, some, single n, test))
+            | inr other ↦ omega (arith, still, other)
+          ]) in
+          omega (arith, rest, sum_without f bound ns one, more, at, grown)
+      | inr away ↦
+          let rest = sum_few f all bound (omega (arith, within)) ns single
+          (λ n e.
+          let still = low n e in
+          elim (cases_eq bound n) [
+            | inl same ↦ absurd (Rattle.std.proofs.lemmas.Bool.false≢true (sym away ∙ subst (λ m. has ns m ≡ true) (sym same) e))
+            | inr other ↦ omega (arith, still, other)
+          ]) in
+          omega (arith, rest, more, at, grown)
+    ]

@@ -15,3 +15,4 @@ pub mod RolledUp
 pub mod Ways
 pub mod OneNode
 pub mod ExampleProofs
+pub mod Halves

@@ -1,5 +1,5 @@
 -- How many marks there are.
-use Rattle.std.proofs.Common.{◌≡◌, ℕ, ◌+◌, ◌-◌, ◌<◌, ◌≤◌, true, false, cond, ◌==◌, List, [], ◌∷◌, ◌++◌, length, sum_by, take, refl, sym, ap, ◌∙◌, subst, inl, inr, arith}
+use Rattle.std.proofs.Common.{◌≡◌, ℕ, ◌+◌, ◌-◌, ◌<◌, ◌≤◌, Bool, true, false, cond, ◌==◌, List, [], ◌∷◌, ◌++◌, length, slice_index, sum_by, take, refl, sym, ap, ◌∙◌, subst, inl, inr, arith}
 use Rattle.std.specs.List.{flat_map, range_with_len}
 use Rattle.std.proofs.lemmas.Bool.{cases_Bool, eqb-true, ne_eqb}
 use Rattle.std.proofs.lemmas.List.{length-map}
@@ -7,14 +7,15 @@ use Rattle.std.proofs.lemmas.List.FromFn.{get_or-range_with_len, length-range_wi
 use Rattle.std.proofs.lemmas.List.Sums.{sum_by-take-le, sum_by_more}
 use Rattle.desk_graph.specs.declared.line.BillLine.{BillLine}
 use Rattle.desk_graph.specs.Graph.{Graph, lines_of}
-use Rattle.desk_graph.specs.Reaches.{Falls}
+use Rattle.desk_graph.specs.Reaches.{Falls, is_affected}
 use Rattle.desk_rollup.specs.Numbers.{RisesFrom, has, hop_numbers, mark_numbers, mark_number, once}
 use Rattle.desk_rollup.specs.Places.{IsKnown, Placed, known, place_at}
 use Rattle.desk_rollup.specs.Rolled.{IsRolled, gathered, mark_count, marks}
+use Rattle.desk_rollup.specs.Plan.{nodes_of}
 use Rattle.desk_rollup.specs.Sweep.{AreRolledOf, IsSweep}
 use Rattle.desk_rollup.specs.Values.{Kept, OwnValues, RolledValues, hop_total, own_with, rolled_at}
-use Rattle.desk_rollup.proofs.Counts.{none_times, one_if, same_length, some_times, times, times-cons}
-use Rattle.desk_rollup.proofs.Frame.{by_place, has_kept, stays}
+use Rattle.desk_rollup.proofs.Counts.{none_times, one_if, same_length, some_times, sum_few, times, times-cons}
+use Rattle.desk_rollup.proofs.Frame.{by_place, has_kept, inside, stays}
 use Rattle.desk_rollup.proofs.Lists.{has_once}
 use Rattle.desk_rollup.proofs.MostHops.{hops_of, kept_sum, put_at, put_sum, put_there, sum_within}
 use Rattle.desk_rollup.proofs.Ranked.{gathered-step}
@@ -38,7 +39,8 @@ rising_once low n (first ∷ ns) up =
       | inr away ↦ let none = ap one_if away in omega (arith, times-cons n first ns, none, rising_once (first + 1) n ns up.1)
     ]
 
-once_once : (n : ℕ) (ns : List ℕ) → times n (once ns) ≤ 1
+-- numbers of which each is kept once stand there once
+pub once_once : (n : ℕ) (ns : List ℕ) → times n (once ns) ≤ 1
 once_once n [] = omega arith
 once_once n (first ∷ ns) =
     elim (cases_Bool (has ns first)) [
@@ -72,6 +74,35 @@ module _ (lines : List (List BillLine)) (rank : ℕ → ℕ) (ranked : Falls lin
       ∙ equally_long (hop_numbers values.hops) (marks lines own node) (λ n. rising_once 0 n (hop_numbers values.hops) right.hops_rise)
       (λ n. subst (λ ns. times n ns ≤ 1) (sym (gathered-step lines rank ranked (λ m. mark_numbers (own m).marks) node)) (once_once n (all ++ flat_map (λ line. gathered lines (λ m. mark_numbers (own m).marks) line.node) (lines_of lines node))))
       (has_marks lines rank ranked own node values right)
+
+-- the marks of a node that has lines
+abbrev pub marks_at : List (List BillLine) → (ℕ → OwnValues) → ℕ → ℕ
+marks_at lines own node = cond (length (lines_of lines node) == 0) 0 (length (marks lines own node))
+
+one_at_most : (b : Bool) (n : ℕ) → n ≡ cond b 1 0 → n ≤ 1
+one_at_most true n e = omega (arith, e)
+one_at_most false n e = omega (arith, e)
+
+-- the marks of some of the affected nodes
+module _ (g : Graph) (owns : List OwnValues) (kept : Kept) (of_owns placed : Placed) (lists : List (List BillLine)) (sweep : IsSweep g owns kept of_owns placed lists) where
+  pub some_marks : (place : ℕ) → sum_by (marks_at g.lines (own_with owns kept.owns)) (take place placed.nodes) ≤ mark_count g.lines (own_with owns kept.owns)
+  some_marks place =
+      let counted = marks_at g.lines (own_with owns kept.owns) in
+      let n = length g.lines in
+      omega (
+        arith,
+        sum_by-take-le counted placed.nodes place,
+        sum_few counted n n (omega arith) placed.nodes (λ node. one_at_most (is_affected g.lines (nodes_of owns) node) (times node placed.nodes) (sweep.affected node))
+            (λ node there. omega (arith, inside g owns kept of_owns placed lists sweep node there, sweep.bill.sizes)),
+        sum_by-take-le counted (range_with_len 0 n) n,
+      )
+
+  pub more_marks : (place : ℕ) → place < length placed.nodes → (values : RolledValues) → IsRolled g.lines (own_with owns kept.owns) (slice_index placed.nodes place) values →
+      sum_by (marks_at g.lines (own_with owns kept.owns)) (take (place + 1) placed.nodes) ≡ sum_by (marks_at g.lines (own_with owns kept.owns)) (take place placed.nodes) + cond (length (lines_of g.lines (slice_index placed.nodes place)) == 0) 0 (length values.hops)
+  more_marks place low values right =
+      sum_by_more (marks_at g.lines (own_with owns kept.owns)) placed.nodes place 0 low
+      ∙ ap (λ n. sum_by (marks_at g.lines (own_with owns kept.owns)) (take place placed.nodes) + cond (length (lines_of g.lines (slice_index placed.nodes place)) == 0) 0 n)
+      (sym (hop_count g.lines sweep.bill.ranked.0 sweep.bill.ranked.1 (own_with owns kept.owns) (slice_index placed.nodes place) values right))
 
 module _ (g : Graph) (owns : List OwnValues) (kept : Kept) (of_owns placed : Placed) (lists : List (List BillLine)) (sweep : IsSweep g owns kept of_owns placed lists)
     (new : List RolledValues) (size : length new ≡ length placed.nodes) (right : AreRolledOf g owns kept placed.nodes new) where

@@ -9,9 +9,10 @@ use Rattle.std.proofs.lemmas.List.Folds.{list_any-append, list_any_none}
 use Rattle.std.proofs.lemmas.List.Quantifiers.{position-Some}
 use Rattle.std.proofs.lemmas.List.Sums.{fails_before_first, sum_by-cons}
 use Rattle.desk_graph.specs.Reaches.{has_node}
+use Rattle.desk_rollup.specs.Numbers.{Rises, hop_numbers}
 use Rattle.desk_rollup.specs.Places.{ArePlaced, IsTold, Placed, place_in, place_told}
 use Rattle.desk_rollup.specs.Plan.{AreDistinct, nodes_of}
-use Rattle.desk_rollup.specs.Values.{DoFit, OwnValues, RolledValues, hop_total, no_own, no_values, own_at, own_with, rolled_at}
+use Rattle.desk_rollup.specs.Values.{AreHopsInOrder, DoFit, OwnValues, RolledValues, hop_total, no_own, no_values, own_at, own_with, rolled_at}
 use Rattle.desk_rollup.proofs.Frame.{own_other}
 use Rattle.desk_rollup.proofs.Counts.{has_at}
 use Rattle.desk_rollup.proofs.MostHops.{hops_of}
@@ -113,6 +114,15 @@ module _ (nodes : List ℕ) (distinct : AreDistinct nodes) (kept all front : Lis
         | inl same ↦
             subst (λ n. P (rolled_at (set kept at values) n)) (sym same) (subst P (sym (get_or-set_same kept at values no_values there)) (subst P these (all_fit (length front))))
         | inr other ↦ subst P (sym (get_or-set_other kept at node values no_values other)) (fit node)
+      ]
+
+  pub put_order : AreHopsInOrder kept → AreHopsInOrder all → AreHopsInOrder (set kept at values)
+  put_order order all_order node =
+      let P : RolledValues → Type 0 = λ v. Rises (hop_numbers v.hops) in
+      elim (cases_eq node at) [
+        | inl same ↦
+            subst (λ n. P (rolled_at (set kept at values) n)) (sym same) (subst P (sym (get_or-set_same kept at values no_values there)) (subst P these (all_order (length front))))
+        | inr other ↦ subst P (sym (get_or-set_other kept at node values no_values other)) (order node)
       ]
 
 -- where the values of a node are put in, its hops are exchanged for theirs

@@ -1,11 +1,13 @@
 -- What is kept once a plan is put in.
 use Rattle.std.proofs.Common.{◌≡◌, ℕ, zero, suc, ◌<◌, true, false, ◌==◌, List, [], ◌∷◌, length, slice_index, sym, ap, ◌∙◌, subst, inl, inr, arith}
-use Rattle.std.proofs.lemmas.Bool.{cases_Bool, eqb-true, false≢true, or_cases}
+use Rattle.std.proofs.lemmas.Bool.{cases_Bool, cases_lt, eqb-true, false≢true, or_cases}
+use Rattle.std.proofs.lemmas.List.{get_or_past}
 use Rattle.desk_graph.specs.Graph.{Graph}
 use Rattle.desk_graph.specs.Reaches.{has_node}
+use Rattle.desk_rollup.specs.Numbers.{Rises, hop_numbers}
 use Rattle.desk_rollup.specs.Plan.{AreDistinct, AreRolledUp, IsRollPlan, Planned}
 use Rattle.desk_rollup.specs.Rolled.{IsRolled}
-use Rattle.desk_rollup.specs.Values.{Kept, OwnValues, own_at, own_with, rolled_at}
+use Rattle.desk_rollup.specs.Values.{AreHopsInOrder, Kept, OwnValues, no_values, own_at, own_with, rolled_at}
 use Rattle.desk_rollup.proofs.Counts.{once_distinct}
 use Rattle.desk_rollup.proofs.Prepared.{affected_once}
 
@@ -22,6 +24,14 @@ module _ (g : Graph) (owns : List OwnValues) (kept : Kept) (plan : Planned) (is 
   -- the nodes that are replaced differ
   pub nodes_distinct : AreDistinct plan.nodes
   nodes_distinct = once_distinct plan.nodes (affected_once g.lines (Rattle.desk_rollup.specs.Plan.nodes_of owns) plan.nodes is.affected)
+
+  -- the hops of new values stand in order
+  pub new_order : AreHopsInOrder plan.rolled
+  new_order node =
+      elim (cases_lt node (length plan.rolled)) [
+        | inl there ↦ (is.replaced node (omega (arith, there, is.sizes))).hops_rise
+        | inr past ↦ subst (λ values. Rises (hop_numbers values.hops)) (sym (get_or_past plan.rolled node no_values past)) tt
+      ]
 
   pub rolled_up : (new : Kept) → length new.owns ≡ plan.count → length new.rolled ≡ plan.count → ((node : ℕ) → own_at new.owns node ≡ own_with plan.owns kept.owns node) →
       ((node : ℕ) → has_node plan.nodes node ≡ false → rolled_at new.rolled node ≡ rolled_at kept.rolled node) →

@@ -3,7 +3,7 @@ use Rattle.std.specs.Prelude.{ℕ, ◌<◌, ◌^◌, ◌==◌, List, [], Option,
 use Rattle.desk_rollup.specs.declared.mark.Mark.{Mark}
 use Rattle.desk_rollup.specs.declared.hop.Hop.{Hop}
 use Rattle.desk_rollup.specs.declared.load.Load.{Load}
-use Rattle.desk_rollup.specs.Numbers.{mark_number}
+use Rattle.desk_rollup.specs.Numbers.{Rises, hop_numbers, mark_number}
 
 -- what a node has of its own
 pub record OwnValues : Type 0 where
@@ -62,6 +62,10 @@ carried loads what = unwrap_or (load_of loads what) 0
 -- no weight is 2^128 or more
 abbrev pub DoFit : List RolledValues → Type 0
 DoFit rolled = (node : ℕ) → (rolled_at rolled node).weight < 2 ^ 128
+
+-- the hops of each node stand in the order of their marks, each once
+abbrev pub AreHopsInOrder : List RolledValues → Type 0
+AreHopsInOrder rolled = (node : ℕ) → Rises (hop_numbers (rolled_at rolled node).hops)
 
 -- how many hops the nodes have together
 abbrev pub hop_total : List RolledValues → ℕ

@@ -1,4 +1,4 @@
-ghost use Rattle.std.specs.Prelude.{option_copied};
+ghost use Rattle.std.specs.Prelude.{◌≡◌, option_copied};
 ghost use Rattle.desk_rollup.specs.Plan.{IsPlannedOf};
 
 use crate::own::Own;
@@ -38,6 +38,13 @@ impl Model for RollPlan {
 }
 
 impl RollPlan {
+    /// The nodes whose values the plan replaces, each once.
+    pub fn nodes(&self) -> &[NodeId]
+        ensures { result.now ≡ self.now.nodes }
+    {
+        self.places.as_slice()
+    }
+
     /// The new values of a node, or none where the plan doesn't replace them.
     pub fn rolled(&self, id: NodeId) -> Option<&Rolled>
         ensures { IsPlannedOf self.now id (option_copied result) }

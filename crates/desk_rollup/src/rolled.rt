@@ -1,8 +1,9 @@
-ghost use Rattle.std.specs.Prelude.{◌≡◌, true, [], length};
+ghost use Rattle.std.specs.Prelude.{◌≡◌, true, [], length, IfOk};
 ghost use Rattle.desk_rollup.specs.Values.{no_values};
 
 use crate::hop::Hop;
 use crate::load::Load;
+use desk_graph::OutOfMemory;
 use std::alloc::Global;
 use std::marker::Model;
 
@@ -61,5 +62,15 @@ impl Rolled {
         ensures { result ≡ length self.now.hops }
     {
         self.hops.len()
+    }
+    /// The same values once more.
+    pub(crate) fn copied(&self, alloc: Global) -> Result<Rolled, OutOfMemory>
+        ensures { IfOk result (λ rolled. rolled ≡ self.now) }
+    {
+        Ok(Rolled {
+            weight: self.weight,
+            hops: Vec::from_slice(alloc, self.hops.as_slice())?,
+            loads: Vec::from_slice(alloc, self.loads.as_slice())?,
+        })
     }
 }

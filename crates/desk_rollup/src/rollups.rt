@@ -1,10 +1,10 @@
-ghost use Rattle.std.specs.Prelude.{◌≡◌, ◌+◌, ◌<◌, ◌≤◌, ℕ, true, false, [], List, None, length, map, slice_index, unwrap_or, IfErr, IfOk, IfSome};
+ghost use Rattle.std.specs.Prelude.{◌≡◌, ◌+◌, ◌<◌, ◌≤◌, ℕ, true, false, [], List, None, length, map, slice_index, unwrap_or, vec_capacity, IfErr, IfOk, IfSome};
 ghost use Rattle.desk_graph.specs.Graph.{Graph, lines_of};
 ghost use Rattle.desk_graph.specs.Reaches.{AreAffected, has_node};
 ghost use Rattle.desk_rollup.specs.Chain.{chain, next_to};
-ghost use Rattle.desk_rollup.specs.Numbers.{mark_number};
+ghost use Rattle.desk_rollup.specs.Numbers.{Rises, hop_numbers, mark_number};
 ghost use Rattle.desk_rollup.specs.Plan.{AreDistinct, AreRolledUp, CanPrepare, IsAccepted, IsRefused, IsRollPlan, nodes_of};
-ghost use Rattle.desk_rollup.specs.Values.{DoFit, OwnValues, hop_of, hop_total, own_at, own_with, rolled_at};
+ghost use Rattle.desk_rollup.specs.Values.{AreHopsInOrder, DoFit, OwnValues, hop_of, hop_total, own_at, own_with, rolled_at};
 
 use crate::fault::RollFault;
 use crate::hop::Hop;
@@ -65,6 +65,17 @@ impl Rollups {
             owns: Vec::with_capacity(alloc, NODE_LIMIT)?,
             rolled: Vec::with_capacity(alloc, NODE_LIMIT)?,
             hops: Some(0),
+        })
+    }
+
+    /// The same values once more, with room for all nodes that a bill may have.
+    pub fn copied(&self, alloc: Global) -> Result<Rollups, OutOfMemory>
+        ensures { IfOk result (λ rollups. rollups ≡ self.now) }
+    {
+        Ok(Rollups {
+            owns: owns_with_room(alloc, self.owns.as_slice())?,
+            rolled: rolled_with_room(alloc, self.rolled.as_slice())?,
+            hops: self.hops,
         })
     }
 
@@ -216,14 +227,19 @@ impl Rollups {
     }
 }
 
-/// Where the hop of a mark leads, if it leads on.
+/// Where the hop of a mark leads, if it leads on. It takes a binary search.
 fn next_in(hops: &[Hop], number: u64) -> Option<NodeId>
+    requires { Rises (hop_numbers hops.now) }
     ensures { result ≡ unwrap_or (hop_of hops.now number) None }
 {
-    match hops.iter().find(|hop| hop.mark.number() == number) {
-        Some(hop) => hop.next,
-        None => None,
+    let at = hops.partition_point(|hop| hop.mark.number() < number);
+    if at >= hops.len() {
+        return None;
     }
+    if hops[at].mark.number() != number {
+        return None;
+    }
+    hops[at].next
 }
 
 /// The nodes of the own values.
@@ -240,6 +256,30 @@ fn copied_owns(alloc: Global, owns: &[Own]) -> Result<Vec<Own>, OutOfMemory>
     let mut copy = Vec::with_capacity(alloc, owns.len())?;
     for own in owns {
         copy.push(own.copied(alloc)?)?;
+    }
+    Ok(copy)
+}
+
+/// The own values once more, with room for those of all nodes that a bill may have.
+fn owns_with_room(alloc: Global, owns: &[Own]) -> Result<Vec<Own>, OutOfMemory>
+    ensures owns { IfOk result (λ copy. copy.items ≡ owns.now) }
+    ensures room { IfOk result (λ copy. 24576 ≤ vec_capacity copy) }
+{
+    let mut copy = Vec::with_capacity(alloc, owns.len().max(NODE_LIMIT))?;
+    for own in owns {
+        copy.push_reserved(own.copied(alloc)?);
+    }
+    Ok(copy)
+}
+
+/// The values once more, with room for those of all nodes that a bill may have.
+fn rolled_with_room(alloc: Global, rolled: &[Rolled]) -> Result<Vec<Rolled>, OutOfMemory>
+    ensures rolled { IfOk result (λ copy. copy.items ≡ rolled.now) }
+    ensures room { IfOk result (λ copy. 24576 ≤ vec_capacity copy) }
+{
+    let mut copy = Vec::with_capacity(alloc, rolled.len().max(NODE_LIMIT))?;
+    for values in rolled {
+        copy.push_reserved(values.copied(alloc)?);
     }
     Ok(copy)
 }
@@ -291,6 +331,7 @@ fn put_rolled(
     ensures stays { (node : ℕ) → has_node nodes.now node ≡ false → rolled_at kept.new node ≡ rolled_at kept.old node }
     ensures put { (place : ℕ) → place < length nodes.now → rolled_at kept.new (slice_index nodes.now place) ≡ rolled_at new.items place }
     ensures fit { DoFit kept.old → DoFit new.items → DoFit kept.new }
+    ensures order { AreHopsInOrder kept.old → AreHopsInOrder new.items → AreHopsInOrder kept.new }
     ensures hops { IfSome result (λ hops. hops ≡ hop_total kept.new) }
 {
     while let Some(values) = new.pop() {

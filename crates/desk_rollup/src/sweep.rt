@@ -54,7 +54,7 @@ impl<'a, B: BillView> Sweep<'a, B> {
         ensures refused { IfErr result (λ fault. IsRefused (B.graph self.now.bill.now) (own_with self.now.owns.now self.now.kept.now.owns) fault) }
     {
         let Some(rolled) = self.rolled(alloc)? else {
-            return Err(self.too_large(alloc)?);
+            return Err(self.fault(alloc)?);
         };
         if self.are_marks_too_many(rolled.as_slice()) {
             return Err(RollFault::MarksFull);
@@ -62,16 +62,17 @@ impl<'a, B: BillView> Sweep<'a, B> {
         Ok(rolled)
     }
 
-    /// Which weight is too large, where one is. All weights are computed anew, as the nodes above such a one were given no values.
-    fn too_large(&self, alloc: Global) -> Result<RollFault, OutOfMemory>
+    /// Why the values are refused, where a weight is too large or else there are too many marks. All weights are computed anew, as not
+    /// all nodes were given values.
+    fn fault(&self, alloc: Global) -> Result<RollFault, OutOfMemory>
         requires sweep { IsSweep (B.graph self.now.bill.now) self.now.owns.now self.now.kept.now self.now.of_owns.now self.now.places.now (map (λ list. list.now) self.now.lists.now) }
-        requires large { ¬ (AllFit (B.graph self.now.bill.now) (own_with self.now.owns.now self.now.kept.now.owns)) }
+        requires marks { AllFit (B.graph self.now.bill.now) (own_with self.now.owns.now self.now.kept.now.owns) → 4194304 < mark_count (B.graph self.now.bill.now).lines (own_with self.now.owns.now self.now.kept.now.owns) }
         ensures { IfOk result (λ fault. IsRefused (B.graph self.now.bill.now) (own_with self.now.owns.now self.now.kept.now.owns) fault) }
     {
         let weights = self.weights(alloc)?;
         match self.first_too_large(weights.as_slice()) {
             Some(node) => Ok(RollFault::WeightTooLarge { node }),
-            None => unreachable!(),
+            None => Ok(RollFault::MarksFull),
         }
     }
 
@@ -95,16 +96,17 @@ impl<'a, B: BillView> Sweep<'a, B> {
         Ok(weights)
     }
 
-    /// The values of each affected node, unless a weight is too large.
+    /// The values of each affected node, unless a weight is too large or there are too many marks: no more values are made then.
     fn rolled(&self, alloc: Global) -> Result<Option<Vec<Rolled>>, OutOfMemory>
         requires { IsSweep (B.graph self.now.bill.now) self.now.owns.now self.now.kept.now self.now.of_owns.now self.now.places.now (map (λ list. list.now) self.now.lists.now) }
         ensures size { IfOk result (λ found. IfSome found (λ rolled. length rolled.items ≡ length self.now.places.now.nodes)) }
         ensures right { IfOk result (λ found. IfSome found (λ rolled. AreRolledOf (B.graph self.now.bill.now) self.now.owns.now self.now.kept.now self.now.places.now.nodes rolled.items)) }
         ensures fit { IfOk result (λ found. IfSome found (λ _. AllFit (B.graph self.now.bill.now) (own_with self.now.owns.now self.now.kept.now.owns))) }
-        ensures large { IfOk result (λ found. IfNone found (¬ (AllFit (B.graph self.now.bill.now) (own_with self.now.owns.now self.now.kept.now.owns)))) }
+        ensures refused { IfOk result (λ found. IfNone found (AllFit (B.graph self.now.bill.now) (own_with self.now.owns.now self.now.kept.now.owns) → 4194304 < mark_count (B.graph self.now.bill.now).lines (own_with self.now.owns.now self.now.kept.now.owns))) }
     {
         let mut roller = Roller::new(alloc);
         let mut rolled = Vec::with_capacity(alloc, self.lists.len())?;
+        let mut marks = 0;
         for (place, node) in self.places.as_slice().iter().enumerate() {
             let values = Values {
                 places: self.places,
@@ -114,7 +116,11 @@ impl<'a, B: BillView> Sweep<'a, B> {
             let Some(new) = roller.roll(alloc, self.own(*node), self.lists[place], &values)? else {
                 return Ok(None);
             };
+            marks = with_hops(marks, self.lists[place], &new);
             rolled.push(new)?;
+            if marks > MARK_LIMIT {
+                return Ok(None);
+            }
         }
         Ok(Some(rolled))
     }
@@ -202,4 +208,15 @@ impl<'a, B: BillView> Sweep<'a, B> {
         }
         sum + values.of(node).hops.len()
     }
+}
+
+/// The sum together with the hops of a node, if it has lines.
+fn with_hops(sum: usize, lines: &[BillLine], values: &Rolled) -> usize
+    requires { sum ≤ 4194304 }
+    ensures { result ≡ sum + (if length lines.now == 0 then 0 else length values.now.hops) }
+{
+    if lines.len() == 0 {
+        return sum;
+    }
+    sum + values.hops.len()
 }

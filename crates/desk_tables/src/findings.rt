@@ -39,7 +39,7 @@ impl<'a> TableLists<'a> {
     }
 
     /// Whether the rule's share in the material is over the rule's limit.
-    pub(crate) fn is_over_limit(&self, material: &MaterialRow, rule: Rule) -> bool
+    pub fn is_over_limit(&self, material: &MaterialRow, rule: Rule) -> bool
         requires ordered { IsByKey member_key member_key_cmp self.now.members }
         requires few { length material.now.substances ≤ CONTENT_LIMIT }
         ensures { result ≡ is_over_limit self.now rule material.now }
@@ -163,7 +163,7 @@ fn is_over_thousandth(part: u128, whole: u128) -> bool
 }
 
 /// The row of the key. It takes a binary search.
-pub(crate) fn row_of<'a, R: Keyed>(rows: &'a [R], key: &R::Key) -> Option<&'a R>
+pub fn row_of<'a, R: Keyed>(rows: &'a [R], key: &R::Key) -> Option<&'a R>
     requires { IsByKey R.key R.Key.cmp rows.now }
     ensures { option_copied result ≡ row_of R.key R.Key.cmp key.now rows.now }
 {

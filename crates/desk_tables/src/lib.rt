@@ -50,6 +50,7 @@ pub use desk_model::{
     factor_of, units_of, year_of,
 };
 pub use edit_fault::EditFault;
+pub use findings::row_of;
 pub use gather::Gathering;
 pub use plan::TablesPlan;
 pub use row_change::RowChange;

@@ -132,7 +132,7 @@ not_mapped : (o : Option Entry) → option_map (λ entry. entry.year) o ≡ None
 not_mapped None e = refl
 not_mapped (Some entry) e = cc
 
-none_heavy : (entries : List Entry) → too_heavy_year entries ≡ None → (year : ℕ) → year_mass year entries < 2 ^ 128
+pub none_heavy : (entries : List Entry) → too_heavy_year entries ≡ None → (year : ℕ) → year_mass year entries < 2 ^ 128
 none_heavy entries e year =
     either (looked_at year entries entries (not_mapped (find (λ entry. nat_le (2 ^ 128) (year_mass entry.year entries)) entries) e))
   where
@@ -147,3 +147,12 @@ with_masses-kept masses entries h plan = record {
   units = units_stay masses entries h.units;
   masses = none_heavy (with_masses masses entries) plan;
 }
+
+-- no new masses change nothing
+pub no_masses : (entries : List Entry) → with_masses [] entries ≡ entries
+no_masses [] = refl
+no_masses (entry ∷ entries) = ap (λ rest. entry ∷ rest) (no_masses entries)
+
+-- entries of which no year is too heavy are yearly
+pub all-kept : (entries : List Entry) → IsByKey entry_key entry_key_cmp entries → AllByRecursion HasUnits entries → too_heavy_year entries ≡ None → IsYearly entries
+all-kept entries by_key units light = record { by_key = by_key; units = units; masses = none_heavy entries light }

@@ -1,10 +1,12 @@
-ghost use Rattle.std.specs.Prelude.{◌≡◌, ◌≢◌, ◌+◌, ◌*◌, ◌^◌, ◌<◌, ◌≤◌, ◌↔◌, [], length, nat_le, vec_capacity, IsTrue, Ok, Err, IfOk, IfErr, OnOk, OnErr};
-ghost use Rattle.desk_tonnage.specs.Entries.{units_of};
+ghost use Rattle.std.specs.Prelude.{◌≡◌, ◌≢◌, ◌+◌, ◌*◌, ◌^◌, ◌<◌, ◌≤◌, ◌↔◌, [], length, nat_le, option_map, vec_capacity, IsTrue, None, Some, Ok, Err, IfOk, IfErr, OnOk, OnErr};
+ghost use Rattle.std.specs.List.{AllByRecursion};
+ghost use Rattle.desk_rows.specs.Rows.{IsByKey};
+ghost use Rattle.desk_tonnage.specs.Entries.{entry_key, entry_key_cmp, units_of};
 ghost use Rattle.desk_tonnage.specs.Edits.{HasMass, add_answer, entry_with, take_answer, with_entry, with_units, without_units};
 ghost use Rattle.desk_tonnage.specs.Kept.{IsAddPlan, IsMassPlan, IsNewWithoutRoom};
 ghost use Rattle.desk_tonnage.specs.Masses.{AreByProduct, masses_answer, with_masses};
 ghost use Rattle.desk_tonnage.specs.Tonnage.{AreLoadsByProduct, AreWithinMasses, tonnage};
-ghost use Rattle.desk_tonnage.specs.Years.{IsYearly, year_mass};
+ghost use Rattle.desk_tonnage.specs.Years.{IsYearly, too_heavy_year, year_mass};
 
 use crate::edits::{lower_units, set_entry, set_masses};
 use crate::entry::Entry;
@@ -55,6 +57,23 @@ impl Yearly {
         Ok(Yearly {
             entries: Vec::with_capacity(alloc, FIRST_ROOM)?,
         })
+    }
+
+    /// The years of many shipments at once: of entries that stand in their order by year and then by product. It takes no memory, and
+    /// one pass over the entries.
+    ///
+    /// `YearTooLarge`: the first year whose units weigh 2^128 micrograms or more.
+    pub fn from_entries(entries: Vec<Entry>) -> Result<Yearly, MassFault>
+        requires by_key { IsByKey entry_key entry_key_cmp entries.items }
+        requires units { AllByRecursion (λ entry. (1 ≤ entry.units) × (entry.units ≤ 1000000000000)) entries.items }
+        ensures entries { IfOk result (λ yearly. yearly.entries ≡ entries.items) }
+        ensures fits { IfOk result (λ yearly. too_heavy_year entries.items ≡ None) }
+        ensures fault { IfErr result (λ fault. option_map MassFault.YearTooLarge (too_heavy_year entries.items) ≡ Some fault) }
+    {
+        match too_heavy_year(entries.as_slice(), &[]) {
+            Some(year) => Err(MassFault::YearTooLarge { year }),
+            None => Ok(Yearly { entries }),
+        }
     }
 
     /// The entries, by year and then by product.

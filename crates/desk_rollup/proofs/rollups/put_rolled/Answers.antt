@@ -1,9 +1,9 @@
 use Rattle.std.proofs.Common.{◌≡◌, ℕ, ◌<◌, ◌++◌, [], ◌∷◌, List, length, set, slice_index, ◌+◌, IfSome, sym, ap, ◌∙◌, subst, arith}
 use Rattle.std.proofs.lemmas.List.{append_assoc, get_or_default, length-set, length_push}
 use Rattle.desk_rollup.specs.declared.rolled.Rolled.{Rolled}
-use Rattle.desk_rollup.specs.Values.{DoFit, hop_total, no_values, rolled_at}
+use Rattle.desk_rollup.specs.Values.{AreHopsInOrder, DoFit, hop_total, no_values, rolled_at}
 use Rattle.desk_rollup.proofs.Counts.{has_at}
-use Rattle.desk_rollup.proofs.Puts.{put_fit, put_hops, put_next, put_stays}
+use Rattle.desk_rollup.proofs.Puts.{put_fit, put_hops, put_order, put_next, put_stays}
 use Rattle.desk_rollup.proofs.rollups.put_rolled.Goals as goal
 
 pub bounds-kept-node : goal.bounds-kept-node
@@ -58,4 +58,5 @@ loop-values-preserved c =
       λ fit all_fit. spot DoFit (put_fit nodes c.requires.distinct kept all front values inv.1.0 whole low there (inv.5 fit all_fit) all_fit),
       spot (λ l. IfSome c.exchanged-hops.result (λ sum. sum ≡ hop_total l))
           (subst (λ n. IfSome c.exchanged-hops.result (λ sum. sum ≡ n)) (ap (λ n. moved.0 + n) c.hop_count-in-Some.ensures ∙ sym moved.2) (c.exchanged-hops.ensures moved.0 before)),
+      λ order all_order. spot AreHopsInOrder (put_order nodes c.requires.distinct kept all front values inv.1.0 whole low there (inv.7 order all_order) all_order),
     )

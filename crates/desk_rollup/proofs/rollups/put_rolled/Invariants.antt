@@ -1,6 +1,6 @@
 use Rattle.std.proofs.Common.{◌≡◌, ◌<◌, ◌≤◌, ℕ, false, List, ◌++◌, length, slice_index, IfSome}
 use Rattle.desk_graph.specs.Reaches.{has_node}
-use Rattle.desk_rollup.specs.Values.{DoFit, RolledValues, hop_total, rolled_at}
+use Rattle.desk_rollup.specs.Values.{AreHopsInOrder, DoFit, RolledValues, hop_total, rolled_at}
 use Rattle.desk_rollup.proofs.rollups.put_rolled.Given as goal
 
 abbrev pub invariant-loop-values : goal.invariant-loop-values
@@ -12,6 +12,7 @@ invariant-loop-values l =
     × ((place : ℕ) → length l.new.items ≤ place → place < length l.nodes → rolled_at l.kept (slice_index l.nodes place) ≡ rolled_at l.initial.new.items place)
     × (DoFit l.initial.kept → DoFit l.initial.new.items → DoFit l.kept)
     × IfSome l.hops (λ hops. hops ≡ hop_total l.kept)
+    × (AreHopsInOrder l.initial.kept → AreHopsInOrder l.initial.new.items → AreHopsInOrder l.kept)
 
 abbrev pub decreases-loop-values : goal.decreases-loop-values
 decreases-loop-values l = length l.new.items

@@ -4,8 +4,8 @@ use Rattle.desk_graph.specs.Reaches.{has_node}
 use Rattle.desk_rollup.specs.declared.own.Own.{Own}
 use Rattle.desk_rollup.specs.declared.rolled.Rolled.{Rolled}
 use Rattle.desk_rollup.specs.Plan.{AreDistinct, AreRolledUp}
-use Rattle.desk_rollup.specs.Values.{DoFit, Kept, hop_total, own_at, own_with, rolled_at}
-use Rattle.desk_rollup.proofs.RolledUp.{nodes_distinct, rolled_up}
+use Rattle.desk_rollup.specs.Values.{AreHopsInOrder, DoFit, Kept, hop_total, own_at, own_with, rolled_at}
+use Rattle.desk_rollup.proofs.RolledUp.{new_order, nodes_distinct, rolled_up}
 use Rattle.desk_rollup.proofs.rollups.Rollups.commit.Goals as goal
 
 pub put_rolled-self-inside-requires-clause-distinct : goal.put_rolled-self-inside-requires-clause-distinct
@@ -21,6 +21,10 @@ invariant_of-self c =
           ap (λ l. length l) owns ∙ c.put_owns.ensures.size ∙ ap (λ l. length l) c.as_mut_slice.ensures.value ∙ c.self.invariant.sizes
           ∙ sym (ap (λ l. length l) rolled ∙ c.put_rolled-self-inside.ensures.size ∙ ap (λ l. length l) c.as_mut_slice-kept.ensures.value);
       fit = subst DoFit (sym rolled) (c.put_rolled-self-inside.ensures.fit (subst DoFit (sym c.as_mut_slice-kept.ensures.value) c.self.invariant.fit) c.plan.invariant.2);
+      order =
+          subst AreHopsInOrder (sym rolled)
+          (c.put_rolled-self-inside.ensures.order (subst AreHopsInOrder (sym c.as_mut_slice-kept.ensures.value) c.self.invariant.order)
+          (subst (λ plan. AreHopsInOrder plan.rolled) (sym c.plan.view_is) (new_order c.requires.0 c.requires.1 c.args.self.now c.args.plan c.requires.2)));
       hops = subst (λ l. IfSome c.put_rolled-self-inside.result (λ hops. hops ≡ hop_total l)) (sym rolled) c.put_rolled-self-inside.ensures.hops;
       owns_room = c.self.invariant.owns_room;
       rolled_room = c.self.invariant.rolled_room;

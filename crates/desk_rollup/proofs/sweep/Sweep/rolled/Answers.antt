@@ -1,5 +1,5 @@
 -- Each node has the values that it comes to, until a weight is too large.
-use Rattle.std.proofs.Common.{◌≡◌, ℕ, ◌<◌, ◌^◌, ◌+◌, ◌++◌, [], ◌∷◌, List, true, length, slice_index, slice_index_or, Option, None, Some, option_map, sym, ap, ◌∙◌, subst, refl, inl, inr, arith}
+use Rattle.std.proofs.Common.{◌≡◌, ℕ, ◌<◌, ◌^◌, ◌+◌, ◌==◌, ◌++◌, cond, [], ◌∷◌, List, true, length, slice_index, slice_index_or, Option, None, Some, option_map, sym, ap, ◌∙◌, subst, refl, inl, inr, arith}
 use Rattle.std.proofs.lemmas.Bool.{cases_lt}
 use Rattle.std.proofs.lemmas.List.{length_push, get_or_append_left, get_or_push}
 use Rattle.desk_graph.specs.declared.line.BillLine.{BillLine}
@@ -13,6 +13,7 @@ use Rattle.desk_rollup.specs.Weights.{weighed}
 use Rattle.desk_rollup.proofs.Counts.{has_at}
 use Rattle.desk_rollup.proofs.Frame.{found_none, found_values, inside, knows, list_at}
 use Rattle.desk_rollup.proofs.Heavy.{first_of_all}
+use Rattle.desk_rollup.proofs.MarkCount.{more_marks, some_marks}
 use Rattle.desk_rollup.proofs.sweep.Sweep.rolled.Goals as goal
 
 pub own-requires-clause-there : goal.own-requires-clause-there
@@ -39,8 +40,8 @@ roll-requires g c =
     subst P (sym c.values.ensures.values)
     (knows bill s.owns.now s.kept.now s.of_owns.now s.places.now _ c.requires place low c.as_slice.result.now size child (subst (λ l. has_line l child ≡ true) lines e))
 
-pub returns-in_default-clause-large : goal.returns-in_default-clause-large
-returns-in_default-clause-large g c fit =
+pub returns-in_default-clause-refused : goal.returns-in_default-clause-refused
+returns-in_default-clause-refused g c fit =
     let bill = g.B.BillView.graph c.args.self.now.bill.now in
     let s = c.args.self.now in
     let nodes = s.places.now.nodes in
@@ -88,6 +89,8 @@ loop-place-preserved g c =
     let is : c.in_ok-new.field-0 ≡ found s.kept.now.rolled (own node) (Rattle.desk_graph.specs.Graph.lines_of bill.lines node) =
     c.in_ok-new.ensures.values ∙ ap (λ k. found k c.own.result.now list) c.values.ensures.values ∙ ap (λ o. found s.kept.now.rolled o list) own_is ∙ ap (found s.kept.now.rolled (own node)) lines in
     let right = found_values bill s.owns.now s.kept.now s.of_owns.now s.places.now _ c.requires place low new before c.loop-place.invariant.2 small c.in-Some.new (sym is ∙ c.in-Some.is) in
+    let sum = c.with_hops-marks.ensures ∙ ap (λ l. c.loop-place.marks + cond (length l == 0) 0 (length c.in-Some.new.hops)) lines in
+    let more = more_marks bill s.owns.now s.kept.now s.of_owns.now s.places.now _ c.requires place low c.in-Some.new right.1 in
     let items = c.in_ok-push.ensures.items in (
       ap (λ l. length l) items ∙ length_push c.loop-place.rolled.items c.in-Some.new ∙ ap (λ n. n + 1) c.loop-place.invariant.0,
       λ spot h.
@@ -105,7 +108,37 @@ loop-place-preserved g c =
             | inl earlier ↦ c.loop-place.invariant.2 spot earlier
             | inr last ↦ let same : place ≡ spot = omega arith in subst (λ n. weight bill.lines own (slice_index nodes n) < 2 ^ 128) same right.0
           ],
+      sum ∙ ap (λ n. n + cond (length (Rattle.desk_graph.specs.Graph.lines_of bill.lines node) == 0) 0 (length c.in-Some.new.hops)) c.loop-place.invariant.3 ∙ sym more,
+      omega (arith, c.if-marks-gt-MARK_LIMIT.false),
     )
+
+pub returns-then-marks-gt-MARK_LIMIT-clause-refused : goal.returns-then-marks-gt-MARK_LIMIT-clause-refused
+returns-then-marks-gt-MARK_LIMIT-clause-refused g c fit =
+    let bill = g.B.BillView.graph c.args.self.now.bill.now in
+    let s = c.args.self.now in
+    let nodes = s.places.now.nodes in
+    let place = c.loop-place.place in
+    let low : place < length nodes = omega (arith, c.loop-place-test.true, ap (λ l. length l) c.as_slice-node-items.ensures) in
+    let node = slice_index nodes place in
+    let own = own_with s.owns.now s.kept.now.owns in
+    let new : List RolledValues = c.as_slice.result.now in
+    let list = (slice_index_or s.lists.now place (record { ref_ptr = (0, 0); now = [] })).now in
+    let lines = list_at bill s.owns.now s.kept.now s.of_owns.now s.places.now _ c.requires s.lists.now (λ l. l.now) place (record { ref_ptr = (0, 0); now = [] }) refl low in
+    let before : (spot : ℕ) → spot < place → IsRolled bill.lines own (slice_index nodes spot) (rolled_at new spot) = λ spot h.
+    subst (λ l. IsRolled bill.lines own (slice_index nodes spot) (rolled_at l spot)) (sym c.as_slice.ensures.value) (c.loop-place.invariant.1 spot h) in
+    let own_is : c.own.result.now ≡ own node = c.own.ensures ∙ ap (λ l. own (slice_index l place)) c.as_slice-node-items.ensures in
+    let P : OwnValues → Type 0 = λ o. o.weight < 2 ^ 128 in
+    let small : (own node).weight < 2 ^ 128 = subst P own_is c.in_ok-new.ensures.own in
+    let found : List Rolled → OwnValues → List BillLine → Option RolledValues = λ kept o l.
+    let below = λ (child : ℕ). known (place_at s.places.now child) kept new child in
+    option_map (λ w. record { weight = w; hops = all_hops below o.marks l; loads = all_loads below o.loads l }) (weighed (λ child. Some (below child).weight) o.weight l) in
+    let is : c.in_ok-new.field-0 ≡ found s.kept.now.rolled (own node) (Rattle.desk_graph.specs.Graph.lines_of bill.lines node) =
+    c.in_ok-new.ensures.values ∙ ap (λ k. found k c.own.result.now list) c.values.ensures.values ∙ ap (λ o. found s.kept.now.rolled o list) own_is ∙ ap (found s.kept.now.rolled (own node)) lines in
+    let right = found_values bill s.owns.now s.kept.now s.of_owns.now s.places.now _ c.requires place low new before c.loop-place.invariant.2 small c.in-Some.new (sym is ∙ c.in-Some.is) in
+    let sum = c.with_hops-marks.ensures ∙ ap (λ l. c.loop-place.marks + cond (length l == 0) 0 (length c.in-Some.new.hops)) lines in
+    let more = more_marks bill s.owns.now s.kept.now s.of_owns.now s.places.now _ c.requires place low c.in-Some.new right.1 in
+    let all = some_marks bill s.owns.now s.kept.now s.of_owns.now s.places.now _ c.requires (place + 1) in
+    omega (arith, sum, more, all, c.if-marks-gt-MARK_LIMIT.true, c.loop-place.invariant.3)
 
 pub returns-clause-fit : goal.returns-clause-fit
 returns-clause-fit g c =

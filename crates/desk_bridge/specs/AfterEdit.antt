@@ -1,0 +1,56 @@
+-- What an edit makes of the values of the bill: which nodes it affects, that the own values of the others stay right, and that
+-- the roll-ups may be prepared.
+use Rattle.std.specs.Prelude.{◌≡◌, ℕ, ◌<◌, ◌≤◌, List, true, length}
+use Rattle.desk_graph.specs.Graph.{Graph, label_of}
+use Rattle.desk_graph.specs.Reaches.{has_node, is_affected as is_affected_node}
+use Rattle.desk_rollup.specs.Numbers.{has, mark_numbers}
+use Rattle.desk_rollup.specs.Plan.{AreDistinct, AreRolledUp, CanPrepare, nodes_of}
+use Rattle.desk_rollup.specs.Values.{Kept, OwnValues, amount_of, own_at, own_with}
+use Rattle.desk_model.specs.declared.edit.Edit.{Edit}
+use Rattle.desk_model.specs.Effect.{entered}
+use Rattle.desk_model.specs.Lists.{Lists}
+use Rattle.desk_findings.specs.Carried.{own_load}
+use Rattle.desk_findings.specs.Findings.{Finding, own_findings}
+use Rattle.desk_findings.specs.Mass.{own_mass}
+use Rattle.desk_history.specs.Affected.{is_affected}
+use Rattle.desk_history.specs.History.{PassesRows}
+use Rattle.desk_history.specs.Sound.{IsConsistent}
+use Rattle.desk_findings.specs.Numbering.{has_numbered}
+use Rattle.desk_bridge.specs.Bridge.{IsBridge}
+
+-- these are the own values of a code, where a number names a substance and findings have numbers
+pub record IsOwnOf (t : Lists) (number : Finding → ℕ) (name : ℕ → List ℕ) (code : List ℕ) (own : OwnValues) : Type 0 where
+  pub weight : own.weight ≡ own_mass t code
+  pub marks : (n : ℕ) → has (mark_numbers own.marks) n ≡ has_numbered number (own_findings t code) n
+  pub loads : (n : ℕ) → amount_of own.loads n ≡ own_load t (name n) code
+
+-- these are the own values of the nodes of the bill
+abbrev pub AreOwnOf : Lists → Graph → (Finding → ℕ) → (ℕ → List ℕ) → (ℕ → OwnValues) → Type 0
+AreOwnOf t g number name own = (node : ℕ) → node < length g.labels → IsOwnOf t number name (label_of g.labels node) (own node)
+
+-- an edit that passes the rules 1 to 20; the bills before and after it are those of the tables, and the nodes stay; what is kept is right
+-- before it; and new own values are given of just the nodes that it affects, each once
+pub record IsEdited (t : Lists) (edit : Edit) (g new : Graph) (kept : Kept) (owns : List OwnValues) : Type 0 where
+  pub consistent : IsConsistent t
+  pub passes : PassesRows t edit
+  pub before : IsBridge t g
+  pub after : IsBridge (entered t edit) new
+  pub nodes : length g.labels ≤ length new.labels
+  pub labels : (node : ℕ) → node < length g.labels → label_of new.labels node ≡ label_of g.labels node
+  pub rolled : AreRolledUp g kept
+  pub distinct : AreDistinct (nodes_of owns)
+  pub inside : (node : ℕ) → has_node (nodes_of owns) node ≡ true → node < length new.labels
+  pub affected : (node : ℕ) → node < length new.labels → has_node (nodes_of owns) node ≡ is_affected t edit (label_of new.labels node)
+
+-- then the nodes that the bill tells to be affected are those of the edit; own values that are right at the affected nodes are right
+-- at all; and the roll-ups may be prepared
+pub record EditsArePrepared : Type 0 where
+  pub affected : (t : Lists) (edit : Edit) (g new : Graph) (kept : Kept) (owns : List OwnValues) → IsEdited t edit g new kept owns →
+      (node : ℕ) → node < length new.labels → is_affected_node new.lines (nodes_of owns) node ≡ is_affected t edit (label_of new.labels node)
+  pub owns : (t : Lists) (edit : Edit) (g new : Graph) (kept : Kept) (owns : List OwnValues) → IsEdited t edit g new kept owns →
+      (number : Finding → ℕ) (name : ℕ → List ℕ) → AreOwnOf t g number name (own_at kept.owns) →
+      ((node : ℕ) → has_node (nodes_of owns) node ≡ true → IsOwnOf (entered t edit) number name (label_of new.labels node) (own_with owns kept.owns node)) →
+      AreOwnOf (entered t edit) new number name (own_with owns kept.owns)
+  pub prepared : (t : Lists) (edit : Edit) (g new : Graph) (kept : Kept) (owns : List OwnValues) → IsEdited t edit g new kept owns →
+      (number : Finding → ℕ) (name : ℕ → List ℕ) → AreOwnOf (entered t edit) new number name (own_with owns kept.owns) →
+      CanPrepare new owns kept

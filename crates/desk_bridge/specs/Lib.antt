@@ -1,0 +1,14 @@
+pub mod AfterEdit
+pub mod Bridge
+pub mod Examples
+pub mod Index
+pub mod Laws
+pub mod LookUps
+pub mod NewNodes
+pub mod Numbers
+pub mod Planning
+pub mod Plans
+pub mod Refusals
+pub mod RollUps
+pub mod Values
+pub mod Years
