@@ -2,7 +2,7 @@
 #
 # What the program writes and its status are exact and stand in docs/FORMATS.md; what is said here is a guess at the cause.
 
-commands=(check session export import audit sample)
+commands=(check session serve export import audit sample)
 # The kinds of equipment, by their codes.
 kinds=(1 2 3 4 5 6 7 7t 8 8i 9 9i 10 11)
 
@@ -30,8 +30,10 @@ explain_words() {
 
 # What is wrong with these words, a line each; nothing where they are a command line.
 faults_of_words() {
-    local command=${1-} option='' stores=0 is_ended='' store='' LC_ALL=C
+    local command=${1-} name is_ended='' LC_ALL=C
     local -a values=()
+    # How often each option stands, and its last value.
+    local -A count=() given=()
     case " ${commands[*]} " in
         *" $command "*) ;;
         *)
@@ -41,38 +43,70 @@ faults_of_words() {
     esac
     shift
     while [ $# -gt 0 ]; do
+        name=${1#--} name=${name%%=*}
         case $is_ended$1 in
             --) is_ended=x ;;
-            --store)
-                stores=$((stores + 1))
+            --store | --port | --seats | --connections)
                 if [ $# -lt 2 ] || [ "${2#-}" != "$2" ]; then
-                    printf '%s\n' "--store wants the name of a file behind it; a name that begins with - is written --store=${2--NAME}"
+                    printf '%s\n' "$1 wants $(wanted_of "$name") behind it; what begins with - is written $1=${2--NAME}"
                     return
                 fi
-                store=$2
+                count[$name]=$((${count[$name]-0} + 1)) given[$name]=$2
                 shift
                 ;;
-            --store=*) stores=$((stores + 1)) store=${1#--store=} ;;
+            --store=* | --port=* | --seats=* | --connections=*) count[$name]=$((${count[$name]-0} + 1)) given[$name]=${1#*=} ;;
             -*) printf "there is no option %s%s\n" "$1" "$([[ $1 == --s* || $1 == -s* ]] && printf ': did you mean --store?')" ;;
             *) values+=("${1}") ;;
         esac
         shift
     done
     faults_of_store
+    faults_of_serving
     faults_of_values
 }
 
-# What is wrong with how a store is named, by `command`, `stores` and `store`.
+# What an option wants behind it.
+wanted_of() {
+    case $1 in
+        store) printf 'the name of a file' ;;
+        port) printf 'a number from 1 to 65535' ;;
+        seats) printf 'a number from 1 to 8' ;;
+        connections) printf 'a number from 1 to 1000000' ;;
+    esac
+}
+
+# What is wrong with how a store is named, by `command`, `count` and `given`.
 faults_of_store() {
+    local stores=${count[store]-0} store=${given[store]-}
     case $command in
         check | sample) [ "$stores" = 0 ] || printf '%s\n' "$command has no --store: it looks at its input alone" ;;
         *)
             [ "$stores" -le 1 ] || printf '%s\n' '--store stands more than once'
-            [ "$stores" != 0 ] || [ "$command" = session ] || printf '%s\n' "$command wants --store FILE, the file of the desk"
+            [ "$stores" != 0 ] || [ "$command" = session ] || [ "$command" = serve ] || printf '%s\n' "$command wants --store FILE, the file of the desk"
             [ "$stores" = 0 ] || [ -n "$store" ] || printf '%s\n' 'the name of the store is empty'
             [ "${#store}" -le 200 ] || printf '%s\n' "the path of the store has ${#store} bytes, and 200 is the most"
             ;;
     esac
+}
+
+# What is wrong with the options of `serve`, by `command`, `count` and `given`.
+faults_of_serving() {
+    local name
+    for name in port seats connections; do
+        if [ "$command" != serve ]; then
+            [ -z "${count[$name]-}" ] || printf '%s\n' "$command has no --$name: that is an option of serve"
+            continue
+        fi
+        [ "${count[$name]-0}" -le 1 ] || printf '%s\n' "--$name stands more than once"
+        [ -z "${count[$name]-}" ] || is_number_of "$name" "${given[$name]}" || printf "'%s' is none: --%s is %s, without a leading zero\n" "${given[$name]}" "$name" "$(wanted_of "$name")"
+    done
+    [ "$command" != serve ] || [ -n "${count[port]-}" ] || printf '%s\n' 'serve wants --port N, the port that it listens at'
+}
+
+# Whether a value is one that an option of `serve` takes.
+is_number_of() {
+    local -A most=([port]=65535 [seats]=8 [connections]=1000000)
+    [[ $2 =~ ^[1-9][0-9]{0,6}$ ]] && [ "$2" -le "${most[$1]}" ]
 }
 
 # What is wrong with the values, by `command` and `values`.

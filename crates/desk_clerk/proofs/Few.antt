@@ -97,6 +97,11 @@ rows_fit t e =
     (within_limit 9 SHIPMENT_LIMIT (length t.shipments) (last_empty _ _ e9))
     (within_limit 10 TICKET_LIMIT (length t.tickets) (last_empty _ _ e10)))
 
+-- sound tables have no more tickets than their limit
+pub tickets_fit : (t : Lists) → Sound t → length t.tickets ≤ TICKET_LIMIT
+unfolding tables_over
+tickets_fit t sound = within_limit 10 TICKET_LIMIT (length t.tickets) (last_empty _ _ (first_empty _ _ sound.limits.tables_fit))
+
 -- sound tables have no more records than their limits allow
 pub records_fit : (t : Lists) → Sound t → length (records_of t) ≤ record_limit
 records_fit t sound = simp length-map (rows_fit t sound.limits.tables_fit)

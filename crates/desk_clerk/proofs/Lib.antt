@@ -1,8 +1,11 @@
+pub mod CoreKept
 pub mod Few
 pub mod FirstRecords
+pub mod Growing
 pub mod Making
 pub mod OneDesk
-pub mod Opened
+pub mod OpenedAs
 pub mod PutIn
 pub mod Submitted
+pub mod ToPublish
 pub mod Unsound

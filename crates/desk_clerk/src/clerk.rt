@@ -1,106 +1,131 @@
-ghost use Rattle.std.specs.Prelude.{◌≡◌, ◌≢◌, ◌≤◌, ℕ, List, Ok, Err, None, Some, is_ok, true, IfOk, IfErr, OnOk, OnErr, IsErrOf};
-ghost use Rattle.desk_clerk.specs.Clerk.{keeper_of, whole};
-ghost use Rattle.desk_model.specs.Lists.{number_at};
-ghost use Rattle.desk_clerk.specs.Opening.{IsDamagedAt, IsOpenedAs};
+ghost use Rattle.std.specs.Prelude.{◌≡◌, ◌≢◌, ◌≤◌, ◌++◌, ◌⊎◌, ℕ, [], List, Ok, Err, None, Some, All, is_ok, length, true, IfOk, IfErr, OnOk, OnErr, IsErrOf};
+ghost use mathlib.Core.List.{IsPrefix};
+ghost use Rattle.desk_clerk.specs.Clerk.{keeper_of, list_from, tables_of, whole};
+ghost use Rattle.desk_clerk.specs.Published.{IsKeptUnpublished, IsTakenIn};
 ghost use Rattle.desk_edge.specs.Content.{IsSame};
 ghost use Rattle.desk_edge.specs.Faults.{Rose};
-ghost use Rattle.desk_history.specs.Sound.{Sound};
+ghost use Rattle.desk_engine.specs.Engine.{lists_of};
+ghost use Rattle.desk_history.specs.History.{IsHistory, after};
 ghost use Rattle.desk_history.specs.Step.{kept_number, step};
-ghost use Rattle.desk_model.specs.Lists.{Lists};
+ghost use Rattle.desk_model.specs.Lists.{number_at};
 ghost use Rattle.desk_model.specs.declared.rule_fault.RuleFault.{RuleFault as Fault};
 ghost use Rattle.desk_records.specs.Records.{tables_content};
-ghost use Rattle.desk_tables.specs.Plan.{IsPlan};
 
 use crate::accepted::Accepted;
-use crate::keeping::{keep, refusal};
+use crate::board::DeskBoard;
+use crate::desk_seat::DeskNews;
 use crate::open_fault::OpenFault;
 use crate::open_refused::OpenRefused;
-use crate::opening::open_tables;
+use crate::opened::Opened;
+use crate::publishing::{open_press, publish_kept, take_into};
+use crate::stored_desk::StoredDesk;
 use crate::submit_fault::SubmitFault;
 use desk_edge::Keeper;
-use desk_tables::{Edit, Tables, TablesPlan};
+use desk_engine::Engine;
+use desk_model::Edit;
+use desk_publish::{BlankBook, Naming, Press};
+use desk_text::OutOfMemory;
 use std::alloc::Global;
 use std::marker::Model;
 use std::sync::Wait;
 
-/// The one writer over a store: the tables, and the store that keeps them. The tables are sound, and where the store tells what it
-/// keeps, that is the tables.
-pub struct Clerk<K: Keeper> {
-    tables: Tables,
-    keeper: K,
+/// The one writer of a desk that others read meanwhile. An edit is kept in the store before it is published, and published before it is
+/// answered.
+///
+/// Contracts see it as its desk with the store, and as two lists of the edits since it was opened: those that are published, and all
+/// that it has accepted. The published ones are the first of all, and are all of them but for one edit at most, which the store keeps
+/// and which no memory was left to publish. It isn't `Drop`, since its end may wait: end it by `close`.
+pub struct Clerk<K: Keeper, J: Naming<DeskBoard>> {
+    desk: StoredDesk<K>,
+    press: Press<DeskBoard, J>,
+    /// The edit that the store keeps and the press has yet to take.
+    kept: Option<Edit>,
+    /// Whether nothing waits to be published.
+    is_published: bool,
 }
 
-// Written out, so that a function that owns one does not prove anew how each part is dropped.
-impl<K: Keeper + Drop> Drop for Clerk<K> {
-    fn drop(self) {
-        let Clerk {
-            tables: _,
-            keeper: _,
-        } = self;
-    }
-}
-
-impl<K: Keeper> Model for Clerk<K> {
-    ghost use Rattle.desk_clerk.specs.Clerk.{Clerked};
-    ghost use Rattle.desk_edge.specs.Content.{IsSame};
-    ghost use Rattle.desk_history.specs.Sound.{Sound};
-    ghost use Rattle.desk_records.specs.Records.{tables_content};
+impl<K: Keeper, J: Naming<DeskBoard>> Model for Clerk<K, J> {
+    ghost use Rattle.std.specs.Prelude.{◌≡◌, ◌++◌, true, None};
+    ghost use mathlib.Core.List.{IsPrefix};
+    ghost use Rattle.desk_clerk.specs.Clerk.{Clerked, list_from, tables_of};
+    ghost use Rattle.desk_clerk.specs.Published.{listed};
+    ghost use Rattle.desk_engine.specs.Engine.{lists_of};
+    ghost use Rattle.desk_history.specs.History.{IsHistory, after};
 
     ghost Value = { Clerked K };
 
-    ghost view = { λ clerk. record { desk = clerk.tables; keeper = clerk.keeper } };
+    ghost view = { λ c. record { desk = c.desk; published = c.press.published; accepted = c.press.whole ++ listed c.kept } };
 
-    ghost invariant = { λ clerk. Sound clerk.tables.lists
-        × (K.Tells clerk.keeper → IsSame (tables_content clerk.tables.lists) (K.content clerk.keeper)) };
+    ghost invariant = { λ c. IsHistory (list_from (lists_of J.opening.engine) (c.press.whole ++ listed c.kept))
+        × (tables_of c.desk ≡ after (list_from (lists_of J.opening.engine) (c.press.whole ++ listed c.kept)))
+        × IsPrefix c.press.published c.press.whole
+        × (c.is_published ≡ true → c.press.published ≡ c.press.whole ++ listed c.kept) };
 }
 
-impl<K: Keeper> Clerk<K> {
-    /// Opens a store: reads all its records, but no more than one too many for sound tables, and makes tables of them. An empty store
-    /// is first given the records of the start tables, in one commit.
+impl<K: Keeper, J: Naming<DeskBoard>> Clerk<K, J> {
+    /// Opens a desk to one writer and so many readers, 1 to 8. The list begins with no edit.
     ///
-    /// `KeeperFault`: a call of the keeper failed. `Damaged`: the records that were read, all or one more than sound tables have, aren't
-    /// those of sound tables; it names a record that no row has, or a row that breaks a clause of soundness. `OutOfMemory`: none was
-    /// left to open it. Each refusal hands the keeper back, with what it kept.
-    pub fn open<R: Wait + Sync>(
-        _rt: &R,
+    /// The book is a new one, and the name is picked for it and for the tables of the desk. The only refusal is `OutOfMemory`: none was
+    /// left for two boards, or for the seats. It hands the keeper back as it was.
+    pub fn open<R: Wait>(
+        rt: &R,
         alloc: Global,
-        keeper: K,
-    ) -> Result<Clerk<K>, OpenRefused<K>>
-        ensures told { IfOk result (λ clerk. K.Tells (keeper_of clerk) → K.Tells keeper) }
-        ensures opened { IfOk result (λ clerk. K.Tells (keeper_of clerk) → IsOpenedAs (K.content keeper) (whole clerk)) }
-        ensures handed_back { IfErr result (λ refused. K.Tells refused.keeper
-            → K.Tells keeper × IsSame (K.content keeper) (K.content refused.keeper)) }
-        ensures damaged { IfErr result (λ refused. (kind : ℕ) (code : List ℕ) → refused.fault ≡ OpenFault.Damaged kind code
-            → IsDamagedAt (K.Tells refused.keeper) (K.content keeper) kind code) }
-        ensures not_sound { IfErr result (λ refused. (kind : ℕ) (code : List ℕ) → refused.fault ≡ OpenFault.Damaged kind code
-            → K.Tells refused.keeper → (t : Lists) → Sound t → IsOpenedAs (K.content keeper) t → ⊥) }
-        ensures counted { IfOk result (λ clerk. K.faults (keeper_of clerk) ≡ K.faults keeper) }
-        ensures never_falls { IfErr result (λ refused. K.faults keeper ≤ K.faults refused.keeper) }
-        ensures steady { IfErr result (λ refused. refused.fault ≢ OpenFault.KeeperFault → K.faults refused.keeper ≡ K.faults keeper) }
-        ensures failed { IfErr result (λ refused. refused.fault ≡ OpenFault.KeeperFault → Rose (K.faults keeper) (K.faults refused.keeper)) }
+        blank: BlankBook<DeskBoard>,
+        desk: StoredDesk<K>,
+        seats: usize,
+    ) -> Result<Opened<K, J>, OpenRefused<K>>
+        requires book { blank ≡ J.book }
+        requires opening { lists_of J.opening.engine ≡ tables_of desk }
+        requires seats { (1 ≤ seats) × (seats ≤ 8) }
+        ensures desk { IfOk result (λ opened. opened.clerk.desk ≡ desk) }
+        ensures list { IfOk result (λ opened. (opened.clerk.published ≡ []) × (opened.clerk.accepted ≡ [])) }
+        ensures count { IfOk result (λ opened. length opened.seats.items ≡ seats) }
+        ensures seats { IfOk result (λ opened. All (λ seat. seat ≡ record { list = []; is_sure = true }) opened.seats.items) }
+        ensures memory { IfErr result (λ refused. refused.fault ≡ OpenFault.OutOfMemory) }
+        ensures handed_back { IfErr result (λ refused. refused.keeper ≡ desk.keeper) }
+        ensures kept { IfErr result (λ refused. K.Tells refused.keeper → IsSame (tables_content (tables_of desk)) (K.content refused.keeper)) }
     {
-        let mut keeper = keeper;
-        match open_tables(alloc, &mut keeper) {
-            Ok(tables) => Ok(Clerk { tables, keeper }),
-            Err(fault) => Err(OpenRefused { fault, keeper }),
+        desk.tables();
+        match open_press(rt, alloc, blank, desk.engine(), seats) {
+            Ok((press, seats)) => Ok(Opened {
+                clerk: Clerk {
+                    desk,
+                    press,
+                    kept: None,
+                    is_published: true,
+                },
+                seats,
+            }),
+            Err(_) => Err(OpenRefused {
+                fault: OpenFault::OutOfMemory,
+                keeper: desk.close(),
+            }),
         }
     }
 
-    /// Takes an edit: judges it, keeps what it changes in the store, in one commit, and then makes it in the tables. An edit that was
-    /// accepted before is told by its kept number, and the store isn't asked; nor is it for an edit that breaks a rule.
+    /// Takes an edit: publishes what waits, judges the edit, keeps what it changes in the store, in one commit, makes it in the tables
+    /// and publishes it. An edit that was accepted before is told by its kept number, and the store isn't asked; nor is it for an edit
+    /// that breaks a rule. It may wait for a reader that is looking.
     ///
     /// `Rule`: the first rule that it breaks. `KeeperFault`: it is new and breaks no rule, and the keeper refused the commit.
-    /// `OutOfMemory`: none was left to judge it or to keep it. After a refusal the tables and what the store keeps are as they were.
-    pub fn submit<R: Wait + Sync>(
+    /// `OutOfMemory`: none was left to publish what waits, to judge the edit or to keep it, and nothing of it is kept; or it is kept,
+    /// and none was left to publish it. After a refusal the list and what the store keeps are else as they were.
+    pub fn submit<R: Wait>(
         &mut self,
-        _rt: &R,
+        rt: &R,
         alloc: Global,
         edit: Edit,
     ) -> Result<Accepted, SubmitFault>
         ensures number { IfOk result (λ accepted. (step (whole self.old) edit).0 ≡ Ok accepted.number) }
         ensures list { IfOk result (λ accepted. accepted.whole ≡ number_at (whole self.new)) }
-        ensures ok { OnOk result (whole self.new ≡ (step (whole self.old) edit).1) }
-        ensures err { OnErr result (whole self.new ≡ whole self.old) }
+        ensures ok { OnOk result (IsTakenIn self.old.accepted (whole self.old) edit self.new.accepted (whole self.new)) }
+        ensures published { OnOk result (self.new.published ≡ self.new.accepted) }
+
+        // After a refusal the list is as it was, or has the one edit behind.
+        ensures err { OnErr result (((self.new.accepted ≡ self.old.accepted) × (whole self.new ≡ whole self.old))
+            ⊎ IsKeptUnpublished self.old.accepted (whole self.old) edit self.new.published self.new.accepted (whole self.new)) }
+        ensures memory { OnErr result (result ≢ Err SubmitFault.OutOfMemory → (self.new.accepted ≡ self.old.accepted) × (whole self.new ≡ whole self.old)
+            × (self.new.published ≡ self.new.accepted)) }
         ensures rule { (fault : Fault) (n : ℕ) → result ≡ Err (SubmitFault.Rule fault n)
             → ((step (whole self.old) edit).0 ≡ Err fault) × (n ≡ number_at (whole self.old)) }
 
@@ -113,72 +138,95 @@ impl<K: Keeper> Clerk<K> {
         ensures never_falls { K.faults (keeper_of self.old) ≤ K.faults (keeper_of self.new) }
         ensures steady { result ≢ Err SubmitFault.KeeperFault → K.faults (keeper_of self.new) ≡ K.faults (keeper_of self.old) }
         ensures failed { IsErrOf result SubmitFault.KeeperFault → Rose (K.faults (keeper_of self.old)) (K.faults (keeper_of self.new)) }
+        ensures sure { K.NeverFails → result ≢ Err SubmitFault.KeeperFault }
         ensures asked { IsErrOf result SubmitFault.KeeperFault
             → (kept_number (whole self.old) edit ≡ None) × (is_ok (step (whole self.old) edit).0 ≡ true) }
     {
-        edit.in_form();
-        let plan = match self.tables.prepare(alloc, &edit) {
-            Ok(plan) => plan,
-            Err(fault) => return Err(refusal(fault, self.number())),
-        };
-        self.carry_out(alloc, &edit, plan)
+        self.catch_up(rt)?;
+        let accepted = self.take_in(alloc, edit)?;
+        self.catch_up(rt)?;
+        Ok(accepted)
     }
 
-    /// Keeps what the plan of the edit changes in the store, in one commit, and then makes it in the tables. For an edit that is kept
-    /// already memory isn't wanting.
-    fn carry_out(
-        &mut self,
-        alloc: Global,
-        edit: &Edit,
-        plan: TablesPlan,
-    ) -> Result<Accepted, SubmitFault>
-        requires { IsPlan self.old.desk edit.now plan }
-        ensures number { IfOk result (λ accepted. (step (whole self.old) edit.now).0 ≡ Ok accepted.number) }
+    /// Judges an edit where nothing waits, keeps it in the store and makes it in the tables. It is published by `catch_up`.
+    fn take_in(&mut self, alloc: Global, edit: Edit) -> Result<Accepted, SubmitFault>
+        requires { self.old.published ≡ self.old.accepted }
+        ensures number { IfOk result (λ accepted. (step (whole self.old) edit).0 ≡ Ok accepted.number) }
         ensures list { IfOk result (λ accepted. accepted.whole ≡ number_at (whole self.new)) }
-        ensures ok { OnOk result (whole self.new ≡ (step (whole self.old) edit.now).1) }
-        ensures err { OnErr result (whole self.new ≡ whole self.old) }
-        ensures no_rule { (fault : Fault) (n : ℕ) → result ≢ Err (SubmitFault.Rule fault n) }
-        ensures again { (n : ℕ) → kept_number (whole self.old) edit.now ≡ Some n → keeper_of self.new ≡ keeper_of self.old }
-        ensures memory { (n : ℕ) → kept_number (whole self.old) edit.now ≡ Some n → result ≢ Err SubmitFault.OutOfMemory }
+        ensures ok { OnOk result (IsTakenIn self.old.accepted (whole self.old) edit self.new.accepted (whole self.new)) }
+        ensures published { self.new.published ≡ self.old.published }
+        ensures err { OnErr result ((self.new.accepted ≡ self.old.accepted) × (whole self.new ≡ whole self.old)) }
+        ensures rule { (fault : Fault) (n : ℕ) → result ≡ Err (SubmitFault.Rule fault n)
+            → ((step (whole self.old) edit).0 ≡ Err fault) × (n ≡ number_at (whole self.old)) }
+        ensures again { (n : ℕ) → kept_number (whole self.old) edit ≡ Some n → keeper_of self.new ≡ keeper_of self.old }
+        ensures refused { (fault : Fault) → (step (whole self.old) edit).0 ≡ Err fault → keeper_of self.new ≡ keeper_of self.old }
         ensures told { K.Tells (keeper_of self.new) → K.Tells (keeper_of self.old) }
         ensures never_falls { K.faults (keeper_of self.old) ≤ K.faults (keeper_of self.new) }
         ensures steady { result ≢ Err SubmitFault.KeeperFault → K.faults (keeper_of self.new) ≡ K.faults (keeper_of self.old) }
         ensures failed { IsErrOf result SubmitFault.KeeperFault → Rose (K.faults (keeper_of self.old)) (K.faults (keeper_of self.new)) }
+        ensures sure { K.NeverFails → result ≢ Err SubmitFault.KeeperFault }
         ensures asked { IsErrOf result SubmitFault.KeeperFault
-            → (kept_number (whole self.old) edit.now ≡ None) × (is_ok (step (whole self.old) edit.now).0 ≡ true) }
+            → (kept_number (whole self.old) edit ≡ None) × (is_ok (step (whole self.old) edit).0 ≡ true) }
     {
-        edit.in_form();
-        if let Err(fault) = keep(alloc, &mut self.keeper, &plan) {
-            return Err(fault);
+        let taken = take_into(alloc, &mut self.desk, &mut self.kept, edit);
+        self.is_published = self.kept.is_none();
+        taken
+    }
+
+    /// Publishes an edit that the store keeps and that no memory was left to publish before. It may wait for a reader that is looking.
+    ///
+    /// `OutOfMemory`: none was left to publish it. It still waits.
+    pub fn catch_up<R: Wait>(&mut self, rt: &R) -> Result<(), OutOfMemory>
+        ensures desk { self.new.desk ≡ self.old.desk }
+        ensures list { self.new.accepted ≡ self.old.accepted }
+        ensures published { OnOk result (self.new.published ≡ self.new.accepted) }
+        ensures stays { OnErr result (self.new.published ≡ self.old.published) }
+    {
+        if self.is_published {
+            return Ok(());
         }
-        let number = self.tables.commit(plan);
-        Ok(Accepted {
-            number,
-            whole: self.number(),
-        })
+        publish_kept(rt, &mut self.press, &mut self.kept)?;
+        self.is_published = true;
+        Ok(())
     }
 
-    /// The tables after all edits that were accepted.
-    pub fn tables(&self) -> &Tables
-        ensures lists { result.now.lists ≡ whole self.now }
-        ensures sound { Sound (whole self.now) }
+    /// The published list, for a seat to learn. It takes no memory and waits for nobody.
+    pub fn news(&mut self) -> DeskNews<J>
+        ensures told { result.list ≡ self.old.published }
+        ensures kept { self.new ≡ self.old }
     {
-        &self.tables
+        self.press.tell()
     }
 
-    /// The number of the tables: how many edits were accepted, in this store's whole life.
+    /// The engine, whose tables are those after the whole list. It takes no memory.
+    pub fn engine(&self) -> &Engine
+        ensures engine { result.now ≡ self.now.desk.engine }
+        ensures history { IsHistory (list_from (lists_of J.opening.engine) self.now.accepted) }
+        ensures after { whole self.now ≡ after (list_from (lists_of J.opening.engine) self.now.accepted) }
+        ensures begins { IsPrefix self.now.published self.now.accepted }
+    {
+        self.desk.engine()
+    }
+
+    /// The number of the whole list: how many edits were accepted, in the store's whole life. It takes no memory.
     pub fn number(&self) -> u64
         ensures { result ≡ number_at (whole self.now) }
     {
-        self.tables.number()
+        self.desk.number()
     }
 
-    /// Gives the keeper back. It takes no memory and is never refused.
-    pub fn close<R: Wait + Sync>(self, _rt: &R) -> K
+    /// Ends the desk and gives the keeper back. It may wait for a reader that is looking; it takes no memory and is never refused.
+    pub fn close<R: Wait>(self, rt: &R) -> K
         ensures keeper { result ≡ keeper_of self }
         ensures kept { K.Tells result → IsSame (tables_content (whole self)) (K.content result) }
     {
-        let Clerk { tables: _, keeper } = self;
-        keeper
+        let Clerk {
+            desk,
+            press,
+            kept: _,
+            is_published: _,
+        } = self;
+        press.close(rt);
+        desk.close()
     }
 }

@@ -36,6 +36,7 @@ pub(crate) fn keep<K: Keeper>(
     ensures never_falls { K.faults keeper.old ≤ K.faults keeper.new }
     ensures steady { result ≢ Err SubmitFault.KeeperFault → K.faults keeper.new ≡ K.faults keeper.old }
     ensures failed { IsErrOf result SubmitFault.KeeperFault → Rose (K.faults keeper.old) (K.faults keeper.new) }
+    ensures sure { K.NeverFails → result ≢ Err SubmitFault.KeeperFault }
 {
     let changes = changes(alloc, plan)?;
     if changes.is_empty() {

@@ -4,6 +4,7 @@ ghost use Rattle.desk_clerk.specs.Stored.{IsMadeOf};
 ghost use Rattle.desk_edge.specs.Content.{IsSame, key_cmp, key_of};
 ghost use Rattle.desk_edge.specs.declared.key.Key.{Key as Named};
 ghost use Rattle.desk_edge.specs.declared.record.Record.{Record};
+ghost use Rattle.desk_engine.specs.Engine.{lists_of};
 ghost use Rattle.desk_history.specs.Breaches.{IsBrokenAt};
 ghost use Rattle.desk_history.specs.Sound.{Sound};
 ghost use Rattle.desk_model.specs.Lists.{IsOrdered, Lists};
@@ -12,8 +13,9 @@ ghost use Rattle.desk_rows.specs.Rows.{IsByKey};
 
 use crate::open_fault::OpenFault;
 use desk_edge::{Key, Record};
+use desk_engine::Engine;
 use desk_records::row_of_record;
-use desk_tables::{Gathering, Tables};
+use desk_tables::Gathering;
 use desk_text::OutOfMemory;
 use std::alloc::Global;
 
@@ -47,14 +49,14 @@ impl Stored {
         }
     }
 
-    /// The sound tables that have the records.
+    /// An engine of the sound tables that have the records.
     ///
     /// `Damaged`: no sound tables have them; it names a record that no row has, or a row that breaks a clause of soundness.
     /// `OutOfMemory`: none was left to find out.
-    pub(crate) fn into_tables(self, alloc: Global) -> Result<Tables, OpenFault>
-        ensures sound { IfOk result (λ tables. Sound tables.lists) }
-        ensures same { IfOk result (λ tables. (records : List Record) → IsByKey key_of key_cmp records → IsMadeOf records self
-            → IsSame (content_in records) (tables_content tables.lists)) }
+    pub(crate) fn into_engine(self, alloc: Global) -> Result<Engine, OpenFault>
+        ensures sound { IfOk result (λ engine. Sound (lists_of engine)) }
+        ensures same { IfOk result (λ engine. (records : List Record) → IsByKey key_of key_cmp records → IsMadeOf records self
+            → IsSame (content_in records) (tables_content (lists_of engine))) }
         ensures damage { (kind : ℕ) (code : List ℕ) → result ≡ Err (OpenFault.Damaged kind code)
             → (records : List Record) → IsByKey key_of key_cmp records → IsMadeOf records self → IsDamage records kind code }
         ensures not_sound { (kind : ℕ) (code : List ℕ) → result ≡ Err (OpenFault.Damaged kind code)
@@ -66,7 +68,7 @@ impl Stored {
         ensures memory { (key : Named) → self ≡ Stored.NoRow key → result ≢ Err OpenFault.OutOfMemory }
     {
         match self {
-            Stored::Rows(gathering) => sound_tables(alloc, gathering),
+            Stored::Rows(gathering) => sound_engine(alloc, gathering),
             Stored::NoRow(key) => Err(OpenFault::Damaged {
                 kind: key.kind,
                 code: key.code,
@@ -75,11 +77,11 @@ impl Stored {
     }
 }
 
-/// The tables of the rows, if they are sound.
+/// An engine of the tables of the rows, if they are sound.
 ///
 /// `Damaged`: they aren't; it names a row that breaks a clause of soundness. `OutOfMemory`: none was left to find out.
-fn sound_tables(alloc: Global, gathering: Gathering) -> Result<Tables, OpenFault>
-    ensures sound { IfOk result (λ tables. (tables.lists ≡ gathering) × Sound tables.lists) }
+fn sound_engine(alloc: Global, gathering: Gathering) -> Result<Engine, OpenFault>
+    ensures sound { IfOk result (λ engine. (lists_of engine ≡ gathering) × Sound (lists_of engine)) }
     ensures damage { (kind : ℕ) (code : List ℕ) → result ≡ Err (OpenFault.Damaged kind code) → IsOrdered gathering × IsBrokenAt gathering kind code }
     ensures not_sound { (kind : ℕ) (code : List ℕ) → result ≡ Err (OpenFault.Damaged kind code) → Sound gathering → ⊥ }
     ensures no_fault { result ≢ Err OpenFault.KeeperFault }
@@ -87,8 +89,8 @@ fn sound_tables(alloc: Global, gathering: Gathering) -> Result<Tables, OpenFault
     let tables = gathering.into_tables();
     // The call does nothing but say that the lists stand in order.
     tables.in_order();
-    match tables.is_sound(alloc) {
-        Ok(()) => Ok(tables),
+    match Engine::from_tables(alloc, tables) {
+        Ok(engine) => Ok(engine),
         Err(fault) => Err(fault.into()),
     }
 }

@@ -1,3 +1,4 @@
+pub mod Answering
 pub mod Buffers
 pub mod InOrder
 pub mod Meeting

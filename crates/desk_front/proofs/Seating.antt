@@ -1,7 +1,7 @@
 -- What a seat and an editor say in one turn.
 use Rattle.std.proofs.Common.{◌≡◌, ℕ, ◌≤◌, Bool, List, [], ◌∷◌, ◌++◌, Option, None, Some, Result, Ok, Err, arith, refl, sym, ap, ◌∙◌, subst, inl, inr, append-nil}
 use Rattle.desk_edge.specs.Faults.{Rose}
-use Rattle.desk_history.specs.History.{Begins, History, IsHistory, after, number_of}
+use Rattle.desk_history.specs.History.{Begins, History, after, number_of}
 use Rattle.desk_history.proofs.Beginnings.{begins_itself}
 use Rattle.desk_http.specs.Reply.{Reply, bytes_with, fixed, fixed_reply, with_body}
 use Rattle.desk_http.specs.declared.fixed.Fixed.{Fixed}
@@ -22,7 +22,7 @@ given_none None = refl
 given_none (Some entries) = ap (λ l. Some l) (sym (append-nil entries))
 
 pub stays : (old : Sitting) → Moves old [] old
-stays old = record { begins = begins_itself old.seen; history = λ h. h; counted = omega arith; given = given_none old.given }
+stays old = record { begins = begins_itself old.seen; counted = omega arith; given = given_none old.given }
 
 -- what asks nothing gets its reply, and whatever is asked may lack memory
 module _ (NeverFails : Type 0) where
@@ -38,33 +38,31 @@ module _ (NeverFails : Type 0) where
       said (edit made) = (refl, inl refl)
 
 -- a seat's list grows by a look, and the editor isn't asked
-looked : (before now : History) (faults : ℕ) (given : Option (List Given)) → Begins before now → (IsHistory before → IsHistory now)
+looked : (before now : History) (faults : ℕ) (given : Option (List Given)) → Begins before now
     → Moves (sitting before faults given) [] (sitting now faults given)
-looked before now faults given x h = record { begins = x; history = h; counted = omega arith; given = given_none given }
+looked before now faults given x = record { begins = x; counted = omega arith; given = given_none given }
 
 pub says_answer : (NeverFails : Type 0) (before now : History) (faults : ℕ) (given : Option (List Given)) (asked : Question) (close : Bool) → Begins before now
-    → (IsHistory before → IsHistory now)
     → Says (SeatTurn NeverFails) (sitting before faults given) (question asked) close (bytes_with close (answer_at (after now) asked)) (sitting now faults given)
-says_answer NeverFails before now faults given asked close x h = (answer_at (after now) asked, [], (looked before now faults given x h, inl (refl, refl)), refl)
+says_answer NeverFails before now faults given asked close x = (answer_at (after now) asked, [], (looked before now faults given x, inl (refl, refl)), refl)
 
 pub says_unanswered : (NeverFails : Type 0) (before now : History) (faults : ℕ) (given : Option (List Given)) (asked : Question) (close : Bool) (refused : Fixed)
-    → refused ≡ refusal.Memory → Begins before now → (IsHistory before → IsHistory now)
+    → refused ≡ refusal.Memory → Begins before now
     → Says (SeatTurn NeverFails) (sitting before faults given) (question asked) close (fixed_reply refused close) (sitting now faults given)
-says_unanswered NeverFails before now faults given asked close refused e x h =
+says_unanswered NeverFails before now faults given asked close refused e x =
     subst (λ r. Says (SeatTurn NeverFails) (sitting before faults given) (question asked) close (fixed_reply r close) (sitting now faults given)) (sym e)
-    (fixed refusal.Memory, [], (looked before now faults given x h, inr (inl (refl, refl))), fixed_bytes refusal.Memory close)
+    (fixed refusal.Memory, [], (looked before now faults given x, inr (inl (refl, refl))), fixed_bytes refusal.Memory close)
 
 -- what an editor promises of an edit that it has answered so
 pub record IsEdited (old : Sitting) (made : Edit) (answer : Edited) (before behind : List ℕ) (new : Sitting) : Type 0 where
   pub begins : Begins old.seen new.seen
-  pub history : IsHistory old.seen → IsHistory new.seen
   pub answers : AnswersEdit old.seen new.seen made answer before behind
   pub counted : old.faults ≤ new.faults
   pub given : new.given ≡ with_given old.given (given_for made (number_of new.seen) answer ∷ [])
 
 edited_moves : (old new : Sitting) (made : Edit) (answer : Edited) (before behind : List ℕ) → IsEdited old made answer before behind new
     → Moves old (given_for made (number_of new.seen) answer ∷ []) new
-edited_moves old new made answer before behind x = record { begins = x.begins; history = x.history; counted = x.counted; given = x.given }
+edited_moves old new made answer before behind x = record { begins = x.begins; counted = x.counted; given = x.given }
 
 whole_reply : (whole met : ℕ) (judged : Result ℕ RuleFault) (status : ℕ) → status ≡ edited_status (edited_of judged)
     → with_body status (reply_to_edit whole met judged).body ≡ reply_to_edit whole met judged
@@ -103,7 +101,7 @@ says_untold NeverFails old new made answer before behind close refused e x =
 
 -- the editor had no answer: the seat and the editor's list are as before
 failed_moves : (seen : History) (old new : ℕ) (given now : Option (List Given)) → old ≤ new → now ≡ given → Moves (sitting seen old given) [] (sitting seen new now)
-failed_moves seen old new given now count e = record { begins = begins_itself seen; history = λ h. h; counted = count; given = e ∙ given_none given }
+failed_moves seen old new given now count e = record { begins = begins_itself seen; counted = count; given = e ∙ given_none given }
 
 pub says_unmade : (NeverFails : Type 0) (seen left : History) (old new : ℕ) (given now : Option (List Given)) (made : Edit) (close : Bool) → left ≡ seen → old ≤ new
     → now ≡ given → Says (SeatTurn NeverFails) (sitting seen old given) (edit made) close (fixed_reply refusal.Memory close) (sitting left new now)

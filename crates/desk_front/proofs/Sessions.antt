@@ -2,13 +2,16 @@
 use Rattle.std.proofs.Common.{◌≡◌, ◌≢◌, ℕ, ◌≤◌, List, [], ◌∷◌, ◌++◌, Option, None, Some, Result, Ok, Err, refl, sym, ap, ◌∙◌, subst, inl, inr, append_assoc, arith}
 use Rattle.std.specs.List.{AllByRecursion}
 use Rattle.desk_edge.specs.Faults.{Rose}
-use Rattle.desk_history.specs.History.{Begins, History, IsHistory, after, number_of, up_to}
+use Rattle.desk_history.specs.History.{AreAccepted, Begins, History, IsHistory, after, number_of, up_to}
+use Rattle.desk_history.specs.Sound.{Sound}
+use Rattle.desk_history.specs.Step.{step}
 use Rattle.desk_history.proofs.Beginnings.{begins_number, begins_onward, opening_number, up_to_all, up_to_longer}
 use Rattle.desk_http.specs.Reply.{Reply, fixed}
 use Rattle.desk_http.specs.Rest.{Message}
 use Rattle.desk_http.specs.Routes.{route_of}
 use Rattle.desk_http.specs.declared.fixed.Fixed.TheVariants as refusal
-use Rattle.desk_model.specs.Lists.{number_at}
+use Rattle.desk_model.specs.Lists.{Lists, number_at}
+use Rattle.desk_model.specs.declared.edit.Edit.{Edit}
 use Rattle.desk_model.specs.declared.rule_fault.RuleFault.{RuleFault}
 use Rattle.desk_scratch.specs.Eval.{eval}
 use Rattle.desk_front.specs.Asked.{Asked, asked_of, edit, nothing, question}
@@ -32,9 +35,20 @@ given_onward (Some entries) first others = ap (λ l. Some l) (append_assoc entri
 moves_onward : (a b c : Sitting) (first others : List Given) → Moves a first b → Moves b others c → Moves a (first ++ others) c
 moves_onward a b c first others x y = record {
   begins = begins_onward a.seen b.seen c.seen x.begins y.begins;
-  history = λ h. y.history (x.history h);
   counted = omega (arith, x.counted, y.counted);
   given = y.given ∙ ap (λ g. with_given g others) x.given ∙ given_onward a.given first others;
+}
+
+-- ---- beginnings of a history are histories
+
+accepted_first : (t : Lists) (first others : List Edit) → AreAccepted t (first ++ others) → AreAccepted t first
+accepted_first t [] others x = tt
+accepted_first t (made ∷ first) others x = (x.0, accepted_first (step t made).1 first others x.1)
+
+begins_history : (part history : History) → IsHistory history → Begins part history → IsHistory part
+begins_history part history h x = record {
+  sound = subst Sound (sym x.opening) h.sound;
+  accepted = accepted_first part.opening part.edits x.rest (subst (AreAccepted part.opening) x.edits (subst (λ t. AreAccepted t history.edits) (sym x.opening) h.accepted));
 }
 
 -- ---- each reply is told at the seat's list after it
@@ -66,29 +80,29 @@ module _ (NeverFails : Type 0) where
   session_moves old new (m ∷ ms) (one ∷ told) x =
       moves_onward old x.0 new one.added (added_by told) x.1.0.0 (session_moves x.0 new ms told x.2)
 
-  turn_told : (old new : Sitting) (m : Message) (reply : Reply) (added : List Given) → IsHistory old.seen → SeatTurn NeverFails old (asked_of m) reply added new
+  turn_told : (old new : Sitting) (m : Message) (reply : Reply) (added : List Given) → IsHistory new.seen → SeatTurn NeverFails old (asked_of m) reply added new
       → IsAnswered new.seen (met_by old) m reply (met_by new)
-  turn_told old new m reply added h (moves, inl y) = inl (said_told old.seen new.seen (asked_of m) reply added h (moves.history h) moves.begins y)
+  turn_told old new m reply added h (moves, inl y) = inl (said_told old.seen new.seen (asked_of m) reply added (begins_history old.seen new.seen h moves.begins) h moves.begins y)
   turn_told old new m reply added h (moves, inr (inl y)) =
-      inr (said_told_of_memory old.seen new.seen (asked_of m) reply added h (moves.history h) moves.begins y)
+      inr (said_told_of_memory old.seen new.seen (asked_of m) reply added (begins_history old.seen new.seen h moves.begins) h moves.begins y)
   turn_told old new m reply added h (moves, inr (inr y)) =
       inl (subst (λ a. IsTold new.seen a (met_by old) reply (met_by new)) (sym y.1) (inr (y.2, ap number_of y.4)))
 
   -- a conversation from a seat's list to another is a talk over the list at the end
-  session_talks : (old new : Sitting) (ms : List Message) (told : List (Told Given)) → IsHistory old.seen → Conversation (SeatTurn NeverFails) met_by old ms told new
+  session_talks : (old new : Sitting) (ms : List Message) (told : List (Told Given)) → IsHistory new.seen → Conversation (SeatTurn NeverFails) met_by old ms told new
       → InOrder (IsNumbered new.seen) (met_by old) ms (numbered_of told) (met_by new)
   session_talks old new [] [] h x = ap met_by x
   session_talks old new [] (one ∷ told) h x = absurd x
   session_talks old new (m ∷ ms) [] h x = absurd x
   session_talks old new (m ∷ ms) (one ∷ told) h x =
-      let next : IsHistory x.0.seen = x.1.0.0.history h in
-      let rest = session_moves x.0 new ms told x.2 in (
+      let rest = session_moves x.0 new ms told x.2 in
+      let next : IsHistory x.0.seen = begins_history x.0.seen new.seen h rest.begins in (
         met_by x.0,
         (
-          answered_longer x.0.seen new.seen next (rest.history next) rest.begins m (met_by old) one.reply (met_by x.0) (turn_told old x.0 m one.reply one.added h x.1.0),
+          answered_longer x.0.seen new.seen next h rest.begins m (met_by old) one.reply (met_by x.0) (turn_told old x.0 m one.reply one.added next x.1.0),
           x.1.1,
         ),
-        session_talks x.0 new ms told next x.2,
+        session_talks x.0 new ms told h x.2,
       )
 
   -- ---- what the editor's list gains
@@ -171,33 +185,33 @@ module _ (NeverFails : Type 0) where
   same_replies (one ∷ told) = ap (λ l. one.reply ∷ l) (same_replies told)
 
   -- the answers of a conversation are at lists from the first to the last
-  session_begins : (start left : Sitting) (ms : List Message) (told : List (Told Given)) → Conversation (SeatTurn NeverFails) met_by start ms told left → IsHistory start.seen
+  session_begins : (start left : Sitting) (ms : List Message) (told : List (Told Given)) → Conversation (SeatTurn NeverFails) met_by start ms told left → IsHistory left.seen
       → InOrder (BeginsWithAllMet left.seen) start.seen ms (replies_of told) left.seen
-  session_begins start left ms told x h =
+  session_begins start left ms told x ends =
       let moves = session_moves start left ms told x in
-      let ends : IsHistory left.seen = moves.history h in
+      let h : IsHistory start.seen = begins_history start.seen left.seen ends moves.begins in
       let opens = opening_number start.seen h in
       let opened : number_at left.seen.opening ≤ met_by start = omega (arith, opens, ap number_at moves.begins.opening) in
       let first : up_to left.seen (met_by start) ≡ start.seen = up_to_longer start.seen left.seen (met_by start) h ends moves.begins opens (omega arith) ∙ up_to_all start.seen h in
       let each : InOrder (BeginsWithAllMet left.seen) (up_to left.seen (met_by start)) ms (replies_of told) (up_to left.seen (met_by left)) =
       begins_each left.seen (met_by start) (met_by left) ms (replies_of told) ends opened (begins_number start.seen left.seen h ends moves.begins)
       (subst (λ l. InOrder (IsAnswered left.seen) (met_by start) ms l (met_by left)) (same_replies told)
-      (replies_each left.seen (met_by start) (met_by left) ms (numbered_of told) (session_talks start left ms told h x))) in
+      (replies_each left.seen (met_by start) (met_by left) ms (numbered_of told) (session_talks start left ms told ends x))) in
       subst (λ a. InOrder (BeginsWithAllMet left.seen) a ms (replies_of told) left.seen) first
       (subst (λ b. InOrder (BeginsWithAllMet left.seen) (up_to left.seen (met_by start)) ms (replies_of told) b) (up_to_all left.seen ends) each)
 
   pub links : (start left : Sitting) (ms : List Message) (told : List (Told Given)) (said : List ℕ) → Conversation (SeatTurn NeverFails) met_by start ms told left
-      → said ≡ all_bytes ms (replies_of told) → Links NeverFails start left ms said
-  links start left ms told said x e =
+      → said ≡ all_bytes ms (replies_of told) → IsHistory left.seen → Links NeverFails start left ms said
+  links start left ms told said x e ends =
       let moves = session_moves start left ms told x in
       record {
         told = told;
         bytes = e;
         turns = x;
         grown = moves.begins;
-        history = moves.history;
-        talk = λ h. (met_by left, session_talks start left ms told h x);
-        begin = session_begins start left ms told x;
+        history = ends;
+        talk = (met_by left, session_talks start left ms told ends x);
+        begin = session_begins start left ms told x ends;
         given = moves.given;
         gains = session_gains start left ms told x;
         counted = moves.counted;

@@ -3,15 +3,18 @@ use Rattle.std.proofs.Common.{◌≡◌, ◌≢◌, ◌⊎◌, ℕ, ◌+◌, ◌
 use Rattle.std.specs.List.{AllByRecursion}
 use Rattle.desk_model.specs.Lists.{number_at}
 use Rattle.desk_declare.specs.declared.declare_fault.DeclareFault.{DeclareFault}
+use Rattle.desk_clerk.specs.Published.{added_at}
+use Rattle.desk_clerk.proofs.Growing.{Grows, accepted_on, after_on, grows_at}
 use Rattle.desk_edge.specs.Faults.{Rose}
 use Rattle.desk_edits.specs.declared.json_fault.JsonFault.{JsonFault}
 use Rattle.desk_declare.specs.Declaration.{declaration_of}
 use Rattle.desk_edits.specs.Edit.{edit_of}
-use Rattle.desk_history.specs.History.{AreAccepted, Begins, History, after, number_of, tables_after, up_to}
+use Rattle.desk_history.specs.History.{AreAccepted, Begins, History, IsHistory, after, number_of, tables_after, up_to}
 use Rattle.desk_history.specs.Refused.{refused}
 use Rattle.desk_history.specs.Sound.{Sound}
 use Rattle.desk_history.specs.Step.{kept_number, step}
 use Rattle.desk_history.proofs.Histories.{tickets-tables_after, up_to-only}
+use Rattle.desk_history.proofs.SoundSteps.{Sound-tables_after}
 use Rattle.desk_history.proofs.Steps.{kept-entered, step-accepted, step-kept, step-refused}
 use Rattle.desk_http.specs.Rest.{Message}
 use Rattle.desk_http.specs.Routes.{route_of}
@@ -32,34 +35,13 @@ use Rattle.desk_front.specs.Replies.{all_bytes, answer_at, evaluated, reply_to_e
 use Rattle.desk_front.specs.InOrder.{InOrder}
 use Rattle.desk_front.specs.Talk.{Follows, IsAnswered, IsJudged, IsTold, IsToldOfMemory, TellsJudgement}
 use Rattle.desk_front.specs.Told.{Conversation, Told, added_by, replies_of}
-use Rattle.desk_front.specs.Turn.{Converses, Standing, Turn, added_at, if_new}
+use Rattle.desk_front.specs.Turn.{Converses, Standing, Turn}
 use Rattle.desk_front.proofs.InOrder.{in_order_relates}
 
 abbrev met_of : Standing → ℕ
 met_of standing = standing.met
 
 -- ---- what a turn adds to the list
-
-pub accepted_on : (t : Lists) (first others : List Edit) → AreAccepted t first → AreAccepted (tables_after t first) others → AreAccepted t (first ++ others)
-accepted_on t [] others x y = y
-accepted_on t (made ∷ first) others x y = (x.0, accepted_on (step t made).1 first others x.1 y)
-
-pub after_on : (t : Lists) (first others : List Edit) → tables_after t (first ++ others) ≡ tables_after (tables_after t first) others
-after_on t [] others = refl
-after_on t (made ∷ first) others = after_on (step t made).1 first others
-
--- a list of edits that are accepted at tables, and the tables that it leaves
-abbrev Grows : Lists → List Edit → Lists → Type 0
-Grows t added new = AreAccepted t added × (tables_after t added ≡ new)
-
-grows_by : (t : Lists) (made : Edit) (kept : Option ℕ) (broken : Option RuleFault) → is_edit_in_form made ≡ true → kept_number t made ≡ kept → refused t made ≡ broken
-    → Grows t (if_new made kept broken) (step t made).1
-grows_by t made (Some number) broken form a b = (tt, sym (ap (λ s. s.1) (step-kept t made number a)))
-grows_by t made None (Some cause) form a b = (tt, sym (ap (λ s. s.1) (step-refused t made cause a b)))
-grows_by t made None None form a b = ((record { in_form = form; is_new = a; is_unrefused = b }, tt), refl)
-
-grows_at : (t : Lists) (made : Edit) → is_edit_in_form made ≡ true → Grows t (added_at t made) (step t made).1
-grows_at t made form = grows_by t made (kept_number t made) (refused t made) form refl refl
 
 grows_nothing : (t new : Lists) (added : List Edit) → added ≡ [] → new ≡ t → Grows t added new
 grows_nothing t new added none same = subst (λ l. Grows t l new) (sym none) (tt, sym same)
@@ -85,6 +67,10 @@ conversation_grows old new (m ∷ ms) (one ∷ told) x =
       accepted_on old.whole one.added (added_by told) first.0 (subst (λ t. AreAccepted t (added_by told)) (sym first.1) others.0),
       after_on old.whole one.added (added_by told) ∙ ap (λ t. tables_after t (added_by told)) first.1 ∙ others.1,
     )
+
+-- the tables after a history are sound
+pub sound_after : (list : History) (t : Lists) → IsHistory list → t ≡ after list → Sound t
+sound_after list t h e = subst Sound (sym e) (Sound-tables_after list.opening list.edits h.sound h.accepted)
 
 -- ---- numbers
 
@@ -125,7 +111,7 @@ moment t before rest sound all some =
       within = omega (arith, tickets-tables_after t (before ++ rest) all, tickets-tables_after t before some, length-append before rest);
     }
 
-judged_so : (t : Lists) (made : Edit) (kept : Option ℕ) (broken : Option RuleFault) → kept_number t made ≡ kept → refused t made ≡ broken
+pub judged_so : (t : Lists) (made : Edit) (kept : Option ℕ) (broken : Option RuleFault) → kept_number t made ≡ kept → refused t made ≡ broken
     → IsJudged (step t made).1 made (step t made).0
 judged_so t made (Some number) broken a b = subst (λ s. IsJudged s.1 made s.0) (sym (step-kept t made number a)) a
 judged_so t made None (Some cause) a b = subst (λ s. IsJudged s.1 made s.0) (sym (step-refused t made cause a b)) (a, b)

@@ -1,5 +1,5 @@
 -- What a turn is, from what the calls that make it say.
-use Rattle.std.proofs.Common.{◌≡◌, ◌≢◌, ℕ, ◌≤◌, Bool, true, false, cond, List, [], ◌∷◌, Option, None, Some, Result, Ok, Err, is_ok, refl, sym, ap, ◌∙◌, subst, inl, inr}
+use Rattle.std.proofs.Common.{◌≡◌, ◌≢◌, ◌⊎◌, ℕ, ◌≤◌, Bool, true, false, cond, List, [], ◌∷◌, Option, None, Some, Result, Ok, Err, is_ok, refl, sym, ap, ◌∙◌, subst, inl, inr}
 use Rattle.std.specs.List.{find}
 use Rattle.std.specs.List.{AllByRecursion}
 use Rattle.std.specs.Option.{option_and_then, option_map_or}
@@ -15,6 +15,7 @@ use Rattle.desk_http.specs.declared.http_fault.HttpFault.TheVariants as cause
 use Rattle.desk_http.specs.declared.http_fault.QueryKey.{QueryKey}
 use Rattle.desk_http.specs.declared.http_fault.QueryKey.TheVariants as key
 use Rattle.desk_http.specs.declared.method.Method.{Method}
+use Rattle.desk_clerk.specs.Published.{added_at}
 use Rattle.desk_edge.specs.Faults.{Rose}
 use Rattle.desk_history.specs.Step.{kept_number, step}
 use Rattle.desk_http.specs.Reply.{Reply, bytes_with, fixed, fixed_reply, with_body}
@@ -28,7 +29,7 @@ use Rattle.desk_scratch.specs.declared.question.Question.{Question}
 use Rattle.desk_front.specs.Asked.{Asked, edit, nothing, question}
 use Rattle.desk_front.specs.Replies.{accepted_body, answer_at, reply_to_edit, refused_body}
 use Rattle.desk_front.specs.Told.{Says}
-use Rattle.desk_front.specs.Turn.{Standing, Turn, added_at}
+use Rattle.desk_front.specs.Turn.{Standing, Turn}
 use Rattle.desk_front.proofs.Saying.{fixed_bytes}
 
 -- what asks nothing gets its reply, and whatever is asked may lack memory
@@ -108,6 +109,13 @@ says_failed old new made close left met falls rose asked = (
   inr (inr (made, refl, refl, refl, falls, rose, (λ i. record { whole = left i; met = met i; faults = new.faults }), asked.0, asked.1)),
   fixed_bytes refusal.StoreFault close,
 )
+
+-- memory was wanting: nothing of the edit was made, or it is made and not published
+pub says_untold : {P Q R : Type 0} (old new : Standing) (made : Edit) (close : Bool) → is_edit_in_form made ≡ true
+    → (P × (new.whole ≡ old.whole)) ⊎ ((Q × (new.whole ≡ (step old.whole made).1)) × R) → new.met ≡ old.met → new.faults ≡ old.faults
+    → Says Turn old (edit made) close (fixed_reply refusal.Memory close) new
+says_untold old new made close form (inl x) met steady = says_unmade old new (edit made) close refusal.Memory refl x.1 met steady
+says_untold old new made close form (inr x) met steady = says_made old new made close refusal.Memory refl form x.0.1 met steady
 
 -- ---- the method that a path takes is one that the desk knows
 

@@ -1,4 +1,5 @@
 pub mod Asked
+pub mod Asking
 pub mod Held
 pub mod InOrder
 pub mod Laws

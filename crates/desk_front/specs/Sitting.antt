@@ -59,10 +59,9 @@ sitting seen faults given = record { seen = seen; faults = faults; given = given
 abbrev pub met_by : Sitting → ℕ
 met_by sitting = number_of sitting.seen
 
--- the seat's list begins with what it was before, and stays a history; the editor's count never falls, and its list gains these entries
+-- the seat's list begins with what it was before; the editor's count never falls, and its list gains these entries
 pub record Moves (old : Sitting) (added : List Given) (new : Sitting) : Type 0 where
   pub begins : Begins old.seen new.seen
-  pub history : IsHistory old.seen → IsHistory new.seen
   pub counted : old.faults ≤ new.faults
   pub given : new.given ≡ with_given old.given added
 
@@ -116,13 +115,13 @@ pub record Links (NeverFails : Type 0) (start left : Sitting) (requests : List M
   pub bytes : said ≡ all_bytes requests (replies_of told)
   -- each request has one turn, in order
   pub turns : Conversation (SeatTurn NeverFails) met_by start requests told left
-  -- the seat's list at the end begins with its list at entry, and is a history where that is one
+  -- the seat's list at the end begins with its list at entry, and is a history
   pub grown : Begins start.seen left.seen
-  pub history : IsHistory start.seen → IsHistory left.seen
+  pub history : IsHistory left.seen
   -- each reply is from that one list, at a number that is no smaller than those met before
-  pub talk : IsHistory start.seen → TalkAt left.seen (met_by start) requests (numbered_of told)
+  pub talk : TalkAt left.seen (met_by start) requests (numbered_of told)
   -- so each answer is at a list that begins with every list met: from the list at entry to the one at the end
-  pub begin : IsHistory start.seen → InOrder (BeginsWithAllMet left.seen) start.seen requests (replies_of told) left.seen
+  pub begin : InOrder (BeginsWithAllMet left.seen) start.seen requests (replies_of told) left.seen
   -- each 200 and 409 to an edit is the editor's, whose list gains what is told and nothing else
   pub given : left.given ≡ with_given start.given (added_by told)
   pub gains : Each (λ request one. Gains (asked_of request) one) requests told

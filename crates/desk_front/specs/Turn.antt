@@ -1,17 +1,16 @@
 -- One connection that has a clerk to itself, turn by turn: each answer is at the whole list of its moment.
-use Rattle.std.specs.Prelude.{◌≡◌, ◌≢◌, ℕ, ◌≤◌, ◌⊎◌, is_ok, true, List, [], ◌∷◌, Option, None, Some}
+use Rattle.std.specs.Prelude.{◌≡◌, ◌≢◌, ℕ, ◌≤◌, ◌⊎◌, is_ok, true, List, [], None}
 use Rattle.std.specs.List.{AllByRecursion}
 use Rattle.desk_model.specs.Lists.{number_at}
+use Rattle.desk_clerk.specs.Published.{added_at}
 use Rattle.desk_edge.specs.Faults.{Rose}
 use Rattle.desk_history.specs.History.{History, IsHistory, after}
-use Rattle.desk_history.specs.Refused.{refused}
 use Rattle.desk_history.specs.Step.{kept_number, step}
 use Rattle.desk_http.specs.Rest.{Message}
 use Rattle.desk_http.specs.declared.fixed.Fixed.TheVariants as refusal
 use Rattle.desk_model.specs.Forms.{is_edit_in_form}
 use Rattle.desk_model.specs.Lists.{Lists}
 use Rattle.desk_model.specs.declared.edit.Edit.{Edit}
-use Rattle.desk_model.specs.declared.rule_fault.RuleFault.{RuleFault}
 use Rattle.desk_front.specs.Asked.{Asked, edit, nothing, question}
 use Rattle.desk_http.specs.Reply.{Reply, fixed}
 use Rattle.desk_front.specs.Replies.{all_bytes, answer_at, reply_to_edit}
@@ -24,16 +23,6 @@ pub record Standing : Type 0 where
   pub whole : Lists
   pub met : ℕ
   pub faults : ℕ
-
--- the edit, where it isn't kept and no rule refuses it
-abbrev pub if_new : Edit → Option ℕ → Option RuleFault → List Edit
-if_new made (Some number) broken = []
-if_new made None (Some cause) = []
-if_new made None None = made ∷ []
-
--- what an edit adds to the list that leaves these tables: itself where it is new and accepted, and else nothing
-abbrev pub added_at : Lists → Edit → List Edit
-added_at t made = if_new made (kept_number t made) (refused t made)
 
 -- a request is answered: what it asks and the whole list say how. These edits were added to the list
 abbrev pub AnswersRequest : Standing → Asked → Reply → List Edit → Standing → Type 0

@@ -10,9 +10,10 @@ ghost use Rattle.desk_history.specs.Sound.{Sound};
 use crate::connection::Connection;
 use crate::served::Served;
 use crate::stream::serve;
-use desk_clerk::Clerk;
+use desk_clerk::{Clerk, DeskBoard};
 use desk_edge::{Keeper, Link};
 use desk_http::Routes;
+use desk_publish::Naming;
 use desk_text::Bytes;
 use std::alloc::Global;
 use std::sync::Wait;
@@ -28,10 +29,10 @@ use std::sync::Wait;
 /// ends, no more than these are read.
 /// `LinkFault`: the link counted a fault; what was written is a beginning of the replies. `OutOfMemory`: there was no memory for the
 /// routes and the buffer of 73,728 bytes, and nothing was read.
-pub fn serve_alone<R: Wait + Sync, L: Link, K: Keeper>(
+pub fn serve_alone<R: Wait + Sync, L: Link, K: Keeper, J: Naming<DeskBoard>>(
     rt: &R,
     alloc: Global,
-    clerk: &mut Clerk<K>,
+    clerk: &mut Clerk<K, J>,
     link: &mut L,
 ) -> Served
     ensures served { result ≢ Served.OutOfMemory → (bytes : List ℕ) × Consumes (L.unread link.old) (L.unread link.new) bytes × (length bytes ≤ stream_limit)
@@ -54,11 +55,11 @@ pub fn serve_alone<R: Wait + Sync, L: Link, K: Keeper>(
 }
 
 /// The same with the routes made.
-fn serve_by<R: Wait + Sync, L: Link, K: Keeper>(
+fn serve_by<R: Wait + Sync, L: Link, K: Keeper, J: Naming<DeskBoard>>(
     rt: &R,
     alloc: Global,
     routes: &Routes,
-    clerk: &mut Clerk<K>,
+    clerk: &mut Clerk<K, J>,
     link: &mut L,
 ) -> Served
     ensures served { result ≢ Served.OutOfMemory → (bytes : List ℕ) × Consumes (L.unread link.old) (L.unread link.new) bytes × (length bytes ≤ stream_limit)
@@ -73,7 +74,8 @@ fn serve_by<R: Wait + Sync, L: Link, K: Keeper>(
     ensures failed { result ≡ Served.LinkFault → Rose (L.faults link.old) (L.faults link.new) }
     ensures keeper_never_falls { K.faults (keeper_of clerk.old) ≤ K.faults (keeper_of clerk.new) }
 {
-    clerk.tables();
+    // The call says that the tables are sound.
+    clerk.engine();
     let met = clerk.number();
     let mut room = Bytes::start(alloc);
     let body = &mut room;
@@ -87,11 +89,11 @@ fn serve_by<R: Wait + Sync, L: Link, K: Keeper>(
 }
 
 /// Serves one stream by a connection that has met its clerk's whole list.
-fn serve_connection<R: Wait + Sync, L: Link, K: Keeper>(
+fn serve_connection<R: Wait + Sync, L: Link, K: Keeper, J: Naming<DeskBoard>>(
     rt: &R,
     alloc: Global,
     link: &mut L,
-    connection: &mut Connection<'_, K>,
+    connection: &mut Connection<'_, '_, K, J>,
 ) -> Served
     requires sound { Sound (whole connection.old.clerk.now) }
     requires met { connection.old.met ≡ number_at (whole connection.old.clerk.now) }

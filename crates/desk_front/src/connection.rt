@@ -13,12 +13,13 @@ use crate::answerer::Answerer;
 use crate::wording::{
     tell_accepted, tell_answer, tell_bad_declaration, tell_bad_edit, tell_no_ask, tell_refused,
 };
-use desk_clerk::{Clerk, SubmitFault};
+use desk_clerk::{Clerk, DeskBoard, SubmitFault};
 use desk_declare::read_declaration;
 use desk_edge::Keeper;
 use desk_edits::read_edit;
 use desk_http::{Ask, Fixed, Request, Routes, route};
 use desk_model::Edit;
+use desk_publish::Naming;
 use desk_scratch::Question;
 use desk_text::Bytes;
 use std::alloc::Global;
@@ -26,18 +27,18 @@ use std::sync::Wait;
 
 /// A connection that has a clerk to itself: each request is answered at the clerk's whole list of that moment.
 #[derive(Drop)]
-pub(crate) struct Connection<'a, K: Keeper> {
+pub(crate) struct Connection<'a, 'c, K: Keeper, J: Naming<DeskBoard>> {
     /// The routes of requests.
     pub(crate) routes: &'a Routes,
     /// The clerk.
-    pub(crate) clerk: &'a mut Clerk<K>,
+    pub(crate) clerk: &'c mut Clerk<K, J>,
     /// The number of the longest list that the connection has met.
     pub(crate) met: u64,
     /// Room for the body of an answer, which is kept from one to the next.
     pub(crate) body: &'a mut Bytes,
 }
 
-impl<K: Keeper> Answerer for Connection<'_, K> {
+impl<K: Keeper, J: Naming<DeskBoard>> Answerer for Connection<'_, '_, K, J> {
     ghost use Rattle.std.specs.Prelude.{◌≡◌, ℕ, List};
     ghost use Rattle.desk_clerk.specs.Clerk.{keeper_of, whole};
     ghost use Rattle.desk_front.specs.Told.{Turns};
@@ -61,7 +62,7 @@ impl<K: Keeper> Answerer for Connection<'_, K> {
         let met = &mut self.met;
         match route(alloc, self.routes, buffer, request) {
             Ok(Ask::Question(question)) => {
-                answer(alloc, self.clerk, met, &question, close, self.body, out)
+                answer(rt, alloc, self.clerk, met, &question, close, self.body, out)
             }
             Ok(Ask::Edit) => enter_json(rt, alloc, self.clerk, met, body, close, out),
             Ok(Ask::Declaration) => enter_csv(rt, alloc, self.clerk, met, body, close, out),
@@ -70,10 +71,11 @@ impl<K: Keeper> Answerer for Connection<'_, K> {
     }
 }
 
-/// Answers a question at the clerk's whole list, which is met with that.
-fn answer<K: Keeper>(
+/// Answers a question at the clerk's whole list, which is met with that. What waits to be published is published first.
+fn answer<R: Wait + Sync, K: Keeper, J: Naming<DeskBoard>>(
+    rt: &R,
     alloc: Global,
-    clerk: &Clerk<K>,
+    clerk: &mut Clerk<K, J>,
     met: &mut u64,
     question: &Question,
     close: bool,
@@ -82,15 +84,19 @@ fn answer<K: Keeper>(
 ) -> Result<(), Fixed>
     requires { is_question_in_range question.now ≡ true }
     ensures ok { OnOk result ((said : List ℕ) × (out.new ≡ out.old ++ said)
-        × Says Turn (record { whole = whole clerk.now; met = met.old; faults = K.faults (keeper_of clerk.now) }) (a_question question.now) close said
-        (record { whole = whole clerk.now; met = met.new; faults = K.faults (keeper_of clerk.now) })) }
+        × Says Turn (record { whole = whole clerk.old; met = met.old; faults = K.faults (keeper_of clerk.old) }) (a_question question.now) close said
+        (record { whole = whole clerk.new; met = met.new; faults = K.faults (keeper_of clerk.new) })) }
     ensures fixed { IfErr result (λ fixed.
-        Says Turn (record { whole = whole clerk.now; met = met.old; faults = K.faults (keeper_of clerk.now) }) (a_question question.now) close (fixed_reply fixed close)
-        (record { whole = whole clerk.now; met = met.new; faults = K.faults (keeper_of clerk.now) })) }
+        Says Turn (record { whole = whole clerk.old; met = met.old; faults = K.faults (keeper_of clerk.old) }) (a_question question.now) close (fixed_reply fixed close)
+        (record { whole = whole clerk.new; met = met.new; faults = K.faults (keeper_of clerk.new) })) }
     ensures allow { IfErr result (λ fixed. allow_of fixed ≢ Some method.Other) }
     ensures err { OnErr result (out.new ≡ out.old) }
+    ensures told { K.Tells (keeper_of clerk.new) → K.Tells (keeper_of clerk.old) }
 {
-    match tell_answer(alloc, clerk.tables(), question, close, body, out) {
+    if clerk.catch_up(rt).is_err() {
+        return Err(Fixed::Memory);
+    }
+    match tell_answer(alloc, clerk.engine(), question, close, body, out) {
         Ok(()) => {
             *met = clerk.number();
             Ok(())
@@ -100,10 +106,10 @@ fn answer<K: Keeper>(
 }
 
 /// Enters the edit that a body in JSON is.
-fn enter_json<R: Wait + Sync, K: Keeper>(
+fn enter_json<R: Wait + Sync, K: Keeper, J: Naming<DeskBoard>>(
     rt: &R,
     alloc: Global,
-    clerk: &mut Clerk<K>,
+    clerk: &mut Clerk<K, J>,
     met: &mut u64,
     body: &[u8],
     close: bool,
@@ -126,10 +132,10 @@ fn enter_json<R: Wait + Sync, K: Keeper>(
 }
 
 /// Enters the declaration that a body in CSV is.
-fn enter_csv<R: Wait + Sync, K: Keeper>(
+fn enter_csv<R: Wait + Sync, K: Keeper, J: Naming<DeskBoard>>(
     rt: &R,
     alloc: Global,
-    clerk: &mut Clerk<K>,
+    clerk: &mut Clerk<K, J>,
     met: &mut u64,
     body: &[u8],
     close: bool,
@@ -152,10 +158,10 @@ fn enter_csv<R: Wait + Sync, K: Keeper>(
 }
 
 /// Enters an edit, and tells how it was judged at the clerk's whole list, which is met with that.
-fn enter<R: Wait + Sync, K: Keeper>(
+fn enter<R: Wait + Sync, K: Keeper, J: Naming<DeskBoard>>(
     rt: &R,
     alloc: Global,
-    clerk: &mut Clerk<K>,
+    clerk: &mut Clerk<K, J>,
     met: &mut u64,
     edit: Edit,
     close: bool,

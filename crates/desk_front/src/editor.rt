@@ -2,7 +2,7 @@ ghost use Rattle.std.specs.Prelude.{◌≡◌, ◌≢◌, ◌≤◌, [], ◌∷�
 ghost use Rattle.desk_edge.specs.Faults.{Rose};
 ghost use Rattle.desk_front.specs.Sitting.{AnswersEdit, given_for, with_given};
 ghost use Rattle.desk_front.specs.declared.given.Given.{Given};
-ghost use Rattle.desk_history.specs.History.{Begins, IsHistory, number_of};
+ghost use Rattle.desk_history.specs.History.{Begins, number_of};
 
 use crate::edited::{EditFailed, Edited};
 use crate::seat::Seat;
@@ -37,7 +37,6 @@ pub trait Editor<S: Seat> {
         out: &mut Bytes,
     ) -> Result<Edited, EditFailed>
         ensures grown { OnOk result (Begins (S.list seat.old) (S.list seat.new)) }
-        ensures history { IsHistory (S.list seat.old) → IsHistory (S.list seat.new) }
         ensures answer { IfOk result (λ answer. AnswersEdit (S.list seat.old) (S.list seat.new) edit answer out.old out.new) }
         ensures given { IfOk result (λ answer. given self.new ≡ with_given (given self.old) (given_for edit (number_of (S.list seat.new)) answer ∷ [])) }
         ensures err { OnErr result ((out.new ≡ out.old) × (seat.new ≡ seat.old) × (given self.new ≡ given self.old)) }

@@ -86,5 +86,8 @@ fn serve_linked<R: Wait + Sync, L: Link, E: Editor<S>, S: Seat>(
     ensures steady { result ≢ Served.LinkFault → L.faults link.new ≡ L.faults link.old }
     ensures failed { result ≡ Served.LinkFault → Rose (L.faults link.old) (L.faults link.new) }
 {
-    serve(rt, alloc, link, linked)
+    let served = serve(rt, alloc, link, linked);
+    // The call says that the edits of the list are accepted.
+    linked.seat.seen();
+    served
 }

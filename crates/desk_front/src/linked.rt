@@ -5,7 +5,7 @@ ghost use Rattle.desk_front.specs.Asked.{an_edit, of_csv, of_json};
 ghost use Rattle.desk_front.specs.Replies.{answer_at};
 ghost use Rattle.desk_front.specs.Sitting.{SeatTurn, sitting};
 ghost use Rattle.desk_front.specs.Told.{Says};
-ghost use Rattle.desk_history.specs.History.{Begins, IsHistory, after};
+ghost use Rattle.desk_history.specs.History.{Begins, after};
 ghost use Rattle.desk_http.specs.Reply.{allow_of, bytes_with, fixed_reply};
 ghost use Rattle.desk_http.specs.declared.fixed.Fixed.TheVariants as refusal;
 ghost use Rattle.desk_http.specs.declared.method.Method.TheVariants as method;
@@ -86,7 +86,6 @@ fn ask<R: Wait + Sync, S: Seat>(
 ) -> Result<(), AskFault>
     requires { is_question_in_range question.now ≡ true }
     ensures grown { Begins (S.list seat.old) (S.list seat.new) }
-    ensures history { IsHistory (S.list seat.old) → IsHistory (S.list seat.new) }
     ensures answer { OnOk result ((text : List ℕ) × (eval (after (S.list seat.new)) question.now ≡ Ok text) × (out.new ≡ out.old ++ text)) }
     ensures refusal { IfErr result (λ cause. cause ≢ ask.OutOfMemory → eval (after (S.list seat.new)) question.now ≡ Err cause) }
 {
@@ -112,7 +111,6 @@ fn answer<R: Wait + Sync, S: Seat>(
 ) -> Result<(), Fixed>
     requires { is_question_in_range question.now ≡ true }
     ensures grown { Begins (S.list seat.old) (S.list seat.new) }
-    ensures history { IsHistory (S.list seat.old) → IsHistory (S.list seat.new) }
     ensures ok { OnOk result (out.new ≡ out.old ++ bytes_with close (answer_at (after (S.list seat.new)) question.now)) }
     ensures memory { IfErr result (λ told. told ≡ refusal.Memory) }
     ensures err { OnErr result (out.new ≡ out.old) }

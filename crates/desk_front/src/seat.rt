@@ -18,9 +18,10 @@ pub trait Seat {
     // The longest list that it has seen or learnt.
     ghost list: { Self → History };
 
-    /// The number of the longest list that it has seen or learnt. It takes no memory.
+    /// The number of the longest list that it has seen or learnt, each edit of which is accepted. It takes no memory.
     fn seen(&self) -> u64
-        ensures { result ≡ number_of (list self.now) };
+        ensures number { result ≡ number_of (list self.now) }
+        ensures history { IsHistory (list self.now) };
 
     /// Looks once, and appends the answer to a question at the list that it sees, which begins with all that it has seen or learnt. It
     /// waits for nobody.
@@ -35,7 +36,6 @@ pub trait Seat {
     ) -> Result<(), QuestionFault>
         requires { is_question_in_range question.now ≡ true }
         ensures grown { Begins (list self.old) (list self.new) }
-        ensures history { IsHistory (list self.old) → IsHistory (list self.new) }
         ensures answer { OnOk result ((text : List ℕ) × (eval (after (list self.new)) question.now ≡ Ok text) × (out.new ≡ out.old ++ text)) }
         ensures refusal { IfErr result (λ fault. (cause : AskFault) → fault ≡ QuestionFault.Ask cause → cause ≢ ask.OutOfMemory
             → eval (after (list self.new)) question.now ≡ Err cause) }

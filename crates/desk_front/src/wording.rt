@@ -1,7 +1,7 @@
-ghost use Rattle.std.specs.Prelude.{◌≡◌, ◌≢◌, ◌++◌, ◌⊎◌, true, Some, IsTrue, Err, IfErr, OnErr, OnOk};
+ghost use Rattle.std.specs.Prelude.{◌≡◌, ◌≢◌, ◌++◌, ◌⊎◌, string_bytes, true, Some, IsTrue, Err, IfErr, IfOk, OnErr, OnOk};
 ghost use Rattle.desk_http.specs.Reply.{allow_of, bytes_with, fixed, is_reply_status, with_body};
 ghost use Rattle.desk_front.specs.Replies.{accepted_body, answer_at, bad_declaration_body, bad_edit_body, bad_query_body, no_answer_body, no_ask, refused_body};
-ghost use Rattle.desk_history.specs.Sound.{Sound};
+ghost use Rattle.desk_engine.specs.Engine.{lists_of};
 ghost use Rattle.desk_http.specs.declared.fixed.Fixed.TheVariants as refusal;
 ghost use Rattle.desk_http.specs.declared.http_fault.HttpFault.TheVariants as cause;
 ghost use Rattle.desk_http.specs.declared.http_fault.QueryKey.{QueryKey};
@@ -14,13 +14,13 @@ ghost use Rattle.desk_scratch.specs.Questions.{is_question_in_range};
 use desk_clerk::Accepted;
 use desk_declare::DeclareFault;
 use desk_edits::JsonFault;
+use desk_engine::Engine;
 use desk_http::{Fixed, HttpFault, QueryKey, write_reply};
 use desk_model::RuleFault;
-use desk_scratch::{AskFault, Question, answer_plain};
-use desk_tables::Tables;
-use desk_text::Bytes;
+use desk_scratch::{AskFault, Question};
+use desk_text::{Bytes, OutOfMemory};
 use http::StatusCode;
-use std::alloc::Global;
+use std::alloc::{AllocError, Global};
 
 /// Appends a reply with a body. Where there is no memory for it, that is the reply.
 pub(crate) fn tell(
@@ -44,23 +44,22 @@ pub(crate) fn tell(
 /// Appends the answer to a question, or that there is none. Its body is written into the room for it first, as its length comes before it.
 pub(crate) fn tell_answer(
     alloc: Global,
-    tables: &Tables,
+    engine: &Engine,
     question: &Question,
     close: bool,
     body: &mut Bytes,
     out: &mut Bytes,
 ) -> Result<(), Fixed>
-    requires sound { Sound tables.now.lists }
-    requires in_range { is_question_in_range question.now ≡ true }
-    ensures ok { OnOk result (out.new ≡ out.old ++ bytes_with close (answer_at tables.now.lists question.now)) }
+    requires { is_question_in_range question.now ≡ true }
+    ensures ok { OnOk result (out.new ≡ out.old ++ bytes_with close (answer_at (lists_of engine.now) question.now)) }
     ensures memory { IfErr result (λ told. told ≡ refusal.Memory) }
     ensures err { OnErr result (out.new ≡ out.old) }
 {
     body.truncate(0);
-    match answer_plain(alloc, tables, question, body) {
+    match engine.answer_uncounted(alloc, question, body) {
         Ok(()) => tell(StatusCode::OK, body.as_slice(), close, out),
         Err(AskFault::OutOfMemory) => Err(Fixed::Memory),
-        Err(fault) => tell_no_answer(alloc, tables.number(), &fault, close, out),
+        Err(fault) => tell_no_answer(alloc, engine.tables().number(), &fault, close, out),
     }
 }
 
@@ -84,7 +83,6 @@ pub(crate) fn tell_no_answer(
 }
 
 /// Appends that an edit is accepted, to one who had met the number before.
-#[tactic(auto, unfolding(crate::specs::Replies::accepted_body))]
 pub(crate) fn tell_accepted(
     alloc: Global,
     accepted: &Accepted,
@@ -96,15 +94,13 @@ pub(crate) fn tell_accepted(
     ensures memory { IfErr result (λ told. told ≡ refusal.Memory) }
     ensures err { OnErr result (out.new ≡ out.old) }
 {
-    let Accepted { number, whole } = *accepted;
-    let Ok(body) = format!(in alloc; "version {whole}\nseen {met}\naccepted {number}\n") else {
+    let Ok(body) = accepted_text(alloc, accepted, met) else {
         return Err(Fixed::Memory);
     };
     tell(StatusCode::OK, body.as_bytes(), close, out)
 }
 
 /// Appends that a rule refuses an edit, at a list of this number, to one who had met the other before.
-#[tactic(auto, unfolding(crate::specs::Replies::refused_body))]
 pub(crate) fn tell_refused(
     alloc: Global,
     fault: &RuleFault,
@@ -117,10 +113,61 @@ pub(crate) fn tell_refused(
     ensures memory { IfErr result (λ told. told ≡ refusal.Memory) }
     ensures err { OnErr result (out.new ≡ out.old) }
 {
-    let Ok(body) = format!(in alloc; "version {whole}\nseen {met}\nrefused {fault}\n") else {
+    let Ok(body) = refused_text(alloc, fault, whole, met) else {
         return Err(Fixed::Memory);
     };
     tell(StatusCode::CONFLICT, body.as_bytes(), close, out)
+}
+
+/// Appends the body alone that tells that an edit is accepted.
+pub(crate) fn push_accepted(
+    alloc: Global,
+    accepted: &Accepted,
+    met: u64,
+    out: &mut Bytes,
+) -> Result<(), OutOfMemory>
+    ensures ok { OnOk result (out.new ≡ out.old ++ accepted_body accepted.now.whole met accepted.now.number) }
+    ensures err { OnErr result (out.new ≡ out.old) }
+{
+    let body = accepted_text(alloc, accepted, met)?;
+    out.push_all(body.as_bytes())
+}
+
+/// Appends the body alone that tells which rule refuses an edit.
+pub(crate) fn push_refused(
+    alloc: Global,
+    fault: &RuleFault,
+    whole: u64,
+    met: u64,
+    out: &mut Bytes,
+) -> Result<(), OutOfMemory>
+    ensures ok { OnOk result (out.new ≡ out.old ++ refused_body whole met fault.now) }
+    ensures err { OnErr result (out.new ≡ out.old) }
+{
+    let body = refused_text(alloc, fault, whole, met)?;
+    out.push_all(body.as_bytes())
+}
+
+/// The body that tells that an edit is accepted, to one who had met the number before.
+#[tactic(auto, unfolding(crate::specs::Replies::accepted_body))]
+fn accepted_text(alloc: Global, accepted: &Accepted, met: u64) -> Result<String, AllocError>
+    ensures { IfOk result (λ text. string_bytes text ≡ accepted_body accepted.now.whole met accepted.now.number) }
+{
+    let Accepted { number, whole } = *accepted;
+    Ok(format!(in alloc; "version {whole}\nseen {met}\naccepted {number}\n")?)
+}
+
+/// The body that tells which rule refuses an edit at a list of this number, to one who had met the other before.
+#[tactic(auto, unfolding(crate::specs::Replies::refused_body))]
+fn refused_text(
+    alloc: Global,
+    fault: &RuleFault,
+    whole: u64,
+    met: u64,
+) -> Result<String, AllocError>
+    ensures { IfOk result (λ text. string_bytes text ≡ refused_body whole met fault.now) }
+{
+    Ok(format!(in alloc; "version {whole}\nseen {met}\nrefused {fault}\n")?)
 }
 
 /// Appends why a body in JSON is no edit.

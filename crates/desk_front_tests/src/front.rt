@@ -1,9 +1,15 @@
-use desk_clerk::Clerk;
+ghost use Rattle.std.specs.Prelude.{◌≡◌};
+ghost use Rattle.desk_clerk.specs.Clerk.{tables_of};
+ghost use Rattle.desk_engine.specs.Engine.{lists_of};
+
+use desk_clerk::{Clerk, DeskBoard, Opened, StoredDesk};
 use desk_edge::{Keeper, Link, MapKeeper, MemoryLink};
 use desk_front::{Served, serve_alone};
+use desk_publish::{BlankBook, Naming};
 use desk_text::Bytes;
 use std::alloc::Global;
 use std::fmt::Write;
+use std::marker::Brand;
 use std::sync::Wait;
 use std::test::Fail;
 
@@ -50,9 +56,35 @@ fn served<R: Wait + Sync, K: Keeper + Drop, L: Link>(
     keeper: K,
     link: &mut L,
 ) -> Result<Served, Fail> {
-    match Clerk::open(rt, alloc, keeper) {
-        Ok(mut clerk) => Ok(serve_alone(rt, alloc, &mut clerk, link)),
+    match StoredDesk::open(alloc, keeper) {
+        Ok(desk) => served_by::<R, K, L, Brand>(rt, alloc, BlankBook::new(), desk, link),
         Err(_) => Err(Fail::new("not opened")),
+    }
+}
+
+/// The same under a name that is picked for the desk's tables.
+fn served_by<R: Wait + Sync, K: Keeper + Drop, L: Link, J: Naming<DeskBoard>>(
+    rt: &R,
+    alloc: Global,
+    blank: BlankBook<DeskBoard>,
+    desk: StoredDesk<K>,
+    link: &mut L,
+) -> Result<Served, Fail>
+    requires book { blank ≡ J.book }
+    requires opening { lists_of J.opening.engine ≡ tables_of desk }
+{
+    match Clerk::<K, J>::open(rt, alloc, blank, desk, 1) {
+        Ok(
+            Opened {
+                mut clerk,
+                seats: _,
+            },
+        ) => {
+            let served = serve_alone(rt, alloc, &mut clerk, link);
+            clerk.close(rt);
+            Ok(served)
+        }
+        Err(_) => Err(Fail::new("no memory")),
     }
 }
 

@@ -1,7 +1,10 @@
 //! The substance compliance desk: the program, which hands what is real to `desk_top`.
 #![tactic(auto)]
 
-use desk_edge::StdLink;
+mod announced_doors;
+
+use crate::announced_doors::AnnouncedDoors;
+use desk_edge::{StdLink, TcpDoors};
 use desk_sqlite::SqlShelf;
 use desk_top::{launch, words};
 use std::process::ExitCode;
@@ -10,5 +13,6 @@ fn main(rt: HostRuntime) -> ExitCode {
     let alloc = rt.alloc();
     let mut console = StdLink::new(rt.stdin(), rt.stdout());
     let mut shelf = SqlShelf::new(rt);
-    ExitCode::from(launch(&rt, alloc, words(&rt), &mut console, &mut shelf))
+    let mut doors = AnnouncedDoors::new(rt, TcpDoors::new(rt));
+    ExitCode::from(launch(&rt, alloc, words(&rt), &mut console, &mut shelf, &mut doors))
 }

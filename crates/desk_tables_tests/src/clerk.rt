@@ -1,11 +1,10 @@
 use crate::helpers::{edit_of, open, tabbed};
-use desk_clerk::{Accepted, Clerk, OpenFault, OpenRefused, SubmitFault};
+use desk_clerk::{Accepted, OpenFault, OpenRefused, StoredDesk, SubmitFault};
 use desk_edge::{Change, Keeper, MapKeeper, Record};
 use desk_testing::{check, expect_eq};
 use desk_text::OutOfMemory;
 use std::alloc::Global;
 use std::fmt::Debug;
-use std::sync::Wait;
 use std::test::Fail;
 
 // The steps are written for any keeper, and take it, so that the proof of a test doesn't carry what a keeper is made of.
@@ -78,56 +77,48 @@ fn is_answer(answer: &Result<Accepted, SubmitFault>, number: Option<u64>) -> boo
 }
 
 /// Fails unless the edit gets this number, or none as the keeper fails.
-fn gets<R: Wait + Sync, K: Keeper>(
-    rt: &R,
+fn gets<K: Keeper>(
     alloc: Global,
-    clerk: &mut Clerk<K>,
+    desk: &mut StoredDesk<K>,
     sent: &Sent,
     number: Option<u64>,
 ) -> Result<(), Fail> {
     let edit = edit_of(alloc, sent.1, sent.2)?;
-    let gets = is_answer(&clerk.submit(rt, alloc, edit), number);
+    let gets = is_answer(&desk.accept(alloc, &edit), number);
     check(gets, "an edit gets another answer")
 }
 
 /// Fails unless the edit gets its number. Where it is to fail, it fails first, without being entered, and is sent again.
-fn is_entered<R: Wait + Sync, K: Keeper>(
-    rt: &R,
+fn is_entered<K: Keeper>(
     alloc: Global,
-    clerk: &mut Clerk<K>,
+    desk: &mut StoredDesk<K>,
     sent: &Sent,
     fails: bool,
 ) -> Result<(), Fail> {
     if fails {
-        gets(rt, alloc, clerk, sent, None)?;
-        check(clerk.number() < sent.0, "an edit that failed is entered")?;
+        gets(alloc, desk, sent, None)?;
+        check(desk.number() < sent.0, "an edit that failed is entered")?;
     }
-    gets(rt, alloc, clerk, sent, Some(sent.0))
+    gets(alloc, desk, sent, Some(sent.0))
 }
 
 /// Fails unless each edit gets its number, of which the last is 19. Where they are to fail, each fails first and is sent again.
-fn are_entered<R: Wait + Sync, K: Keeper>(
-    rt: &R,
+fn are_entered<K: Keeper>(
     alloc: Global,
-    clerk: &mut Clerk<K>,
+    desk: &mut StoredDesk<K>,
     fails: bool,
 ) -> Result<(), Fail> {
     for sent in EDITS {
-        is_entered(rt, alloc, clerk, sent, fails)?;
+        is_entered(alloc, desk, sent, fails)?;
     }
-    expect_eq(&clerk.number(), &19)
+    expect_eq(&desk.number(), &19)
 }
 
 /// The keeper of a desk where each edit gets its number. Where they are to fail, each fails first and is sent again.
-fn kept<R: Wait + Sync, K: Keeper + Drop + Debug>(
-    rt: &R,
-    alloc: Global,
-    keeper: K,
-    fails: bool,
-) -> Result<K, Fail> {
-    let mut clerk = open(rt, alloc, keeper)?;
-    are_entered(rt, alloc, &mut clerk, fails)?;
-    Ok(clerk.close(rt))
+fn kept<K: Keeper + Drop + Debug>(alloc: Global, keeper: K, fails: bool) -> Result<K, Fail> {
+    let mut desk = open(alloc, keeper)?;
+    are_entered(alloc, &mut desk, fails)?;
+    Ok(desk.close())
 }
 
 /// The calls that fail, one at each edit. The first two open the store.
@@ -136,15 +127,15 @@ const FAILING: [u64; 19] = [
 ];
 
 /// The store where each edit got its number once it was kept, and the same number after the store was closed and opened again.
-fn kept_after_faults<R: Wait + Sync>(rt: &R, alloc: Global) -> Result<MapKeeper, Fail> {
+fn kept_after_faults(alloc: Global) -> Result<MapKeeper, Fail> {
     let keeper = MapKeeper::new(Vec::new(alloc), FAILING.to_vec(alloc)?);
-    let once = kept(rt, alloc, keeper, true)?;
-    kept(rt, alloc, once, false)
+    let once = kept(alloc, keeper, true)?;
+    kept(alloc, once, false)
 }
 
 /// Fails unless a store has so many records at each edit of which the keeper failed once.
-fn keeps_after_faults<R: Wait + Sync>(rt: &R, alloc: Global, records: usize) -> Result<(), Fail> {
-    let kept = kept_after_faults(rt, alloc)?;
+fn keeps_after_faults(alloc: Global, records: usize) -> Result<(), Fail> {
+    let kept = kept_after_faults(alloc)?;
     expect_eq(&kept.records().len(), &records)
 }
 
@@ -153,11 +144,11 @@ fn an_edit_whose_commit_fails_leaves_no_trace_and_is_kept_then(
     rt: HostRuntime,
 ) -> Result<(), Fail> {
     // Twenty of the start tables, nineteen tickets, and the eighteen rows that the edits leave.
-    keeps_after_faults(&rt, rt.alloc(), 57)
+    keeps_after_faults(rt.alloc(), 57)
 }
 
 /// Whether the keeper failed at the opening, once, and has two records.
-fn is_left(answer: &Result<Clerk<MapKeeper>, OpenRefused<MapKeeper>>) -> bool {
+fn is_left(answer: &Result<StoredDesk<MapKeeper>, OpenRefused<MapKeeper>>) -> bool {
     match answer {
         Err(
             OpenRefused {
@@ -174,22 +165,22 @@ const TWO: [Told; 2] = [(4, "A", "1|assembly|Frame"), (4, "B", "1|assembly|Cover
 
 /// Fails unless an opening of a store of two records, whose call of this number fails, is refused for it and leaves the records, or
 /// isn't where it is not to fail.
-fn fails_at<R: Wait + Sync>(rt: &R, alloc: Global, call: u64, fails: bool) -> Result<(), Fail> {
+fn fails_at(alloc: Global, call: u64, fails: bool) -> Result<(), Fail> {
     let keeper = store(alloc, &TWO, &[call])?;
-    let is_left = is_left(&open(rt, alloc, keeper));
+    let is_left = is_left(&open(alloc, keeper));
     expect_eq(&(call, is_left), &(call, fails))
 }
 
 /// Fails at the first call of an opening, up to one past its last, that fails otherwise than it should.
-fn fails_at_each<R: Wait + Sync>(rt: &R, alloc: Global) -> Result<(), Fail> {
+fn fails_at_each(alloc: Global) -> Result<(), Fail> {
     // The first call puts the records in. The opening takes three: a call for each record, and one that finds no more.
     for call in 2..6 {
-        fails_at(rt, alloc, call, call < 5)?;
+        fails_at(alloc, call, call < 5)?;
     }
     Ok(())
 }
 
 #[test]
 fn an_opening_fails_at_each_of_its_calls(rt: HostRuntime) -> Result<(), Fail> {
-    fails_at_each(&rt, rt.alloc())
+    fails_at_each(rt.alloc())
 }

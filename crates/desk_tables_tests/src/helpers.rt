@@ -1,12 +1,11 @@
 //! What the tests of several crates here share: bytes and edits from texts, and the opening of a desk.
 
-use desk_clerk::{Clerk, OpenRefused};
+use desk_clerk::{OpenRefused, StoredDesk};
 use desk_edge::Keeper;
 use desk_fields::read_edit_text;
 use desk_model::Edit;
 use desk_text::{Bytes, OutOfMemory};
 use std::alloc::Global;
-use std::sync::Wait;
 use std::test::Fail;
 
 /// The text with TAB for each `|`.
@@ -26,10 +25,9 @@ pub(crate) fn edit_of(alloc: Global, code: &str, fields: &str) -> Result<Edit, F
 }
 
 /// What the opening of the keeper's desk answers. It has no clause, so that the proof of a step doesn't carry what the desk is.
-pub(crate) fn open<R: Wait + Sync, K: Keeper + Drop>(
-    rt: &R,
+pub(crate) fn open<K: Keeper + Drop>(
     alloc: Global,
     keeper: K,
-) -> Result<Clerk<K>, OpenRefused<K>> {
-    Clerk::open(rt, alloc, keeper)
+) -> Result<StoredDesk<K>, OpenRefused<K>> {
+    StoredDesk::open(alloc, keeper)
 }

@@ -3,6 +3,7 @@ mod Imports
 mod Input
 mod Memory
 mod Numbered
+mod ServedOver
 mod Stores
 mod Summaries
 mod Tables

@@ -4,8 +4,9 @@ use Rattle.std.proofs.KnownBytes.{Consumes-nil}
 use Rattle.desk_edge.specs.Content.{Content}
 use Rattle.desk_top.specs.Answer.{Answer, Answers, answer_to_check, answer_without_memory, status_code}
 use Rattle.desk_top.specs.Console.{Console}
-use Rattle.desk_top.specs.Run.{Does, IsAnswered, IsSession}
+use Rattle.desk_top.specs.Run.{Does, IsAnswered, IsServedOver, IsSession}
 use Rattle.desk_top.specs.Sample.{answer_to_sample}
+use Rattle.desk_top.specs.Serve.{Doorway}
 use Rattle.desk_top.specs.Session.{nothing_kept}
 use Rattle.desk_top.specs.Store.{IsUnopened, WasNotBegun}
 use Rattle.desk_top.specs.declared.status.Status.TheVariants as status
@@ -52,12 +53,26 @@ module _ (console : Console) (rose : Type 0) (stays : console.left ≡ console.u
   unserved Tells kept count lost None = (nothing_kept, inr (not_begun (Unit {0}) nothing_kept))
   unserved Tells kept count lost (Some name) = (0, inr (not_begun (Tells name) (kept name)), (λ tells. tells), (λ some. absurd (search (arith, some))), inr unopened)
 
-  pub undone : (Tells : List ℕ → Type 0) (kept : List ℕ → Content) (count : List ℕ → ℕ) (lost : Type 0) (command : Command)
-      → Does Tells Tells kept kept count lost command (status_code status.OutOfMemory) console rose
-  undone Tells kept count lost (asked.Check check) = unchecked check
-  undone Tells kept count lost (asked.Session session) = unserved Tells kept count lost session.store
-  undone Tells kept count lost (asked.Export export) = (0, inr (not_begun (Tells export.store) (kept export.store)), (λ tells. tells), (λ some. absurd (search (arith, some))), inr unopened)
-  undone Tells kept count lost (asked.Import import) = (
+  untaken : (Tells : List ℕ → Type 0) (kept : List ℕ → Content) (count : List ℕ → ℕ) (lost : Type 0) (wanted : Option ℕ) (doors : Doorway)
+      → doors.taken ≡ doors.taken_before → (store : Option (List ℕ))
+      → IsServedOver Tells Tells kept kept count lost wanted doors store (status_code status.OutOfMemory) console rose
+  untaken Tells kept count lost wanted doors none None = (nothing_kept, inr (none, not_begun (Unit {0}) nothing_kept))
+  untaken Tells kept count lost wanted doors none (Some name) = (
+    0,
+    inr (none, not_begun (Tells name) (kept name)),
+    (λ tells. tells),
+    (λ some. absurd (search (arith, some))),
+    inr unopened,
+  )
+
+  pub undone : (Tells : List ℕ → Type 0) (kept : List ℕ → Content) (count : List ℕ → ℕ) (lost : Type 0) (doors : Doorway)
+      → doors.taken ≡ doors.taken_before → (command : Command)
+      → Does Tells Tells kept kept count lost doors command (status_code status.OutOfMemory) console rose
+  undone Tells kept count lost doors none (asked.Check check) = unchecked check
+  undone Tells kept count lost doors none (asked.Session session) = unserved Tells kept count lost session.store
+  undone Tells kept count lost doors none (asked.Serve serve) = untaken Tells kept count lost serve.connections doors none serve.store
+  undone Tells kept count lost doors none (asked.Export export) = (0, inr (not_begun (Tells export.store) (kept export.store)), (λ tells. tells), (λ some. absurd (search (arith, some))), inr unopened)
+  undone Tells kept count lost doors none (asked.Import import) = (
     0,
     inr record {
       answer = answer_without_memory;
@@ -71,5 +86,5 @@ module _ (console : Console) (rose : Type 0) (stays : console.left ≡ console.u
     (λ some. absurd (search (arith, some))),
     inr unopened,
   )
-  undone Tells kept count lost (asked.Audit audit) = (0, inr (not_begun (Tells audit.store) (kept audit.store)), (λ tells. tells), (λ some. absurd (search (arith, some))), inr unopened)
-  undone Tells kept count lost (asked.Sample sample) = (stays, any_answer (answer_to_sample sample.size) console.before console.after rose told)
+  undone Tells kept count lost doors none (asked.Audit audit) = (0, inr (not_begun (Tells audit.store) (kept audit.store)), (λ tells. tells), (λ some. absurd (search (arith, some))), inr unopened)
+  undone Tells kept count lost doors none (asked.Sample sample) = (stays, any_answer (answer_to_sample sample.size) console.before console.after rose told)

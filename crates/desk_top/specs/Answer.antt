@@ -14,7 +14,7 @@ use Rattle.desk_law.specs.declared.kind_on_day.KindOnDay.{KindOnDay}
 use Rattle.desk_top.specs.declared.refusal.Refusal.{Refusal}
 use Rattle.desk_top.specs.declared.refusal.Refusal.TheVariants.{InputTooLong, BadDeclaration, Rule}
 use Rattle.desk_top.specs.declared.status.Status.{Status}
-use Rattle.desk_top.specs.declared.status.Status.TheVariants.{Done, BadWords, ConsoleFault, StoreFault, Damaged, Refused, OutOfMemory}
+use Rattle.desk_top.specs.declared.status.Status.TheVariants.{Done, BadWords, ConsoleFault, StoreFault, Damaged, Refused, DoorsFault, OutOfMemory}
 use Rattle.desk_top.specs.declared.program_words.WordsFault.{WordsFault}
 use Rattle.desk_top.specs.declared.program_words.WordsFault.TheVariants as unread
 
@@ -26,6 +26,7 @@ status_code ConsoleFault = 3
 status_code StoreFault = 4
 status_code Damaged = 5
 status_code Refused = 6
+status_code DoorsFault = 7
 status_code OutOfMemory = 8
 
 -- the words of a refusal
@@ -83,6 +84,10 @@ answer_to_failed_reading = record { status = ConsoleFault; text = [] }
 -- the answer where the store refused a call
 abbrev pub answer_to_store_fault : Answer
 answer_to_store_fault = record { status = StoreFault; text = codes "desk: store\n" }
+
+-- the answer where the doors failed
+abbrev pub answer_to_doors_fault : Answer
+answer_to_doors_fault = record { status = DoorsFault; text = codes "desk: doors\n" }
 
 -- the answer where the store's records aren't those of sound tables: `desk: damaged KIND CODE`
 abbrev pub answer_to_damage : ℕ → List ℕ → Answer

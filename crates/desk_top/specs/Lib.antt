@@ -6,6 +6,7 @@ pub mod Import
 pub mod Reports
 pub mod Run
 pub mod Sample
+pub mod Serve
 pub mod Session
 pub mod Sorted
 pub mod Store

@@ -9,6 +9,7 @@ use Rattle.desk_top.specs.Console.{Console}
 use Rattle.desk_top.specs.Import.{EndsImport}
 use Rattle.desk_top.specs.Reports.{EndsAudit, EndsExport}
 use Rattle.desk_top.specs.Sample.{answer_to_sample}
+use Rattle.desk_top.specs.Serve.{Doorway, EndsServing}
 use Rattle.desk_top.specs.Session.{EndsSession, nothing_kept}
 use Rattle.desk_top.specs.Store.{OnStore}
 use Rattle.desk_top.specs.declared.status.Status.TheVariants.{Done, ConsoleFault}
@@ -16,6 +17,7 @@ use Rattle.desk_words.specs.Commands.{command_of}
 use Rattle.desk_law.specs.declared.kind_on_day.KindOnDay.{KindOnDay}
 use Rattle.desk_words.specs.declared.command.Command.{Command}
 use Rattle.desk_words.specs.declared.command.Command.TheVariants as asked
+use Rattle.desk_words.specs.declared.command.Serve.{Serve}
 
 -- The status and the whole text are the ones that are meant for the input. No byte past the one after the limit is asked for, and that
 -- one is never followed by the status of a console's fault.
@@ -36,20 +38,32 @@ abbrev pub IsSession : (Told Tells : List ℕ → Type 0) → (kept keeps : List
 IsSession Told Tells kept keeps count lost None ended c rose = (content : Content) × EndsSession (Unit {0}) nothing_kept content 0 ended c rose
 IsSession Told Tells kept keeps count lost (Some name) ended c rose = OnStore Told Tells kept keeps count lost EndsSession name ended c rose
 
+-- so many connections are served over the desk of a store, or without one over a new desk, whose keeper counts no fault
+abbrev pub IsServedOver : (Told Tells : List ℕ → Type 0) → (kept keeps : List ℕ → Content) → (List ℕ → ℕ) → Type 0 → Option ℕ → Doorway → Option (List ℕ) → ℕ → Console → Type 0 → Type 0
+IsServedOver Told Tells kept keeps count lost wanted doors None ended c rose = (content : Content) × EndsServing wanted doors (Unit {0}) nothing_kept content 0 ended c rose
+IsServedOver Told Tells kept keeps count lost wanted doors (Some name) ended c rose = OnStore Told Tells kept keeps count lost (EndsServing wanted doors) name ended c rose
+
+-- the connections that a command asks for are served
+abbrev pub IsServing : (Told Tells : List ℕ → Type 0) → (kept keeps : List ℕ → Content) → (List ℕ → ℕ) → Type 0 → Serve → Doorway → ℕ → Console → Type 0 → Type 0
+IsServing Told Tells kept keeps count lost serve doors ended c rose = IsServedOver Told Tells kept keeps count lost serve.connections doors serve.store ended c rose
+
 -- What each command comes to, where the program ends with this status. Of the shelf: of which stores it tells what they keep, before and
--- after, what these keep, before and after, how many faults each had counted as it was given back, and whether its own count rose.
-abbrev pub Does : (Told Tells : List ℕ → Type 0) → (kept keeps : List ℕ → Content) → (List ℕ → ℕ) → Type 0 → Command → ℕ → Console → Type 0 → Type 0
-Does Told Tells kept keeps count lost (asked.Check check) ended c rose = IsAnswered check ended c rose
-Does Told Tells kept keeps count lost (asked.Session session) ended c rose = IsSession Told Tells kept keeps count lost session.store ended c rose
-Does Told Tells kept keeps count lost (asked.Export export) ended c rose = OnStore Told Tells kept keeps count lost EndsExport export.store ended c rose
-Does Told Tells kept keeps count lost (asked.Import import) ended c rose = OnStore Told Tells kept keeps count lost EndsImport import.store ended c rose
-Does Told Tells kept keeps count lost (asked.Audit audit) ended c rose = OnStore Told Tells kept keeps count lost (EndsAudit audit.day) audit.store ended c rose
-Does Told Tells kept keeps count lost (asked.Sample sample) ended c rose =
+-- after, what these keep, before and after, how many faults each had counted as it was given back, and whether its own count rose. The
+-- doors are those before and after.
+abbrev pub Does : (Told Tells : List ℕ → Type 0) → (kept keeps : List ℕ → Content) → (List ℕ → ℕ) → Type 0 → Doorway → Command → ℕ → Console → Type 0 → Type 0
+Does Told Tells kept keeps count lost doors (asked.Check check) ended c rose = IsAnswered check ended c rose
+Does Told Tells kept keeps count lost doors (asked.Session session) ended c rose = IsSession Told Tells kept keeps count lost session.store ended c rose
+Does Told Tells kept keeps count lost doors (asked.Serve serve) ended c rose = IsServing Told Tells kept keeps count lost serve doors ended c rose
+Does Told Tells kept keeps count lost doors (asked.Export export) ended c rose = OnStore Told Tells kept keeps count lost EndsExport export.store ended c rose
+Does Told Tells kept keeps count lost doors (asked.Import import) ended c rose = OnStore Told Tells kept keeps count lost EndsImport import.store ended c rose
+Does Told Tells kept keeps count lost doors (asked.Audit audit) ended c rose = OnStore Told Tells kept keeps count lost (EndsAudit audit.day) audit.store ended c rose
+Does Told Tells kept keeps count lost doors (asked.Sample sample) ended c rose =
     IsWritten (λ c. Answers (answer_to_sample sample.size) ended c.before c.after rose) c
 
 -- the name of the store that a command is for, if it is for one
 abbrev pub store_of : Command → Option (List ℕ)
 store_of (asked.Session session) = session.store
+store_of (asked.Serve serve) = serve.store
 store_of (asked.Export export) = Some export.store
 store_of (asked.Import import) = Some import.store
 store_of (asked.Audit audit) = Some audit.store

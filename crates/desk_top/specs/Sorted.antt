@@ -11,14 +11,15 @@ use Rattle.desk_words.specs.declared.command.Command.TheVariants as asked
 -- the command that waits for nobody, as one of all
 abbrev pub command_at_once : AtOnce → Command
 command_at_once (at_once.Check check) = asked.Check check
+command_at_once (at_once.Export export) = asked.Export export
 command_at_once (at_once.Import import) = asked.Import import
+command_at_once (at_once.Audit audit) = asked.Audit audit
 command_at_once (at_once.Sample sample) = asked.Sample sample
 
 -- the command that may wait, as one of all
 abbrev pub command_over_clerk : OverClerk → Command
 command_over_clerk (over_clerk.Session session) = asked.Session session
-command_over_clerk (over_clerk.Export export) = asked.Export export
-command_over_clerk (over_clerk.Audit audit) = asked.Audit audit
+command_over_clerk (over_clerk.Serve serve) = asked.Serve serve
 
 -- the command itself
 abbrev pub command_of_sorted : Sorted → Command

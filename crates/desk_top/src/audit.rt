@@ -13,14 +13,12 @@ use crate::summary::answer_summary;
 use desk_edge::{Link, Shelf};
 use desk_words::Audit;
 use std::alloc::Global;
-use std::sync::Wait;
 
 /// Writes the summary of a store's desk on a day to the console. The store is given back as it was opened: an empty one keeps the start
 /// tables.
 ///
 /// 3 the console counted a fault. 4 the store refused a call, and 5 its records aren't those of sound tables. 8 there was no memory.
-pub fn answer_audit<R: Wait + Sync, L: Link, S: Shelf>(
-    rt: &R,
+pub fn answer_audit<L: Link, S: Shelf>(
     alloc: Global,
     asked: &Audit,
     console: &mut L,
@@ -38,11 +36,11 @@ pub fn answer_audit<R: Wait + Sync, L: Link, S: Shelf>(
     ensures never_falls { L.faults console.old ≤ L.faults console.new }
 {
     let name = asked.store.as_slice();
-    let clerk = match open_desk(rt, alloc, name, console, shelf) {
-        Ok(clerk) => clerk,
+    let desk = match open_desk(alloc, name, console, shelf) {
+        Ok(desk) => desk,
         Err(status) => return status,
     };
-    let status = answer_summary(alloc, clerk.tables(), asked.day, console);
-    shelf.close_store(name, clerk.close(rt));
+    let status = answer_summary(alloc, desk.tables(), asked.day, console);
+    shelf.close_store(name, desk.close());
     status
 }

@@ -15,7 +15,6 @@ use desk_report::{ReportFault, export};
 use desk_tables::Tables;
 use desk_words::Export;
 use std::alloc::Global;
-use std::sync::Wait;
 
 /// Writes the records of a store's desk to the console, a line each, in the order of their keys. The records of one table at a time
 /// are held. The store is given back as it was opened: an empty one keeps the start tables.
@@ -23,8 +22,7 @@ use std::sync::Wait;
 /// 3 the console counted a fault; a beginning is written. 4 the store refused a call, and 5 its records aren't those of sound tables:
 /// then nothing but the line for that is written. 8 there was no memory; where that was wanting in the middle, the line for it stands
 /// behind a beginning, so that no import takes it for a whole one.
-pub fn answer_export<R: Wait + Sync, L: Link, S: Shelf>(
-    rt: &R,
+pub fn answer_export<L: Link, S: Shelf>(
     alloc: Global,
     asked: &Export,
     console: &mut L,
@@ -41,12 +39,12 @@ pub fn answer_export<R: Wait + Sync, L: Link, S: Shelf>(
     ensures never_falls { L.faults console.old ≤ L.faults console.new }
 {
     let name = asked.store.as_slice();
-    let clerk = match open_desk(rt, alloc, name, console, shelf) {
-        Ok(clerk) => clerk,
+    let desk = match open_desk(alloc, name, console, shelf) {
+        Ok(desk) => desk,
         Err(status) => return status,
     };
-    let status = write_export(alloc, clerk.tables(), console);
-    shelf.close_store(name, clerk.close(rt));
+    let status = write_export(alloc, desk.tables(), console);
+    shelf.close_store(name, desk.close());
     status
 }
 

@@ -4,8 +4,10 @@ ghost use Rattle.desk_law.specs.declared.kind_on_day.KindOnDay.{KindOnDay};
 ghost use Rattle.desk_top.specs.Answer.{Answers, IsReadingTold, answer_to_other_words, answer_to_unread_words, status_code};
 ghost use Rattle.desk_top.specs.Console.{console_of};
 ghost use Rattle.desk_top.specs.Run.{Does, OthersStay, store_in, store_of};
+ghost use Rattle.desk_top.specs.Serve.{Doorway, doorway_of};
 ghost use Rattle.desk_top.specs.Sorted.{command_at_once, command_over_clerk};
 ghost use Rattle.desk_words.specs.Commands.{HasBounds, command_of};
+ghost use Rattle.desk_words.specs.declared.command.Serve.{Serve};
 
 use crate::audit::answer_audit;
 use crate::check::answer_check;
@@ -13,11 +15,12 @@ use crate::export::answer_export;
 use crate::import::answer_import;
 use crate::program_words::WordsFault;
 use crate::sample::answer_sample;
+use crate::serve::answer_serve;
 use crate::session::answer_session;
 use crate::sorted::{AtOnce, OverClerk, Sorted, sorted_command};
 use crate::status::Status;
 use crate::tell::{answer_no_memory, answer_other_words, answer_unread_words};
-use desk_edge::{Link, Shelf};
+use desk_edge::{Doors, Link, Shelf};
 use desk_words::{Command, CommandFault, read_command};
 use std::alloc::Global;
 use std::sync::Wait;
@@ -27,14 +30,15 @@ use std::thread::Threads;
 ///
 /// 0 the whole answer was written, or the stream was served. 2 the words are no command line. 3 only where the console counted a
 /// fault. 4 the store refused a call. 5 the store's records aren't those of sound tables. 6 the input was read, and is refused or cut,
-/// or the store that an import is to fill keeps something. 8 want of memory, which may come for any words. A fault while the line of 2,
-/// 4, 5, 6 or 8 is written changes no status.
-pub fn run<R: Wait + Sync + Threads, L: Link, S: Shelf>(
+/// or the store that an import is to fill keeps something. 7 the doors counted a fault. 8 want of memory, which may come for any words. A fault while the line of 2,
+/// 4, 5, 6, 7 or 8 is written changes no status.
+pub fn run<R: Wait + Sync + Threads, L: Link, S: Shelf, D: Doors + Send>(
     rt: &R,
     alloc: Global,
     words: &Vec<String>,
     console: &mut L,
     shelf: &mut S,
+    doors: &mut D,
 ) -> u8
     // Words that are no command line are answered, and nothing is read.
     ensures bad_words { result ≡ status_code Status.BadWords → command_of (map string_bytes words.now.items) ≡ None }
@@ -45,6 +49,7 @@ pub fn run<R: Wait + Sync + Threads, L: Link, S: Shelf>(
     // A command does what it is for.
     ensures command { (command : Command) → command_of (map string_bytes words.now.items) ≡ Some command
         → Does (S.Tells shelf.old) (S.Tells shelf.new) (S.content shelf.old) (S.content shelf.new) (S.count shelf.new) (Rose (S.faults shelf.old) (S.faults shelf.new))
+        (doorway_of (D.faults doors.old) (D.faults doors.new) (D.taken doors.old) (D.taken doors.new) (D.is_closed doors.new))
         command result
         (console_of (L.unread console.old) (L.unread console.new) (L.written console.old) (L.written console.new)) (Rose (L.faults console.old) (L.faults console.new)) }
     ensures known { (status : Status) × (result ≡ status_code status) }
@@ -56,33 +61,37 @@ pub fn run<R: Wait + Sync + Threads, L: Link, S: Shelf>(
     // No store but the one that the words name is changed, and where they name none the shelf stays as it is.
     ensures others { OthersStay (store_in (map string_bytes words.now.items)) (S.Tells shelf.old) (S.Tells shelf.new) (S.content shelf.old) (S.content shelf.new) }
     ensures shelf_stays { store_in (map string_bytes words.now.items) ≡ None → shelf.new ≡ shelf.old }
+    ensures doors_stay { ((serve : Serve) → command_of (map string_bytes words.now.items) ≢ Some (Command.Serve serve)) → doors.new ≡ doors.old }
     ensures console_fault { result ≡ status_code Status.ConsoleFault → Rose (L.faults console.old) (L.faults console.new) }
     ensures no_fault { result ≡ status_code Status.Done → L.faults console.new ≡ L.faults console.old }
     ensures never_falls { L.faults console.old ≤ L.faults console.new }
 {
     match read_command(alloc, words.as_slice()) {
-        Ok(command) => follow(rt, alloc, command, console, shelf).code(),
+        Ok(command) => follow(rt, alloc, command, console, shelf, doors).code(),
         Err(CommandFault::NoCommand) => answer_other_words(console).code(),
         Err(CommandFault::OutOfMemory) => answer_no_memory(console).code(),
     }
 }
 
 /// Does what the command is for. What waits for nobody is done by a call that has no runtime, and the other call takes no such command.
-fn follow<R: Wait + Sync, L: Link, S: Shelf>(
+fn follow<R: Wait + Sync + Threads, L: Link, S: Shelf, D: Doors + Send>(
     rt: &R,
     alloc: Global,
     command: Command,
     console: &mut L,
     shelf: &mut S,
+    doors: &mut D,
 ) -> Status
     requires { HasBounds command }
     ensures command { Does (S.Tells shelf.old) (S.Tells shelf.new) (S.content shelf.old) (S.content shelf.new) (S.count shelf.new) (Rose (S.faults shelf.old) (S.faults shelf.new))
+        (doorway_of (D.faults doors.old) (D.faults doors.new) (D.taken doors.old) (D.taken doors.new) (D.is_closed doors.new))
         command (status_code result)
         (console_of (L.unread console.old) (L.unread console.new) (L.written console.old) (L.written console.new)) (Rose (L.faults console.old) (L.faults console.new)) }
     ensures reading { (check : KindOnDay) → command ≡ Command.Check check
         → IsReadingTold check (status_code result) (L.unread console.old) (Rose (L.read_faults console.old) (L.read_faults console.new)) }
     ensures others { OthersStay (store_of command) (S.Tells shelf.old) (S.Tells shelf.new) (S.content shelf.old) (S.content shelf.new) }
     ensures shelf_stays { store_of command ≡ None → shelf.new ≡ shelf.old }
+    ensures doors_stay { ((serve : Serve) → command ≢ Command.Serve serve) → doors.new ≡ doors.old }
     ensures words { result ≢ Status.BadWords }
     ensures console_fault { result ≡ Status.ConsoleFault → Rose (L.faults console.old) (L.faults console.new) }
     ensures no_fault { result ≡ Status.Done → L.faults console.new ≡ L.faults console.old }
@@ -90,7 +99,7 @@ fn follow<R: Wait + Sync, L: Link, S: Shelf>(
 {
     match sorted_command(command) {
         Sorted::AtOnce(command) => do_at_once(alloc, &command, console, shelf),
-        Sorted::OverClerk(command) => do_over_clerk(rt, alloc, &command, console, shelf),
+        Sorted::OverClerk(command) => do_over_clerk(rt, alloc, &command, console, shelf, doors),
     }
 }
 
@@ -104,7 +113,7 @@ fn do_at_once<L: Link, S: Shelf>(
     shelf: &mut S,
 ) -> Status
     requires { HasBounds (command_at_once command.now) }
-    ensures command { Does (S.Tells shelf.old) (S.Tells shelf.new) (S.content shelf.old) (S.content shelf.new) (S.count shelf.new) (Rose (S.faults shelf.old) (S.faults shelf.new))
+    ensures command { (doors : Doorway) → Does (S.Tells shelf.old) (S.Tells shelf.new) (S.content shelf.old) (S.content shelf.new) (S.count shelf.new) (Rose (S.faults shelf.old) (S.faults shelf.new)) doors
         (command_at_once command.now) (status_code result)
         (console_of (L.unread console.old) (L.unread console.new) (L.written console.old) (L.written console.new)) (Rose (L.faults console.old) (L.faults console.new)) }
     ensures reading { (check : KindOnDay) → command_at_once command.now ≡ Command.Check check
@@ -118,25 +127,30 @@ fn do_at_once<L: Link, S: Shelf>(
 {
     match command {
         AtOnce::Check(check) => answer_check(alloc, check, console),
+        AtOnce::Export(asked) => answer_export(alloc, asked, console, shelf),
         AtOnce::Import(asked) => answer_import(alloc, asked, console, shelf),
+        AtOnce::Audit(asked) => answer_audit(alloc, asked, console, shelf),
         AtOnce::Sample(asked) => answer_sample(alloc, asked, console),
     }
 }
 
 /// Does what a command is for that opens a clerk.
-fn do_over_clerk<R: Wait + Sync, L: Link, S: Shelf>(
+fn do_over_clerk<R: Wait + Sync + Threads, L: Link, S: Shelf, D: Doors + Send>(
     rt: &R,
     alloc: Global,
     command: &OverClerk,
     console: &mut L,
     shelf: &mut S,
+    doors: &mut D,
 ) -> Status
     requires { HasBounds (command_over_clerk command.now) }
     ensures command { Does (S.Tells shelf.old) (S.Tells shelf.new) (S.content shelf.old) (S.content shelf.new) (S.count shelf.new) (Rose (S.faults shelf.old) (S.faults shelf.new))
+        (doorway_of (D.faults doors.old) (D.faults doors.new) (D.taken doors.old) (D.taken doors.new) (D.is_closed doors.new))
         (command_over_clerk command.now) (status_code result)
         (console_of (L.unread console.old) (L.unread console.new) (L.written console.old) (L.written console.new)) (Rose (L.faults console.old) (L.faults console.new)) }
     ensures others { OthersStay (store_of (command_over_clerk command.now)) (S.Tells shelf.old) (S.Tells shelf.new) (S.content shelf.old) (S.content shelf.new) }
     ensures shelf_stays { store_of (command_over_clerk command.now) ≡ None → shelf.new ≡ shelf.old }
+    ensures doors_stay { ((serve : Serve) → command_over_clerk command.now ≢ Command.Serve serve) → doors.new ≡ doors.old }
     ensures words { result ≢ Status.BadWords }
     ensures console_fault { result ≡ Status.ConsoleFault → Rose (L.faults console.old) (L.faults console.new) }
     ensures no_fault { result ≡ Status.Done → L.faults console.new ≡ L.faults console.old }
@@ -144,18 +158,18 @@ fn do_over_clerk<R: Wait + Sync, L: Link, S: Shelf>(
 {
     match command {
         OverClerk::Session(session) => answer_session(rt, alloc, session, console, shelf),
-        OverClerk::Export(asked) => answer_export(rt, alloc, asked, console, shelf),
-        OverClerk::Audit(asked) => answer_audit(rt, alloc, asked, console, shelf),
+        OverClerk::Serve(serve) => answer_serve(rt, alloc, serve, console, shelf, doors),
     }
 }
 
 /// Does what `run` does, for the words as they were read: where they weren't, that is answered.
-pub fn launch<R: Wait + Sync + Threads, L: Link, S: Shelf>(
+pub fn launch<R: Wait + Sync + Threads, L: Link, S: Shelf, D: Doors + Send>(
     rt: &R,
     alloc: Global,
     words: Result<Vec<String>, WordsFault>,
     console: &mut L,
     shelf: &mut S,
+    doors: &mut D,
 ) -> u8
     // Words that weren't read are answered, and nothing is read.
     ensures unread_words { IfErr words (λ fault. result ≡ status_code (answer_to_unread_words fault).status) }
@@ -163,6 +177,7 @@ pub fn launch<R: Wait + Sync + Threads, L: Link, S: Shelf>(
         (L.written console.old) (L.written console.new) (Rose (L.faults console.old) (L.faults console.new))) }
     ensures unread_input { IfErr words (λ fault. L.unread console.new ≡ L.unread console.old) }
     ensures unread_shelf { IfErr words (λ fault. shelf.new ≡ shelf.old) }
+    ensures unread_doors { IfErr words (λ fault. doors.new ≡ doors.old) }
 
     // Words that were read are answered as `run` does.
     ensures bad_words { IfOk words (λ words. result ≡ status_code Status.BadWords → command_of (map string_bytes words.items) ≡ None) }
@@ -172,19 +187,21 @@ pub fn launch<R: Wait + Sync + Threads, L: Link, S: Shelf>(
         × Answers answer_to_other_words result (L.written console.old) (L.written console.new) (Rose (L.faults console.old) (L.faults console.new))) }
     ensures command { IfOk words (λ words. (command : Command) → command_of (map string_bytes words.items) ≡ Some command
         → Does (S.Tells shelf.old) (S.Tells shelf.new) (S.content shelf.old) (S.content shelf.new) (S.count shelf.new) (Rose (S.faults shelf.old) (S.faults shelf.new))
+        (doorway_of (D.faults doors.old) (D.faults doors.new) (D.taken doors.old) (D.taken doors.new) (D.is_closed doors.new))
         command result
         (console_of (L.unread console.old) (L.unread console.new) (L.written console.old) (L.written console.new)) (Rose (L.faults console.old) (L.faults console.new))) }
     ensures reading { IfOk words (λ words. (check : KindOnDay) → command_of (map string_bytes words.items) ≡ Some (Command.Check check)
         → IsReadingTold check result (L.unread console.old) (Rose (L.read_faults console.old) (L.read_faults console.new))) }
     ensures others { IfOk words (λ words. OthersStay (store_in (map string_bytes words.items)) (S.Tells shelf.old) (S.Tells shelf.new) (S.content shelf.old) (S.content shelf.new)) }
     ensures shelf_stays { IfOk words (λ words. store_in (map string_bytes words.items) ≡ None → shelf.new ≡ shelf.old) }
+    ensures doors_stay { IfOk words (λ words. ((serve : Serve) → command_of (map string_bytes words.items) ≢ Some (Command.Serve serve)) → doors.new ≡ doors.old) }
     ensures known { (status : Status) × (result ≡ status_code status) }
     ensures console_fault { result ≡ status_code Status.ConsoleFault → Rose (L.faults console.old) (L.faults console.new) }
     ensures no_fault { result ≡ status_code Status.Done → L.faults console.new ≡ L.faults console.old }
     ensures never_falls { L.faults console.old ≤ L.faults console.new }
 {
     match words {
-        Ok(words) => run(rt, alloc, &words, console, shelf),
+        Ok(words) => run(rt, alloc, &words, console, shelf, doors),
         Err(fault) => answer_unread_words(fault, console).code(),
     }
 }

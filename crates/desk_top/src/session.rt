@@ -1,6 +1,7 @@
 ghost use Rattle.std.specs.Prelude.{◌≡◌, ◌≢◌, ◌⊎◌, ℕ, ◌≤◌, List, None, Some};
 ghost use Rattle.std.specs.Io.KnownBytes.{Keeps};
-ghost use Rattle.desk_clerk.specs.Clerk.{keeper_of, whole};
+ghost use Rattle.desk_clerk.specs.Clerk.{tables_of, whole};
+ghost use Rattle.desk_engine.specs.Engine.{lists_of};
 ghost use Rattle.desk_edge.specs.Content.{Content, IsSame};
 ghost use Rattle.desk_edge.specs.Faults.{Rose};
 ghost use Rattle.desk_records.specs.Records.{tables_content};
@@ -14,11 +15,13 @@ use crate::status::Status;
 use crate::store::{open_desk, open_keeper};
 use crate::sure_keeper::SureKeeper;
 use crate::tell::answer_no_memory;
-use desk_clerk::Clerk;
+use desk_clerk::{Clerk, DeskBoard, Opened, StoredDesk};
 use desk_edge::{Keeper, Link, Shelf};
 use desk_front::{Served, serve_alone};
+use desk_publish::{BlankBook, Naming};
 use desk_words::Session;
 use std::alloc::Global;
+use std::marker::Brand;
 use std::sync::Wait;
 
 /// Serves the console's stream of requests over the desk of a store, or over one that ends with the session.
@@ -68,11 +71,11 @@ fn serve_store<R: Wait + Sync, L: Link, S: Shelf>(
     ensures no_fault { result ≡ Status.Done → L.faults link.new ≡ L.faults link.old }
     ensures never_falls { L.faults link.old ≤ L.faults link.new }
 {
-    let clerk = match open_desk(rt, alloc, name, link, shelf) {
-        Ok(clerk) => clerk,
+    let desk = match open_desk(alloc, name, link, shelf) {
+        Ok(desk) => desk,
         Err(status) => return status,
     };
-    let (status, store) = serve_clerk(rt, alloc, clerk, link);
+    let (status, store) = serve_desk(rt, alloc, desk, link);
     shelf.close_store(name, store);
     status
 }
@@ -86,40 +89,76 @@ fn serve_new<R: Wait + Sync, L: Link>(rt: &R, alloc: Global, link: &mut L) -> St
     ensures no_fault { result ≡ Status.Done → L.faults link.new ≡ L.faults link.old }
     ensures never_falls { L.faults link.old ≤ L.faults link.new }
 {
-    match open_keeper(rt, alloc, SureKeeper::new(alloc), link) {
-        Ok(clerk) => serve_clerk(rt, alloc, clerk, link).0,
+    match open_keeper(alloc, SureKeeper::new(alloc), link) {
+        Ok(desk) => serve_desk(rt, alloc, desk, link).0,
         Err(refused) => refused.0,
     }
 }
 
-/// Serves the stream over the clerk's desk, and gives the keeper back.
-fn serve_clerk<R: Wait + Sync, L: Link, K: Keeper>(
+/// Serves the stream over the desk, and gives the keeper back.
+fn serve_desk<R: Wait + Sync, L: Link, K: Keeper>(
     rt: &R,
     alloc: Global,
-    clerk: Clerk<K>,
+    desk: StoredDesk<K>,
     link: &mut L,
 ) -> (Status, K)
-    requires { K.faults (keeper_of clerk) ≡ 0 }
+    requires { K.faults desk.keeper ≡ 0 }
     ensures served { ((served : Served) × (result.0 ≡ exit_status_of served)
-        × WasServed (K.Tells result.1) (K.content result.1) (K.faults result.1) (whole clerk) served
+        × WasServed (K.Tells result.1) (K.content result.1) (K.faults result.1) (tables_of desk) served
         (console_of (L.unread link.old) (L.unread link.new) (L.written link.old) (L.written link.new)))
-        ⊎ ((result.0 ≡ Status.OutOfMemory) × (K.Tells result.1 → IsSame (tables_content (whole clerk)) (K.content result.1))
+        ⊎ ((result.0 ≡ Status.OutOfMemory) × (K.Tells result.1 → IsSame (tables_content (tables_of desk)) (K.content result.1))
         × Keeps (L.unread link.old) (L.unread link.new)
         × Answers answer_without_memory (status_code result.0) (L.written link.old) (L.written link.new) (Rose (L.faults link.old) (L.faults link.new))) }
-    ensures told { K.Tells result.1 → K.Tells (keeper_of clerk) }
+    ensures told { K.Tells result.1 → K.Tells desk.keeper }
     ensures words { result.0 ≢ Status.BadWords }
     ensures console_fault { result.0 ≡ Status.ConsoleFault → Rose (L.faults link.old) (L.faults link.new) }
     ensures no_fault { result.0 ≡ Status.Done → L.faults link.new ≡ L.faults link.old }
     ensures never_falls { L.faults link.old ≤ L.faults link.new }
 {
-    let mut clerk = clerk;
+    serve_named::<R, L, K, Brand>(rt, alloc, BlankBook::new(), desk, link)
+}
+
+/// The same under a name that is picked for the desk's tables.
+fn serve_named<R: Wait + Sync, L: Link, K: Keeper, J: Naming<DeskBoard>>(
+    rt: &R,
+    alloc: Global,
+    blank: BlankBook<DeskBoard>,
+    desk: StoredDesk<K>,
+    link: &mut L,
+) -> (Status, K)
+    requires fresh { K.faults desk.keeper ≡ 0 }
+    requires book { blank ≡ J.book }
+    requires opening { lists_of J.opening.engine ≡ tables_of desk }
+    ensures served { ((served : Served) × (result.0 ≡ exit_status_of served)
+        × WasServed (K.Tells result.1) (K.content result.1) (K.faults result.1) (tables_of desk) served
+        (console_of (L.unread link.old) (L.unread link.new) (L.written link.old) (L.written link.new)))
+        ⊎ ((result.0 ≡ Status.OutOfMemory) × (K.Tells result.1 → IsSame (tables_content (tables_of desk)) (K.content result.1))
+        × Keeps (L.unread link.old) (L.unread link.new)
+        × Answers answer_without_memory (status_code result.0) (L.written link.old) (L.written link.new) (Rose (L.faults link.old) (L.faults link.new))) }
+    ensures told { K.Tells result.1 → K.Tells desk.keeper }
+    ensures words { result.0 ≢ Status.BadWords }
+    ensures console_fault { result.0 ≡ Status.ConsoleFault → Rose (L.faults link.old) (L.faults link.new) }
+    ensures no_fault { result.0 ≡ Status.Done → L.faults link.new ≡ L.faults link.old }
+    ensures never_falls { L.faults link.old ≤ L.faults link.new }
+{
     // The call says that the tables are sound.
-    clerk.tables();
-    let status = match serve_alone(rt, alloc, &mut clerk, link) {
-        Served::Ended => Status::Done,
-        Served::Cut | Served::TooLong => Status::Refused,
-        Served::LinkFault => Status::ConsoleFault,
-        Served::OutOfMemory => answer_no_memory(link),
-    };
-    (status, clerk.close(rt))
+    desk.tables();
+    match Clerk::<K, J>::open(rt, alloc, blank, desk, 1) {
+        Ok(
+            Opened {
+                mut clerk,
+                seats: _,
+            },
+        ) => {
+            let served = serve_alone(rt, alloc, &mut clerk, link);
+            let keeper = clerk.close(rt);
+            match served {
+                Served::Ended => (Status::Done, keeper),
+                Served::Cut | Served::TooLong => (Status::Refused, keeper),
+                Served::LinkFault => (Status::ConsoleFault, keeper),
+                Served::OutOfMemory => (answer_no_memory(link), keeper),
+            }
+        }
+        Err(refused) => (answer_no_memory(link), refused.keeper),
+    }
 }

@@ -17,6 +17,8 @@ pub enum Status {
     /// The input is refused: of `check` and `import` the line written says why, and a stream of requests ended inside one, or went on
     /// too long. Status 6.
     Refused,
+    /// The doors counted a fault. Status 7.
+    DoorsFault,
     /// There was no memory. Status 8.
     OutOfMemory,
 }
@@ -33,6 +35,7 @@ impl Status {
             Status::StoreFault => 4,
             Status::Damaged => 5,
             Status::Refused => 6,
+            Status::DoorsFault => 7,
             Status::OutOfMemory => 8,
         }
     }

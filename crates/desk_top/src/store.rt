@@ -1,5 +1,5 @@
 ghost use Rattle.std.specs.Prelude.{◌≡◌, ◌≢◌, ◌⊎◌, ℕ, ◌<◌, ◌≤◌, List, Err, IfErr, IfOk, OnOk};
-ghost use Rattle.desk_clerk.specs.Clerk.{keeper_of, whole};
+ghost use Rattle.desk_clerk.specs.Clerk.{tables_of};
 ghost use Rattle.desk_clerk.specs.Opening.{IsOpenedAs};
 ghost use Rattle.desk_edge.specs.Content.{IsSame};
 ghost use Rattle.desk_edge.specs.Faults.{Rose};
@@ -9,27 +9,25 @@ ghost use Rattle.desk_top.specs.Store.{OnStore, WasNotBegun};
 
 use crate::status::Status;
 use crate::tell::{answer_no_memory, answer_store_fault, tell};
-use desk_clerk::{Clerk, OpenFault};
+use desk_clerk::{OpenFault, StoredDesk};
 use desk_edge::{KeepFault, Keeper, Link, Shelf};
 use desk_text::{Bytes, OutOfMemory, push_u128};
 use std::alloc::Global;
-use std::sync::Wait;
 
 /// Opens the desk of the store of this name, and reads nothing from the console.
 ///
 /// Where it isn't opened, the line that tells why is written, the store is given back, and that line's status is the fault: 4 the
 /// store refused a call, 5 its records aren't those of sound tables, 8 there was no memory.
-pub fn open_desk<R: Wait + Sync, L: Link, S: Shelf>(
-    rt: &R,
+pub fn open_desk<L: Link, S: Shelf>(
     alloc: Global,
     name: &[u8],
     console: &mut L,
     shelf: &mut S,
-) -> Result<Clerk<S::Store>, Status>
+) -> Result<StoredDesk<S::Store>, Status>
     ensures lent { OnOk result (S.IsLent shelf.new name.now) }
-    ensures told { IfOk result (λ clerk. S.Store.Keeper.Tells (keeper_of clerk) → S.Tells shelf.old name.now) }
-    ensures opened { IfOk result (λ clerk. S.Store.Keeper.Tells (keeper_of clerk) → IsOpenedAs (S.content shelf.old name.now) (whole clerk)) }
-    ensures fresh { IfOk result (λ clerk. S.Store.Keeper.faults (keeper_of clerk) ≡ 0) }
+    ensures told { IfOk result (λ desk. S.Store.Keeper.Tells desk.keeper → S.Tells shelf.old name.now) }
+    ensures opened { IfOk result (λ desk. S.Store.Keeper.Tells desk.keeper → IsOpenedAs (S.content shelf.old name.now) (tables_of desk)) }
+    ensures fresh { IfOk result (λ desk. S.Store.Keeper.faults desk.keeper ≡ 0) }
     ensures counted { OnOk result (S.faults shelf.new ≡ S.faults shelf.old) }
     ensures untouched { OnOk result (console.new ≡ console.old) }
     ensures unopened { IfErr result (λ status. OnStore (S.Tells shelf.old) (S.Tells shelf.new) (S.content shelf.old) (S.content shelf.new)
@@ -44,8 +42,8 @@ pub fn open_desk<R: Wait + Sync, L: Link, S: Shelf>(
         Ok(store) => store,
         Err(status) => return Err(status),
     };
-    match open_keeper(rt, alloc, store, console) {
-        Ok(clerk) => Ok(clerk),
+    match open_keeper(alloc, store, console) {
+        Ok(desk) => Ok(desk),
         Err((status, store)) => {
             shelf.close_store(name, store);
             Err(status)
@@ -87,16 +85,15 @@ pub fn open_store<L: Link, S: Shelf>(
 
 /// Opens the desk that the keeper keeps. Where it isn't opened, the line that tells why is written, and its status and the keeper are
 /// the fault.
-pub fn open_keeper<R: Wait + Sync, L: Link, K: Keeper>(
-    rt: &R,
+pub fn open_keeper<L: Link, K: Keeper>(
     alloc: Global,
     keeper: K,
     console: &mut L,
-) -> Result<Clerk<K>, (Status, K)>
+) -> Result<StoredDesk<K>, (Status, K)>
     requires { K.faults keeper ≡ 0 }
-    ensures told { IfOk result (λ clerk. K.Tells (keeper_of clerk) → K.Tells keeper) }
-    ensures opened { IfOk result (λ clerk. K.Tells (keeper_of clerk) → IsOpenedAs (K.content keeper) (whole clerk)) }
-    ensures counted { IfOk result (λ clerk. K.faults (keeper_of clerk) ≡ 0) }
+    ensures told { IfOk result (λ desk. K.Tells desk.keeper → K.Tells keeper) }
+    ensures opened { IfOk result (λ desk. K.Tells desk.keeper → IsOpenedAs (K.content keeper) (tables_of desk)) }
+    ensures counted { IfOk result (λ desk. K.faults desk.keeper ≡ 0) }
     ensures untouched { OnOk result (console.new ≡ console.old) }
     ensures handed_back { IfErr result (λ refused. K.Tells refused.1 → K.Tells keeper × IsSame (K.content keeper) (K.content refused.1)) }
     ensures unopened { IfErr result (λ refused. WasNotBegun (K.Tells refused.1) (K.content keeper) (K.content refused.1) (K.faults refused.1) (status_code refused.0)
@@ -104,8 +101,8 @@ pub fn open_keeper<R: Wait + Sync, L: Link, K: Keeper>(
     ensures status { IfErr result (λ refused. (refused.0 ≢ Status.Done) × (refused.0 ≢ Status.BadWords) × (refused.0 ≢ Status.ConsoleFault)) }
     ensures never_falls { L.faults console.old ≤ L.faults console.new }
 {
-    match Clerk::open(rt, alloc, keeper) {
-        Ok(clerk) => Ok(clerk),
+    match StoredDesk::open(alloc, keeper) {
+        Ok(desk) => Ok(desk),
         Err(refused) => Err((
             answer_unopened(alloc, &refused.fault, console),
             refused.keeper,

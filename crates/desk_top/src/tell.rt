@@ -2,7 +2,7 @@ ghost use Rattle.std.specs.Prelude.{◌≡◌, ◌⊎◌, ◌≤◌, ◌++◌, c
 ghost use Rattle.std.specs.Io.KnownBytes.{Appends};
 ghost use Rattle.desk_edge.specs.Faults.{Rose};
 ghost use Rattle.desk_edge.specs.Transfer.{AppendsBeginning, AppendsPart};
-ghost use Rattle.desk_top.specs.Answer.{Answers, answer_to_other_words, answer_to_store_fault, answer_to_unread_words, answer_without_memory, status_code};
+ghost use Rattle.desk_top.specs.Answer.{Answers, answer_to_doors_fault, answer_to_other_words, answer_to_store_fault, answer_to_unread_words, answer_without_memory, status_code};
 
 use crate::program_words::WordsFault;
 use crate::status::Status;
@@ -54,6 +54,17 @@ pub fn answer_store_fault<L: Link>(console: &mut L) -> Status
     ensures never_falls { L.faults console.old ≤ L.faults console.new }
 {
     tell(console, Status::StoreFault, b"desk: store\n")
+}
+
+/// Writes that the doors failed, and reads nothing.
+pub fn answer_doors_fault<L: Link>(console: &mut L) -> Status
+    ensures status { result ≡ Status.DoorsFault }
+    ensures answer { Answers answer_to_doors_fault (status_code result)
+        (L.written console.old) (L.written console.new) (Rose (L.faults console.old) (L.faults console.new)) }
+    ensures input_stays { L.unread console.new ≡ L.unread console.old }
+    ensures never_falls { L.faults console.old ≤ L.faults console.new }
+{
+    tell(console, Status::DoorsFault, b"desk: doors\n")
 }
 
 /// Writes the line that goes with a status, as far as the console takes it, and hands on the

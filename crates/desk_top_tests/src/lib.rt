@@ -6,6 +6,14 @@
 #[cfg(test)]
 mod commands_tests;
 #[cfg(test)]
+mod connections_tests;
+#[cfg(test)]
+mod gateway_turns;
+#[cfg(test)]
+mod notes;
+#[cfg(test)]
+mod serve_tests;
+#[cfg(test)]
 mod session_steps;
 #[cfg(test)]
 mod store_tests;
@@ -13,3 +21,9 @@ mod store_tests;
 mod stream_tests;
 #[cfg(test)]
 mod tests;
+#[cfg(test)]
+mod waiting_keeper;
+#[cfg(test)]
+mod watched_doors;
+#[cfg(test)]
+mod watched_line;

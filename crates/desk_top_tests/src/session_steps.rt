@@ -1,6 +1,6 @@
 //! Steps of the tests of sessions.
 
-use desk_edge::{Link, MapShelf, MemoryLink, Shelf};
+use desk_edge::{Doors, Link, ListDoors, MapShelf, MemoryLink, Shelf};
 use desk_text::Bytes;
 use desk_top::run;
 use std::alloc::Global;
@@ -23,9 +23,9 @@ pub(crate) struct Turn {
     pub said: &'static str,
 }
 
-/// Appends the request of a turn, as it stands in a stream.
-fn push_request(stream: &mut String, turn: &Turn) -> Result<(), Fail> {
-    let mut words = turn.ask.splitn(3, ' ');
+/// Appends a request of a method, a target and, behind a space, a body, as it stands in a stream.
+pub(crate) fn push_request(stream: &mut String, ask: &str) -> Result<(), Fail> {
+    let mut words = ask.splitn(3, ' ');
     let method = words.next().unwrap_or("");
     let target = words.next().unwrap_or("");
     let body = words.next().unwrap_or("");
@@ -50,7 +50,7 @@ pub(crate) fn push_reply(written: &mut String, status: &str, said: &str) -> Resu
 /// Appends the requests of these turns, and their replies.
 fn push_turns(stream: &mut String, replies: &mut String, turns: &[Turn]) -> Result<(), Fail> {
     for turn in turns {
-        push_request(stream, turn)?;
+        push_request(stream, turn.ask)?;
         push_reply(replies, turn.status, turn.said)?;
     }
     Ok(())
@@ -124,6 +124,19 @@ pub(crate) fn is_told<R: Wait + Sync + Threads>(
     Ok(status == told.0 && written.as_slice() == told.1)
 }
 
+/// The status with which these words end over doors. It has no clause, as the next has none.
+pub(crate) fn status_over<R: Wait + Sync + Threads, L: Link, S: Shelf, D: Doors + Send>(
+    rt: &R,
+    alloc: Global,
+    words: &[&str],
+    console: &mut L,
+    shelf: &mut S,
+    doors: &mut D,
+) -> Result<u8, Fail> {
+    let words = words_of(alloc, words)?;
+    Ok(run(rt, alloc, &words, console, shelf, doors))
+}
+
 /// The status of a command. It has no clause, and is written for any console and shelf, so that the proof of a test doesn't
 /// carry what a command does.
 pub(crate) fn exit_status_of<R: Wait + Sync + Threads, L: Link, S: Shelf>(
@@ -133,7 +146,8 @@ pub(crate) fn exit_status_of<R: Wait + Sync + Threads, L: Link, S: Shelf>(
     console: &mut L,
     shelf: &mut S,
 ) -> u8 {
-    run(rt, alloc, words, console, shelf)
+    let mut doors = ListDoors::new(Vec::new(alloc), Vec::new(alloc));
+    run(rt, alloc, words, console, shelf, &mut doors)
 }
 
 /// The words of a command line.

@@ -1,5 +1,5 @@
 use crate::session_steps::{console_of, empty_shelf, outcome_over, outcome_with_faults};
-use desk_edge::{Link, Shelf};
+use desk_edge::{Link, ListDoors, Shelf};
 use desk_testing::{check, expect_eq};
 use desk_top::{WordsFault, launch, words};
 use std::alloc::Global;
@@ -163,7 +163,8 @@ fn launched<R: Wait + Sync + Threads, L: Link, S: Shelf>(
     console: &mut L,
     shelf: &mut S,
 ) -> u8 {
-    launch(rt, alloc, words, console, shelf)
+    let mut doors = ListDoors::new(Vec::new(alloc), Vec::new(alloc));
+    launch(rt, alloc, words, console, shelf, &mut doors)
 }
 
 /// Fails unless the program ends with this status for these words, and writes just this line.

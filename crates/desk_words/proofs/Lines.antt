@@ -193,7 +193,7 @@ module _ (forms : List Form) where
 
 -- a command more is a line more here
 desk_left : AllLeft table.forms
-desk_left = ((refl, (refl, refl)), (refl, (refl, (refl, ((refl, refl), ((refl, refl), tt))))))
+desk_left = ((refl, (refl, refl)), (refl, (refl, (refl, (refl, ((refl, refl), ((refl, refl), tt)))))))
 
 pub desk_is_simple : is_simple_and_free desk_app ≡ true
 desk_is_simple = refl

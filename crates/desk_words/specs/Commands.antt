@@ -1,6 +1,6 @@
 -- Which command the program's words are.
 use Rattle.std.specs.Prelude.{ℕ, ◌^◌, ◌≤◌, ◌≡◌, if◌then◌else◌, ◌&&◌, Bool, true, false, nat_le, List, [], ◌∷◌, codes, length}
-use Rattle.std.specs.Prelude.{IfSome, Option, None, Some, option_and_then, option_map, Result}
+use Rattle.std.specs.Prelude.{IfSome, Option, None, Some, option_and_then, option_map, unwrap_or, Result}
 use Rattle.std.specs.List.{list_any}
 use Rattle.std.specs.Option.{ok_or}
 use Rattle.std.specs.Result.{result_ok}
@@ -19,6 +19,7 @@ use Rattle.desk_words.specs.declared.command.Command.TheVariants as asked
 use Rattle.desk_words.specs.declared.command.Export.{Export}
 use Rattle.desk_words.specs.declared.command.Import.{Import}
 use Rattle.desk_words.specs.declared.command.Sample.{Sample}
+use Rattle.desk_words.specs.declared.command.Serve.{Serve}
 use Rattle.desk_words.specs.declared.command.Session.{Session}
 use Rattle.desk_words.specs.declared.command_fault.CommandFault.{CommandFault}
 use Rattle.desk_words.specs.declared.command_fault.CommandFault.TheVariants.{NoCommand}
@@ -38,23 +39,40 @@ is_store_name (byte ∷ bytes) = nat_le (length (byte ∷ bytes)) store_name_lim
 abbrev pub store_name_of : Word → Option Word
 store_name_of name = if is_store_name name then Some name else None
 
+-- the number from 1 up to a limit that decimal digits write, with no zero before another digit
+abbrev pub number_up_to : ℕ → Word → Option ℕ
+number_up_to limit word =
+    option_and_then (λ n. if nat_le 1 n && nat_le n limit then Some n else None) (result_ok (number_below (2 ^ 32) word))
+
 -- the largest sample
 abbrev pub sample_limit : ℕ
 sample_limit = 2000
 
-abbrev pub is_sample_size : ℕ → Bool
-is_sample_size size = nat_le 1 size && nat_le size sample_limit
+-- the largest number of a port
+abbrev pub port_limit : ℕ
+port_limit = 65535
 
--- the size that decimal digits write, with no zero before another digit
-abbrev pub sample_size_of : Word → Option ℕ
-sample_size_of word =
-    option_and_then (λ size. if is_sample_size size then Some size else None) (result_ok (number_below (2 ^ 32) word))
+-- the most connections that are served at once, and how many are unless the words say otherwise
+abbrev pub seat_limit : ℕ
+seat_limit = 8
+
+abbrev pub usual_seats : ℕ
+usual_seats = 4
+
+-- the greatest number of connections after which serving ends
+abbrev pub connection_limit : ℕ
+connection_limit = 1000000
 
 -- ---- the commands, by the values of their names
 
 -- the value of a name, read
 abbrev pub read_by : {T : Type 0} → (Word → Option T) → Option Word → Option T
 read_by read text = option_and_then read text
+
+-- the value of a name that needn't be there, read
+abbrev pub optional_by : {T : Type 0} → (Word → Option T) → Option Word → Option (Option T)
+optional_by read None = Some None
+optional_by read (Some text) = option_map Some (read text)
 
 abbrev pub check_with : Option Date → Option Kind → Option KindOnDay
 check_with (Some day) (Some kind) = Some (record { day = day; kind = kind })
@@ -65,14 +83,22 @@ check_with None kind = None
 abbrev pub check_of : (Word → Option Word) → Option KindOnDay
 check_of text = check_with (read_by an_askable_day (text (codes "DAY"))) (read_by kind_of (text (codes "KIND")))
 
--- the session over a store, or without one where no name is given
-abbrev pub session_with : Option Word → Option Session
-session_with None = Some (record { store = None })
-session_with (Some name) = option_map (λ name. record { store = Some name }) (store_name_of name)
-
 -- the session: the name of its store, where it has one
 abbrev pub session_of : (Word → Option Word) → Option Session
-session_of text = session_with (text (codes "store"))
+session_of text = option_map (λ store. record { store = store }) (optional_by store_name_of (text (codes "store")))
+
+abbrev pub serve_with : Option ℕ → Option (Option ℕ) → Option (Option ℕ) → Option (Option Word) → Option Serve
+serve_with (Some port) (Some seats) (Some connections) (Some store) =
+    Some (record { port = port; seats = unwrap_or seats usual_seats; connections = connections; store = store })
+serve_with (Some port) (Some seats) (Some connections) None = None
+serve_with (Some port) (Some seats) None store = None
+serve_with (Some port) None connections store = None
+serve_with None seats connections store = None
+
+-- the serving: a port, how many connections at once, after how many it ends, and the name of its store, where it has them
+unfoldable pub serve_of : (Word → Option Word) → Option Serve
+serve_of text = serve_with (read_by (number_up_to port_limit) (text (codes "port"))) (optional_by (number_up_to seat_limit) (text (codes "seats")))
+    (optional_by (number_up_to connection_limit) (text (codes "connections"))) (optional_by store_name_of (text (codes "store")))
 
 -- the export: the name of its store
 abbrev pub export_of : (Word → Option Word) → Option Export
@@ -93,13 +119,14 @@ audit_of text = audit_with (read_by an_askable_day (text (codes "DAY"))) (read_b
 
 -- the sample: its size
 abbrev pub sample_of : (Word → Option Word) → Option Sample
-sample_of text = option_map (λ size. record { size = size }) (read_by sample_size_of (text (codes "N")))
+sample_of text = option_map (λ size. record { size = size }) (read_by (number_up_to sample_limit) (text (codes "N")))
 
 -- the command of this name, by the values of its positionals and options
 abbrev pub command_named : Word → (Word → Option Word) → Option Command
 command_named name text =
     if bytes_eq name (codes "check") then option_map asked.Check (check_of text)
     else if bytes_eq name (codes "session") then option_map asked.Session (session_of text)
+    else if bytes_eq name (codes "serve") then option_map asked.Serve (serve_of text)
     else if bytes_eq name (codes "export") then option_map asked.Export (export_of text)
     else if bytes_eq name (codes "import") then option_map asked.Import (import_of text)
     else if bytes_eq name (codes "audit") then option_map asked.Audit (audit_of text)
@@ -118,10 +145,20 @@ answer_of words = ok_or (command_of words) NoCommand
 
 -- ---- what holds of each command
 
--- days may be asked about, names of stores and sizes are within their bounds
+-- the number is from 1 up to the limit
+abbrev pub IsUpTo : ℕ → ℕ → Type 0
+IsUpTo limit n = (1 ≤ n) × (n ≤ limit)
+
+-- the numbers and the name of a serving are within their bounds
+abbrev pub HasServeBounds : Serve → Type 0
+HasServeBounds serve = IsUpTo port_limit serve.port × IsUpTo seat_limit serve.seats × IfSome serve.connections (IsUpTo connection_limit)
+    × IfSome serve.store (λ name. is_store_name name ≡ true)
+
+-- days may be asked about, names of stores and numbers are within their bounds
 abbrev pub HasBounds : Command → Type 0
 HasBounds (asked.Check check) = is_askable check.day ≡ true
 HasBounds (asked.Session session) = IfSome session.store (λ name. is_store_name name ≡ true)
+HasBounds (asked.Serve serve) = HasServeBounds serve
 HasBounds (asked.Export export) = is_store_name export.store ≡ true
 HasBounds (asked.Import import) = is_store_name import.store ≡ true
 HasBounds (asked.Audit audit) = (is_askable audit.day ≡ true) × (is_store_name audit.store ≡ true)

@@ -1,6 +1,6 @@
 -- The commands of the program, each with its positionals and its options.
 use Rattle.std.specs.Prelude.{Bool, true, false, List, [], ◌∷◌, codes}
-use Rattle.desk_words.specs.Forms.{Form, OptionForm}
+use Rattle.desk_words.specs.Forms.{Form, OptionForm, Word}
 
 -- `--store NAME`
 abbrev pub store_option : Bool → OptionForm
@@ -13,6 +13,18 @@ check_form = record { name = codes "check"; positionals = codes "DAY" ∷ codes 
 -- `session [--store NAME]`
 abbrev pub session_form : Form
 session_form = record { name = codes "session"; positionals = []; options = store_option false ∷ [] }
+
+-- an option that needn't be there
+abbrev pub free_option : Word → OptionForm
+free_option name = record { name = name; required = false }
+
+-- `serve --port N [--seats N] [--connections N] [--store NAME]`
+abbrev pub serve_form : Form
+serve_form = record {
+  name = codes "serve";
+  positionals = [];
+  options = record { name = codes "port"; required = true } ∷ free_option (codes "seats") ∷ free_option (codes "connections") ∷ store_option false ∷ [];
+}
 
 -- `export --store NAME`
 abbrev pub export_form : Form
@@ -32,4 +44,4 @@ sample_form = record { name = codes "sample"; positionals = codes "N" ∷ []; op
 
 -- all commands
 abbrev pub forms : List Form
-forms = check_form ∷ session_form ∷ export_form ∷ import_form ∷ audit_form ∷ sample_form ∷ []
+forms = check_form ∷ session_form ∷ serve_form ∷ export_form ∷ import_form ∷ audit_form ∷ sample_form ∷ []

@@ -7,6 +7,18 @@ pub const STORE_NAME_LIMIT: usize = 200;
 /// The largest sample.
 pub const SAMPLE_LIMIT: u32 = 2000;
 
+/// The largest number of a port.
+pub const PORT_LIMIT: u32 = 65_535;
+
+/// The most connections that are served at once.
+pub const SEAT_LIMIT: u32 = 8;
+
+/// So many connections are served at once unless the words say otherwise.
+pub const USUAL_SEATS: u32 = 4;
+
+/// The greatest number of connections after which serving ends.
+pub const CONNECTION_LIMIT: u32 = 1_000_000;
+
 /// What the program is asked to do.
 #[derive(Debug, Drop)]
 pub enum Command {
@@ -14,6 +26,8 @@ pub enum Command {
     Check(KindOnDay),
     /// Serve a stream of requests.
     Session(Session),
+    /// Serve connections at a port of this machine.
+    Serve(Serve),
     /// Write what a store keeps.
     Export(Export),
     /// Fill an empty store.
@@ -28,6 +42,19 @@ pub enum Command {
 #[derive(Debug, Drop)]
 pub struct Session {
     /// The name of the store that keeps the desk, 1 to 200 bytes. Without one the desk ends with the session.
+    pub store: Option<Bytes>,
+}
+
+/// The command `serve`: serve connections at a port of this machine.
+#[derive(Debug, Drop)]
+pub struct Serve {
+    /// The port, 1 to 65,535.
+    pub port: u16,
+    /// How many connections are served at once, 1 to 8.
+    pub seats: u32,
+    /// The number of connections after which serving ends, 1 to 1,000,000. Without it no number ends it.
+    pub connections: Option<u32>,
+    /// The name of the store that keeps the desk, 1 to 200 bytes. Without one the desk ends with the serving.
     pub store: Option<Bytes>,
 }
 

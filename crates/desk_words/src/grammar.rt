@@ -4,7 +4,7 @@ ghost use Rattle.clap.specs.Simple.{app_of};
 ghost use Rattle.clap.specs.Walk.{rule_of};
 ghost use Rattle.clap.specs.declared.builder.command.Command.TheViews.{out-Command as fields_of};
 ghost use Rattle.desk_words.specs.App.{bare_app, desk_app, form_app, option_rule, positional_rule};
-ghost use Rattle.desk_words.specs.Table.{audit_form, check_form, export_form, import_form, sample_form, session_form};
+ghost use Rattle.desk_words.specs.Table.{audit_form, check_form, export_form, import_form, sample_form, serve_form, session_form};
 
 use clap::{Arg, ArgAction, Command};
 use std::alloc::{AllocError, Global};
@@ -16,6 +16,7 @@ pub(crate) fn desk<'a>(alloc: Global) -> Result<Command<'a>, AllocError>
     bare_desk(alloc)
         .subcommand(check(alloc)?)?
         .subcommand(session(alloc)?)?
+        .subcommand(serve(alloc)?)?
         .subcommand(export(alloc)?)?
         .subcommand(import(alloc)?)?
         .subcommand(audit(alloc)?)?
@@ -49,6 +50,18 @@ fn session<'a>(alloc: Global) -> Result<Command<'a>, AllocError>
     ensures local { IfOk result (λ session. (fields_of session).has_globals ≡ false) }
 {
     Command::new(alloc, "session").arg(option(alloc, "store", false))
+}
+
+/// `serve --port N [--seats N] [--connections N] [--store NAME]`.
+fn serve<'a>(alloc: Global) -> Result<Command<'a>, AllocError>
+    ensures app { IfOk result (λ serve. app_of serve ≡ form_app serve_form) }
+    ensures local { IfOk result (λ serve. (fields_of serve).has_globals ≡ false) }
+{
+    Command::new(alloc, "serve")
+        .arg(option(alloc, "port", true))?
+        .arg(option(alloc, "seats", false))?
+        .arg(option(alloc, "connections", false))?
+        .arg(option(alloc, "store", false))
 }
 
 /// `export --store NAME`.

@@ -8,7 +8,8 @@ mod read;
 mod readers;
 
 pub use command::{
-    Audit, Command, Export, Import, SAMPLE_LIMIT, STORE_NAME_LIMIT, Sample, Session,
+    Audit, CONNECTION_LIMIT, Command, Export, Import, PORT_LIMIT, SAMPLE_LIMIT, SEAT_LIMIT,
+    STORE_NAME_LIMIT, Sample, Serve, Session, USUAL_SEATS,
 };
 pub use command_fault::CommandFault;
 pub use read::read_command;

@@ -3,13 +3,15 @@ ghost use Rattle.std.specs.Prelude.{◌≡◌, ◌≢◌, ◌≤◌, codes, true
 ghost use Rattle.std.specs.Option.{ok_or};
 ghost use Rattle.clap.specs.Matches.{first_value, found_of};
 ghost use Rattle.desk_text.specs.Day.{is_askable};
-ghost use Rattle.desk_words.specs.Commands.{HasBounds, audit_of, check_of, command_named, export_of, import_of, is_store_name};
-ghost use Rattle.desk_words.specs.Commands.{read_by, sample_of, session_of, store_name_of, sample_limit};
+ghost use Rattle.desk_words.specs.Commands.{HasBounds, HasServeBounds, IsUpTo, audit_of, check_of, command_named, connection_limit, export_of};
+ghost use Rattle.desk_words.specs.Commands.{import_of, is_store_name, number_up_to, optional_by, port_limit, read_by, sample_limit, sample_of};
+ghost use Rattle.desk_words.specs.Commands.{serve_of, session_of, store_name_of};
 ghost use Rattle.desk_text.specs.Forms.{an_askable_day};
 ghost use Rattle.desk_words.specs.declared.command_fault.CommandFault.TheVariants as fault;
 
 use crate::command::{
-    Audit, Command, Export, Import, SAMPLE_LIMIT, STORE_NAME_LIMIT, Sample, Session,
+    Audit, CONNECTION_LIMIT, Command, Export, Import, PORT_LIMIT, SAMPLE_LIMIT, SEAT_LIMIT,
+    STORE_NAME_LIMIT, Sample, Serve, Session, USUAL_SEATS,
 };
 use crate::command_fault::CommandFault;
 use clap::ArgMatches;
@@ -32,6 +34,9 @@ pub(crate) fn read_values(
     }
     if name == "session" {
         return Ok(Command::Session(read_session(alloc, values)?));
+    }
+    if name == "serve" {
+        return Ok(Command::Serve(read_serve(alloc, values)?));
     }
     if name == "export" {
         return Ok(Command::Export(read_export(alloc, values)?));
@@ -67,11 +72,26 @@ fn read_session(alloc: Global, values: &ArgMatches<'_>) -> Result<Session, Comma
         → result ≡ ok_or (session_of (first_value (found_of values.now))) fault.NoCommand }
     ensures bounds { IfOk result (λ session. IfSome session.store (λ name. is_store_name name ≡ true)) }
 {
-    let store = match values.get_str("store") {
-        Some(name) => Some(store_name(alloc, name)?),
-        None => None,
-    };
+    let store = read_optional_store(alloc, values)?;
     Ok(Session { store })
+}
+
+#[tactic(auto, unfolding(crate::specs::Commands::serve_of))]
+fn read_serve(alloc: Global, values: &ArgMatches<'_>) -> Result<Serve, CommandFault>
+    ensures value { result ≢ Err fault.OutOfMemory
+        → result ≡ ok_or (serve_of (first_value (found_of values.now))) fault.NoCommand }
+    ensures bounds { IfOk result HasServeBounds }
+{
+    let port = read_port(values)?;
+    let seats = read_number(values, "seats", SEAT_LIMIT)?;
+    let connections = read_number(values, "connections", CONNECTION_LIMIT)?;
+    let store = read_optional_store(alloc, values)?;
+    Ok(Serve {
+        port,
+        seats: seats.unwrap_or(USUAL_SEATS),
+        connections,
+        store,
+    })
 }
 
 fn read_export(alloc: Global, values: &ArgMatches<'_>) -> Result<Export, CommandFault>
@@ -109,9 +129,50 @@ fn read_sample(values: &ArgMatches<'_>) -> Result<Sample, CommandFault>
     let Some(size) = values.get_str("N") else {
         return Err(CommandFault::NoCommand);
     };
-    match read_u32(size.as_bytes()) {
-        Ok(size) if 1 <= size && size <= SAMPLE_LIMIT => Ok(Sample { size }),
-        _ => Err(CommandFault::NoCommand),
+    match number_up_to(size, SAMPLE_LIMIT) {
+        Some(size) => Ok(Sample { size }),
+        None => Err(CommandFault::NoCommand),
+    }
+}
+
+/// The port that was given.
+fn read_port(values: &ArgMatches<'_>) -> Result<u16, CommandFault>
+    ensures value { result
+        ≡ ok_or (read_by (number_up_to port_limit) (first_value (found_of values.now) (codes "port"))) fault.NoCommand }
+    ensures bounds { IfOk result (IsUpTo port_limit) }
+{
+    let Some(port) = values.get_str("port") else {
+        return Err(CommandFault::NoCommand);
+    };
+    match number_up_to(port, PORT_LIMIT) {
+        Some(port) => Ok(port as u16),
+        None => Err(CommandFault::NoCommand),
+    }
+}
+
+/// The number of this name, from 1 up to the limit, where it was given.
+fn read_number(values: &ArgMatches<'_>, name: &str, limit: u32) -> Result<Option<u32>, CommandFault>
+    ensures value { result
+        ≡ ok_or (optional_by (number_up_to limit) (first_value (found_of values.now) name.now)) fault.NoCommand }
+    ensures bounds { IfOk result (λ given. IfSome given (IsUpTo limit)) }
+{
+    let Some(number) = values.get_str(name) else {
+        return Ok(None);
+    };
+    match number_up_to(number, limit) {
+        Some(number) => Ok(Some(number)),
+        None => Err(CommandFault::NoCommand),
+    }
+}
+
+/// The number from 1 up to the limit that the word is.
+fn number_up_to(word: &str, limit: u32) -> Option<u32>
+    ensures value { result ≡ number_up_to limit word.now }
+    ensures bounds { IfSome result (IsUpTo limit) }
+{
+    match read_u32(word.as_bytes()) {
+        Ok(n) if 1 <= n && n <= limit => Some(n),
+        _ => None,
     }
 }
 
@@ -139,6 +200,21 @@ fn read_store(alloc: Global, values: &ArgMatches<'_>) -> Result<Bytes, CommandFa
     match values.get_str("store") {
         Some(name) => store_name(alloc, name),
         None => Err(CommandFault::NoCommand),
+    }
+}
+
+/// The name of the store, where one was given.
+fn read_optional_store(
+    alloc: Global,
+    values: &ArgMatches<'_>,
+) -> Result<Option<Bytes>, CommandFault>
+    ensures value { result ≢ Err fault.OutOfMemory
+        → result ≡ ok_or (optional_by store_name_of (first_value (found_of values.now) (codes "store"))) fault.NoCommand }
+    ensures bounds { IfOk result (λ given. IfSome given (λ name. is_store_name name ≡ true)) }
+{
+    match values.get_str("store") {
+        Some(name) => Ok(Some(store_name(alloc, name)?)),
+        None => Ok(None),
     }
 }
 

@@ -2,7 +2,7 @@
 use Rattle.std.proofs.Common.{◌≡◌, ℕ, [], refl, ap, ◌∙◌}
 use Rattle.desk_tables.specs.declared.plan.TablesPlan.TheVariants.{Kept}
 use Rattle.desk_records.specs.Changes.{plan_changes}
-use Rattle.desk_clerk.proofs.Opened.{some_there}
+use Rattle.desk_clerk.proofs.OpenedAs.{some_there}
 use Rattle.desk_clerk.proofs.keeping.keep.Goals as goal
 
 none_of_kept : (n : ℕ) → plan_changes (Kept n) ≡ []

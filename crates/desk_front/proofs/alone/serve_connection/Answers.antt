@@ -12,7 +12,7 @@ use Rattle.desk_front.proofs.alone.serve_connection.Goals as goal
 
 pub returns-clause-same_clerk : goal.returns-clause-same_clerk
 returns-clause-same_clerk g c =
-    let R = (ghosts g.row.K g.K.Keeper g.K.Keeper-dict).replies in
+    let R = (ghosts g.row.K g.row.J g.K.Keeper g.K.Keeper-dict g.J.Naming g.J.Naming-dict).replies in
     let x = replied R c.args.connection.now c.serve.new.answerer c.serve.result (g.L.Link.unread c.args.link.now) (g.L.Link.unread c.serve.new.link)
     (g.L.Link.written c.args.link.now) (g.L.Link.written c.serve.new.link) c.serve.ensures.served (λ e. (c.serve.ensures.nothing e).0)
     in
@@ -20,7 +20,7 @@ returns-clause-same_clerk g c =
 
 pub returns-clause-told : goal.returns-clause-told
 returns-clause-told g c =
-    let R = (ghosts g.row.K g.K.Keeper g.K.Keeper-dict).replies in
+    let R = (ghosts g.row.K g.row.J g.K.Keeper g.K.Keeper-dict g.J.Naming g.J.Naming-dict).replies in
     let x = replied R c.args.connection.now c.serve.new.answerer c.serve.result (g.L.Link.unread c.args.link.now) (g.L.Link.unread c.serve.new.link)
     (g.L.Link.written c.args.link.now) (g.L.Link.written c.serve.new.link) c.serve.ensures.served (λ e. (c.serve.ensures.nothing e).0)
     in
@@ -28,7 +28,7 @@ returns-clause-told g c =
 
 pub returns-clause-keeper_never_falls : goal.returns-clause-keeper_never_falls
 returns-clause-keeper_never_falls g c =
-    let R = (ghosts g.row.K g.K.Keeper g.K.Keeper-dict).replies in
+    let R = (ghosts g.row.K g.row.J g.K.Keeper g.K.Keeper-dict g.J.Naming g.J.Naming-dict).replies in
     let old : Standing = record { whole = whole c.args.connection.now.clerk.now; met = c.args.connection.now.met; faults = g.K.Keeper.faults (keeper_of c.args.connection.now.clerk.now) } in
     let new : Standing = record { whole = whole c.serve.new.answerer.clerk.now; met = c.serve.new.answerer.met; faults = g.K.Keeper.faults (keeper_of c.serve.new.answerer.clerk.now) } in
     let x = replied R c.args.connection.now c.serve.new.answerer c.serve.result (g.L.Link.unread c.args.link.now) (g.L.Link.unread c.serve.new.link)
@@ -41,7 +41,7 @@ returns-clause-keeper_never_falls g c =
 
 pub returns-clause-served : goal.returns-clause-served
 returns-clause-served g c other =
-    let R = (ghosts g.row.K g.K.Keeper g.K.Keeper-dict).replies in
+    let R = (ghosts g.row.K g.row.J g.K.Keeper g.K.Keeper-dict g.J.Naming g.J.Naming-dict).replies in
     let old : Standing = record { whole = whole c.args.connection.now.clerk.now; met = c.args.connection.now.met; faults = g.K.Keeper.faults (keeper_of c.args.connection.now.clerk.now) } in
     let left = whole c.serve.new.answerer.clerk.now in
     let counted = g.K.Keeper.faults (keeper_of c.serve.new.answerer.clerk.now) in

@@ -1,5 +1,5 @@
 -- Where memory was wanting for the words, no command began; and the command that was followed is the one that the words are.
-use Rattle.std.proofs.Common.{◌≡◌, Option, None, Some, Result, Ok, map, sym, subst, ◌∙◌}
+use Rattle.std.proofs.Common.{◌≡◌, Option, None, Some, Result, Ok, map, refl, sym, subst, ◌∙◌}
 use Rattle.std.specs.Prelude.{string_bytes}
 use Rattle.std.specs.Option.{ok_or}
 use Rattle.desk_words.specs.Commands.{answer_of, command_of}
@@ -9,6 +9,7 @@ use Rattle.desk_words.specs.declared.command_fault.CommandFault.{CommandFault}
 use Rattle.desk_words.specs.declared.command_fault.CommandFault.TheVariants.{NoCommand}
 use Rattle.desk_edge.specs.Faults.{Rose}
 use Rattle.desk_top.specs.Console.{console_of}
+use Rattle.desk_top.specs.Serve.{doorway_of}
 use Rattle.desk_top.proofs.Memory.{undone}
 use Rattle.desk_top.proofs.program.run.Goals as goal
 
@@ -19,7 +20,10 @@ returns-in-Err-OutOfMemory-clause-command g c command is =
     (g.L.Link.written c.args.console.now) (g.L.Link.written c.answer_no_memory.new.console))
     (Rose (g.L.Link.faults c.args.console.now) (g.L.Link.faults c.answer_no_memory.new.console))
     c.answer_no_memory.ensures.input_stays (rw c.answer_no_memory.ensures.status at c.answer_no_memory.ensures.answer)
-    (g.S.Shelf.Tells c.args.shelf.now) (g.S.Shelf.content c.args.shelf.now) (g.S.Shelf.count c.args.shelf.now) (Rose (g.S.Shelf.faults c.args.shelf.now) (g.S.Shelf.faults c.args.shelf.now)) command))
+    (g.S.Shelf.Tells c.args.shelf.now) (g.S.Shelf.content c.args.shelf.now) (g.S.Shelf.count c.args.shelf.now) (Rose (g.S.Shelf.faults c.args.shelf.now) (g.S.Shelf.faults c.args.shelf.now))
+    (doorway_of (g.D.Doors.faults c.args.doors.now) (g.D.Doors.faults c.args.doors.now) (g.D.Doors.taken c.args.doors.now)
+    (g.D.Doors.taken c.args.doors.now) (g.D.Doors.is_closed c.args.doors.now))
+    refl command))
 
 followed : (a b : Command) (found : Option Command) → ◌≡◌ {A = Result Command CommandFault} (Ok a) (ok_or found NoCommand) → found ≡ Some b → a ≡ b
 followed a b None e f = cc

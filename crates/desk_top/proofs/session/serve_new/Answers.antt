@@ -9,11 +9,11 @@ pub returns-in-Ok-clause-unstored : goal.returns-in-Ok-clause-unstored
 returns-in-Ok-clause-unstored g c = (
   _,
   rw c.new.ensures at (ends_opened _ _ _ _ _ _
-      (console_of (g.L.Link.unread c.args.link.now) (g.L.Link.unread c.serve_clerk.new.link)
-      (g.L.Link.written c.args.link.now) (g.L.Link.written c.serve_clerk.new.link))
-      (Rose (g.L.Link.faults c.args.link.now) (g.L.Link.faults c.serve_clerk.new.link))
-      (λ tells. c.in-Ok.ensures.opened (c.serve_clerk.ensures.told tells))
-      (rw c.in-Ok.ensures.untouched at c.serve_clerk.ensures.served)),
+      (console_of (g.L.Link.unread c.args.link.now) (g.L.Link.unread c.serve_desk.new.link)
+      (g.L.Link.written c.args.link.now) (g.L.Link.written c.serve_desk.new.link))
+      (Rose (g.L.Link.faults c.args.link.now) (g.L.Link.faults c.serve_desk.new.link))
+      (λ tells. c.in-Ok.ensures.opened (c.serve_desk.ensures.told tells))
+      (rw c.in-Ok.ensures.untouched at c.serve_desk.ensures.served)),
 )
 
 pub returns-in-Err-clause-unstored : goal.returns-in-Err-clause-unstored

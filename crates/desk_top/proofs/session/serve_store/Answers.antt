@@ -15,12 +15,12 @@ returns-clause-stored g c = (
   _,
   ends_as _ _ _ _ _ _ _ _ _ (λ tells. (c.close_store.ensures.kept tells).0) (λ tells. (c.close_store.ensures.kept tells).1)
       (ends_opened _ _ _ _ _ _
-      (console_of (g.L.Link.unread c.args.link.now) (g.L.Link.unread c.serve_clerk-status.new.link)
-      (g.L.Link.written c.args.link.now) (g.L.Link.written c.serve_clerk-status.new.link))
-      (Rose (g.L.Link.faults c.args.link.now) (g.L.Link.faults c.serve_clerk-status.new.link))
-      (λ tells. c.in-Ok.ensures.opened (c.serve_clerk-status.ensures.told tells))
-      (rw c.in-Ok.ensures.untouched at c.serve_clerk-status.ensures.served)),
-  (λ tells. c.in-Ok.ensures.told (c.serve_clerk-status.ensures.told (c.close_store.ensures.kept tells).0)),
+      (console_of (g.L.Link.unread c.args.link.now) (g.L.Link.unread c.serve_desk-status.new.link)
+      (g.L.Link.written c.args.link.now) (g.L.Link.written c.serve_desk-status.new.link))
+      (Rose (g.L.Link.faults c.args.link.now) (g.L.Link.faults c.serve_desk-status.new.link))
+      (λ tells. c.in-Ok.ensures.opened (c.serve_desk-status.ensures.told tells))
+      (rw c.in-Ok.ensures.untouched at c.serve_desk-status.ensures.served)),
+  (λ tells. c.in-Ok.ensures.told (c.serve_desk-status.ensures.told (c.close_store.ensures.kept tells).0)),
   (λ some. rw (← c.in-Ok.ensures.counted) (c.close_store.ensures.rises some)),
   inl (sym c.close_store.ensures.count),
 )

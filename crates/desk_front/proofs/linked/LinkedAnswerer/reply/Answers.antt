@@ -53,7 +53,7 @@ returns-in-Ok-Question-clause-ok g c =
         refl,
         subst (λ a. Says (SeatTurn g.E.Editor.NeverFails) old a request.close said new) is
             (says_answer g.E.Editor.NeverFails (g.S.Seat.list c.args.self.now.seat.now) (g.S.Seat.list c.answer.new.seat) (g.E.Editor.faults c.args.self.now.editor.now) (g.E.Editor.given c.args.self.now.editor.now)
-            asked request.close c.answer.ensures.grown c.answer.ensures.history),
+            asked request.close c.answer.ensures.grown),
       ),
     ))
     c.answer.ensures.ok
@@ -72,7 +72,7 @@ returns-in-Ok-Question-clause-fixed g c =
       refl,
       subst (λ a. Says (SeatTurn g.E.Editor.NeverFails) old a request.close (fixed_reply told request.close) new) is
           (says_unanswered g.E.Editor.NeverFails (g.S.Seat.list c.args.self.now.seat.now) (g.S.Seat.list c.answer.new.seat) (g.E.Editor.faults c.args.self.now.editor.now) (g.E.Editor.given c.args.self.now.editor.now)
-          asked request.close told memory c.answer.ensures.grown c.answer.ensures.history),
+          asked request.close told memory c.answer.ensures.grown),
     ))
     c.answer.ensures.memory
 
