@@ -1,8 +1,11 @@
-"""What the scripts share that talk to the desk: requests as bytes, replies read from a stream, runs of the program, records of a store."""
+"""What the scripts share that talk to the desk: requests as bytes, replies read from a stream, connections, runs of the
+program, records of a store."""
 import collections
 import io
 import json
+import socket
 import sqlite3
+import struct
 import subprocess
 import time
 
@@ -94,8 +97,8 @@ def session(program, stream, store=None, **options):
 class Session:
     """A session that stays open, where a request may wait for the reply to the one before."""
 
-    def __init__(self, program, store=None):
-        self.process = subprocess.Popen([program, "session", *over(store)], stdin=subprocess.PIPE, stdout=subprocess.PIPE)
+    def __init__(self, program, store=None, before=()):
+        self.process = subprocess.Popen([*before, program, "session", *over(store)], stdin=subprocess.PIPE, stdout=subprocess.PIPE)
 
     def send(self, request):
         self.process.stdin.write(request)
@@ -114,6 +117,40 @@ class Session:
         rest = self.process.stdout.read()
         self.process.stdout.close()
         return self.process.wait(), rest
+
+
+class Connection:
+    """A connection to a server at a port of this machine."""
+
+    def __init__(self, port, patience=60):
+        self.socket = socket.create_connection(("127.0.0.1", port), timeout=patience)
+        self.stream = self.socket.makefile("rb")
+
+    def send(self, request):
+        self.socket.sendall(request)
+
+    def reply(self):
+        """The next whole reply, or None where the connection ends before it."""
+        return reply(self.stream)
+
+    def say(self, request):
+        self.send(request)
+        return self.reply()
+
+    def close(self):
+        self.stream.close()
+        self.socket.close()
+
+    def reset(self):
+        """Breaks it off, so that the other side is told at once and what is under way is lost."""
+        self.socket.setsockopt(socket.SOL_SOCKET, socket.SO_LINGER, struct.pack("ii", 1, 0))
+        self.close()
+
+    def __enter__(self):
+        return self
+
+    def __exit__(self, *_):
+        self.close()
 
 
 def records(store):

@@ -1,18 +1,31 @@
 """The commands that the documents show, as tests: each is run, in the order of its document, and answers as the document says.
 
-A document's commands stand in blocks of the language `sh`. They are run by one shell in a copy of `examples/` and `scripts/`, with the
-tested program as `bin/desk`. A block without a language right behind one has what it writes, or, where it begins with `-- `, a part of
-that; then those behind it that begin so have later parts. The commands of `bare` are run elsewhere: the gate and these tests themselves.
+A document's commands stand in blocks of the language `sh`. They are run by one shell in a copy of `examples/`, `scripts/` and the client,
+with the tested program as `bin/desk`. A block without a language right behind one has what it writes, or, where it begins with `-- `, a
+part of that; then those behind it that begin so have later parts. The commands of `bare` are run elsewhere: the gate and these tests
+themselves.
+The blocks of docs/HTTP.md talk to one server, so without curl the whole document is left out.
 """
 import itertools
 import pathlib
 import re
 import shutil
 import subprocess
+import sys
 import tempfile
 
 top = pathlib.Path(__file__).resolve().parent.parent
-DOCUMENTS = ("README.md", "docs/GUIDE.md", "docs/SUPPLIERS.md", "docs/FORMATS.md", "docs/RULES.md", "docs/ARCHITECTURE.md", "docs/PROOF.md")
+sys.path.insert(0, str(top / "scripts"))
+from served import free_port  # noqa: E402 (the line above has to come first)
+
+DOCUMENTS = (
+    "README.md", "docs/GUIDE.md", "docs/SUPPLIERS.md", "docs/HTTP.md", "docs/CLIENT.md", "docs/FORMATS.md", "docs/RULES.md",
+    "docs/ARCHITECTURE.md", "docs/PROOF.md", "examples/acme/WALK.md"
+)
+# The tools of others that all commands of a document need.
+NEEDS = {"docs/HTTP.md": "curl"}
+# The port that the documents name. In its place each trial takes one that nobody has.
+PORT = "7171"
 BARE = re.compile(r"^(tests/run|\.ci/run|rt |scripts/)")
 # What a reader has that these commands take for granted: a table that a spreadsheet saved.
 GIVEN = {"export.csv": "examples/padded.csv"}
@@ -32,24 +45,26 @@ def is_part(wanted):
     return wanted.startswith("-- ")
 
 
-def is_there(command):
-    """Whether the machine has what a block of commands begins with; only the tools of others may be missing."""
-    return command.split()[0] != "sqlite3" or shutil.which("sqlite3")
+def is_there(document, command):
+    """Whether the machine has the tools of others that a document needs and that this block begins with; nothing else may be missing."""
+    needed = [NEEDS.get(document), "sqlite3" if command.split()[0] == "sqlite3" else None]
+    return all(shutil.which(tool) for tool in needed if tool)
 
 
 def commands_of(document):
-    return [(text, wanted) for text, wanted in blocks_of(document) if not BARE.match(text) and is_there(text)]
+    return [(text, wanted) for text, wanted in blocks_of(document) if not BARE.match(text) and is_there(document, text)]
 
 
 def lay_out(room, program):
     """What the commands find: the examples, the scripts, and the tested program."""
-    for name in ("examples", "scripts", "docs"):
-        shutil.copytree(top / name, room / name)
+    for name in ("examples", "scripts", "docs", "client"):
+        shutil.copytree(top / name, room / name, ignore=shutil.ignore_patterns("__pycache__"))
     for name, source in GIVEN.items():
         shutil.copy(top / source, room / name)
     (room / "bin").mkdir()
     (room / "bin/desk").write_text('#!/bin/sh\nexec ' + " ".join(f"'{word}'" for word in program) + ' "$@"\n')
     (room / "bin/desk").chmod(0o755)
+    shutil.copy(top / "bin/desk-client", room / "bin")
 
 
 def fault_of(text, wanted, status, written):
@@ -69,13 +84,14 @@ def fault_of(text, wanted, status, written):
 def document_fault(program, document):
     """Runs the commands of a document in one shell: what is wrong, or None."""
     commands = commands_of(document)
+    port = str(free_port())
     with tempfile.TemporaryDirectory(prefix="desk-test.") as folder:
         room = pathlib.Path(folder) / "room"
         room.mkdir()
         lay_out(room, program)
         lines = []
         for place, (text, _) in enumerate(commands):
-            lines.append(f"{{\n{text}}} > {folder}/{place}.out\necho $? > {folder}/{place}.status")
+            lines.append(f"{{\n{text.replace(PORT, port)}}} > {folder}/{place}.out\necho $? > {folder}/{place}.status")
         script = pathlib.Path(folder) / "commands.sh"
         script.write_text("\n".join(lines) + "\n")
         subprocess.run(["bash", script], cwd=room, stdin=subprocess.DEVNULL, stderr=subprocess.DEVNULL, timeout=300)
@@ -88,8 +104,19 @@ def document_fault(program, document):
     return None
 
 
+def title_of(document):
+    return f"{document} shows commands that do what it says"
+
+
+def left_out():
+    """The tests that need what is not here: a name, and what it needs."""
+    for document, tool in NEEDS.items():
+        if not shutil.which(tool):
+            yield title_of(document), tool
+
+
 def tests(program):
     """The tests of all documents that show commands: a name, a function that gives what is wrong or None, and what it is given."""
     for document in DOCUMENTS:
         if commands_of(document):
-            yield f"{document} shows commands that do what it says", document_fault, (program, document)
+            yield title_of(document), document_fault, (program, document)

@@ -1,8 +1,8 @@
 """The examples of the repository as tests: each has to be answered as its file says.
 
 An example is a file NAME.csv with the input, NAME.words with the words, and NAME.expected with the answer, or with the line of a
-refusal, which goes with status 6. A folder of the examples is a desk: enter.txt, ask.txt and correct.txt name its requests, and
-replies.txt has what scripts/replies shows of the answers.
+refusal, which goes with status 6. A folder of the examples with a file replies.txt is a desk: enter.txt, ask.txt and correct.txt name
+its requests, and replies.txt has what scripts/replies shows of the answers. The walk of examples/acme is a document (documents.py).
 """
 import pathlib
 import subprocess
@@ -74,7 +74,7 @@ def tests(program):
     """The tests of all examples: a name, a function that gives what is wrong or None, and what it is given."""
     for example in sorted(folder.glob("*.csv")):
         yield f"examples/{example.stem} is answered as its file says", answer_fault, (program, example)
-    for desk in sorted(it for it in folder.iterdir() if it.is_dir()):
+    for desk in sorted(it.parent for it in folder.glob("*/replies.txt")):
         ways = Desk(program, desk)
         for name, serve in (
             ("in one session", ways.at_once),

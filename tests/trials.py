@@ -1,11 +1,11 @@
-"""The trials of scripts/ in their short forms, as tests: each of their checks is one."""
+"""The trials of scripts/ in their short forms, or in the longer that some have for --long, as tests: each of their checks is one."""
 import importlib.machinery
 import importlib.util
 import pathlib
 import sys
 
 scripts = pathlib.Path(__file__).resolve().parent.parent / "scripts"
-NAMES = ("against-itself", "bad-stores", "real-clients")
+NAMES = ("against-itself", "bad-clients", "bad-stores", "real-clients", "spoiled-stores", "soak")
 
 
 class Noted:
@@ -34,10 +34,12 @@ def script_of(name):
     return module
 
 
-def run(name, program, tally):
-    """Runs the short form of a trial over the program."""
+def run(name, program, tally, is_long=False):
+    """Runs the short form of a trial over the program, or its long form where it has one."""
     noted = Noted(f"scripts/{name}", tally)
     try:
-        script_of(name).short(program, noted)
+        script = script_of(name)
+        form = script.long if is_long and hasattr(script, "long") else script.short
+        form(program, noted)
     except Exception as error:  # What breaks a trial off is told as a test that failed.
         noted.note("it goes to its end", f"{type(error).__name__}: {error}")
