@@ -8,10 +8,9 @@ use Rattle.desk_graph.specs.Graph.{Graph, label_of, lines_of as node_lines}
 use Rattle.desk_graph.specs.Reaches.{has_node, is_affected as is_affected_node, is_or_reaches as node_is_or_reaches, reaches as node_reaches}
 use Rattle.desk_graph.proofs.Reached.{affected-seed, any_node-out, same_test}
 use Rattle.desk_rollup.proofs.Lists.{each_line, is_found}
-use Rattle.desk_rollup.proofs.Rolls.{to_step}
+use Rattle.desk_rollup.proofs.OneNode.{step_stays}
 use Rattle.desk_rollup.specs.Plan.{CanPrepare, nodes_of}
-use Rattle.desk_rollup.specs.Step.{IsStep, IsStepOver}
-use Rattle.desk_rollup.specs.Values.{Kept, OwnValues, amount_of, own_at, own_with, rolled_at}
+use Rattle.desk_rollup.specs.Values.{Kept, OwnValues, amount_of, own_at, own_with}
 use Rattle.desk_model.specs.declared.edit.Edit.{Edit}
 use Rattle.desk_model.specs.Effect.{entered}
 use Rattle.desk_model.specs.Lists.{Lists, is_kept}
@@ -138,11 +137,6 @@ module _ (t : Lists) (edit : Edit) (g new : Graph) (kept : Kept) (owns : List Ow
         ∙ ap (λ code. ends_of (lines_of t.lines code)) (edited.labels node old)
         ∙ sym (ends_alike t g edited.before node old))
 
-    step_stays : IsStep new.lines kept node
-    step_stays =
-        subst (λ of_node. IsStepOver (rolled_at kept.rolled) (own_at kept.owns node) of_node (rolled_at kept.rolled node)) (sym lines_same)
-        (to_step g.lines edited.before.bill.ranked.0 edited.before.bill.ranked.1 (own_at kept.owns) (rolled_at kept.rolled) node (λ child line. edited.rolled.rolled child (edited.before.bill.children node child line)) (rolled_at kept.rolled node) (edited.rolled.rolled node old))
-
     own_stays : (number : Finding → ℕ) (name : ℕ → List ℕ) → AreOwnOf t g number name (own_at kept.owns) → IsOwnOf (entered t edit) number name (label_of new.labels node) (own_with owns kept.owns node)
     own_stays number name own =
         let was = own node old in
@@ -173,7 +167,9 @@ module _ (t : Lists) (edit : Edit) (g new : Graph) (kept : Kept) (owns : List Ow
           | inl here ↦ here
           | inr other ↦ absurd (omega (arith, old node inside other, past, edited.rolled.rolled_size))
         ];
-    steps = λ node there other. step_stays node (omega (arith, there, edited.rolled.rolled_size, edited.nodes)) other;
+    steps = λ node there other.
+        let inside = omega (arith, there, edited.rolled.rolled_size, edited.nodes) in
+        step_stays g edited.before.bill kept edited.rolled new.lines node there (lines_same node inside other);
     lighter = λ node what inside.
         let carries = rolled_agree (entered t edit) after_right new edited.after (λ n. amount_of (own_with owns kept.owns n).loads what) (own_load (entered t edit) (name what)) (λ n at. (own n at).loads what) node inside in
         let weighs = rolled_agree (entered t edit) after_right new edited.after (λ n. (own_with owns kept.owns n).weight) (own_mass (entered t edit)) (λ n at. (own n at).weight) node inside in

@@ -6,7 +6,6 @@ pub mod Counted
 pub mod Cycles
 pub mod ExampleProofs
 pub mod Found
-mod FoundShipments
 pub mod Hops
 pub mod Indexes
 pub mod KeptLines

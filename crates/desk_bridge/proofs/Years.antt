@@ -28,8 +28,7 @@ use Rattle.desk_history.proofs.MadeRows.{refuse_if-none}
 use Rattle.desk_history.proofs.Rules.{unrefused}
 use Rattle.desk_history.proofs.Unaffected.{mass_stays}
 use Rattle.desk_history.proofs.Untouched.{same_shipments}
-use Rattle.desk_history.proofs.Years.{unaffected}
-use Rattle.desk_bridge.proofs.FoundShipments.{found_key}
+use Rattle.desk_history.proofs.Years.{found_key, unaffected}
 use Rattle.desk_tonnage.specs.declared.entry.Entry.{Entry}
 use Rattle.desk_tonnage.specs.declared.product_mass.ProductMass.{ProductMass}
 use Rattle.desk_tonnage.specs.Edits.{HasMass, lowered, with_entry, with_units, without_units}

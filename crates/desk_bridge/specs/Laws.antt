@@ -52,7 +52,7 @@ pub record IsLineTold (t : Lists) (ticket parent child : List ℕ) (count : ℕ)
   pub answer : line_answer (node_of g.labels parent) (node_of g.labels child) count g
       ≡ (if graph.is_or_reaches g.lines (node_of g.labels child) (node_of g.labels parent) then Err (Closes (graph.chain g.lines (node_of g.labels child) (node_of g.labels parent))) else Ok tt)
 
--- a line that passes the rules 1 to 19 is refused by the bill where rule 20 refuses it
+-- a line that passes the rules 1 to 19 is refused by the bill where rule 20 refuses it, with the same chain
 abbrev pub CyclesAreTold : Type 0
 CyclesAreTold = (t : Lists) → IsConsistent t → (ticket parent child : List ℕ) (count : ℕ) → is_edit_in_form (Line ticket parent child count) ≡ true → kept_number t (Line ticket parent child count) ≡ None
     → refused_by_rows t (Line ticket parent child count) ≡ None → (g : Graph) → IsBill g → IsBillOf t g → IsLineTold t ticket parent child count g

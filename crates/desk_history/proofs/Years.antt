@@ -39,7 +39,7 @@ both_equal Less second e = absurd (true≢false (sym e))
 both_equal Equal second e = (refl, e)
 both_equal Greater second e = absurd (true≢false (sym e))
 
-found_key : (year : ℕ) (product : List ℕ) (rows : List ShipmentRow) (row : ShipmentRow) → row_of shipment_key shipment_key_cmp (year, product) rows ≡ Some row → (row.year ≡ year) × (row.product ≡ product)
+pub found_key : (year : ℕ) (product : List ℕ) (rows : List ShipmentRow) (row : ShipmentRow) → row_of shipment_key shipment_key_cmp (year, product) rows ≡ Some row → (row.year ≡ year) × (row.product ≡ product)
 found_key year product [] row e = none_some row e
   where
     none_some : (x : ShipmentRow) {G : Type 0} → None ≡ Some x → G

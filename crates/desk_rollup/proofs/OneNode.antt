@@ -1,14 +1,22 @@
--- An edit that changes one node.
+-- Where lines stay, values stay right; and an edit that changes one node.
 use Rattle.std.proofs.Common.{◌≡◌, ℕ, ◌<◌, ◌≤◌, false, ◌||◌, ◌==◌, List, [], ◌∷◌, length, refl, sym, subst, inl, inr, arith}
 use Rattle.std.proofs.lemmas.Bool.{both_ways, cases_Bool, cases_lt, eq-eqb, eqb-true, or_cases, or_left, false≢true}
 use Rattle.std.proofs.lemmas.List.{get_or_past}
+use Rattle.desk_graph.specs.declared.line.BillLine.{BillLine}
 use Rattle.desk_graph.specs.Bill.{IsBill}
-use Rattle.desk_graph.specs.Graph.{Graph}
+use Rattle.desk_graph.specs.Graph.{Graph, lines_of}
 use Rattle.desk_rollup.specs.Laws.{AreLight, ChangesOne, IsLight}
 use Rattle.desk_rollup.specs.Plan.{AreRolledUp, CanPrepare}
-use Rattle.desk_rollup.specs.Step.{IsStepOver}
+use Rattle.desk_rollup.specs.Step.{IsStep, IsStepOver}
 use Rattle.desk_rollup.specs.Values.{Kept, OwnValues, amount_of, no_own, own_at, own_with, rolled_at}
 use Rattle.desk_rollup.proofs.Rolls.{no_heavier, to_step}
+
+-- values that are right for a bill are right by the children at a node whose lines stay as they are
+pub step_stays : (g : Graph) → IsBill g → (kept : Kept) → AreRolledUp g kept → (lines : List (List BillLine)) → (node : ℕ) → node < length kept.rolled →
+    lines_of lines node ≡ lines_of g.lines node → IsStep lines kept node
+step_stays g bill kept up lines node there same =
+    subst (λ of_node. IsStepOver (rolled_at kept.rolled) (own_at kept.owns node) of_node (rolled_at kept.rolled node)) (sym same)
+    (to_step g.lines bill.ranked.0 bill.ranked.1 (own_at kept.owns) (rolled_at kept.rolled) node (λ child line. up.rolled child (bill.children node child line)) (rolled_at kept.rolled node) (up.rolled node (omega (arith, there, up.rolled_size))))
 
 module _ (own : OwnValues) (kept : List OwnValues) where
   -- with one light node more all are light
@@ -31,8 +39,7 @@ may_prepare g new bill new_bill kept up own one light own_light = record {
   new_nodes = λ node past there. or_left (own.node == node) false (eq-eqb own.node node (sym (one.added node (omega (arith, past, up.rolled_size)) there)));
   steps = λ node there none.
       let other : node ≡ own.node → ⊥ = λ same. both_ways (own.node == node || false) none (or_left (own.node == node) false (eq-eqb own.node node (sym same))) in
-      subst (λ of_node. IsStepOver (rolled_at kept.rolled) (own_at kept.owns node) of_node (rolled_at kept.rolled node)) (sym (one.lines node other))
-      (to_step g.lines bill.ranked.0 bill.ranked.1 (own_at kept.owns) (rolled_at kept.rolled) node (λ child line. up.rolled child (bill.children node child line)) (rolled_at kept.rolled node) (up.rolled node (omega (arith, there, up.rolled_size))));
+      step_stays g bill kept up new.lines node there (one.lines node other);
   lighter = λ node what _.
       no_heavier new.lines new_bill.ranked.0 new_bill.ranked.1 (own_with (own ∷ []) kept.owns) what (λ n. light_with own kept.owns light own_light n what) node;
 }
