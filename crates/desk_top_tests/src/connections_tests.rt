@@ -24,7 +24,7 @@ use std::thread::{Threads, for_each_mut};
 const ROOM: usize = 100_000;
 
 /// A supplier's declaration is entered, sent again, and sent with another mass.
-const DECLARED: [Turn; 4] = [
+pub(crate) const DECLARED: [Turn; 4] = [
     Turn {
         ask: "POST /declare D,1,ACME,7,2024-01-23\nM,SOLDER,Solder paste,1000000\nS,SOLDER,lead,1000\n",
         status: "200 OK",
@@ -188,13 +188,14 @@ fn question_while_edit_waits(rt: HostRuntime) -> Result<(), Fail> {
     check(is_answered_meanwhile(&rt, rt.alloc())?, "a question waits")
 }
 
-/// How a new desk is served by an editor over one clerk, and what is written on the connection.
-fn served_by_book<R: Wait + Sync>(
+/// How a new desk that the keeper keeps is served by an editor over one clerk.
+pub(crate) fn served_by_book<R: Wait + Sync>(
     rt: &R,
     alloc: Global,
+    keeper: MapKeeper,
     link: &mut MemoryLink,
 ) -> Result<Served, Fail> {
-    match StoredDesk::open(alloc, keeper(alloc)) {
+    match StoredDesk::open(alloc, keeper) {
         Ok(desk) => served_by_named::<R, Brand>(rt, alloc, BlankBook::new(), desk, link),
         Err(_) => Err(Fail::new("not opened")),
     }
@@ -240,7 +241,7 @@ fn served_from<R: Wait + Sync, K: Keeper, J: Naming<DeskBoard>>(
 fn is_replied<R: Wait + Sync>(rt: &R, alloc: Global, turns: (String, String)) -> Result<(), Fail> {
     let (stream, replies) = turns;
     let mut link = line(alloc, &stream)?;
-    let served = served_by_book(rt, alloc, &mut link)?;
+    let served = served_by_book(rt, alloc, keeper(alloc), &mut link)?;
     check(served == Served::Ended, "the stream did not end")?;
     check(link.written() == replies.as_bytes(), "other replies")
 }

@@ -86,3 +86,38 @@ pub(crate) fn gateway(alloc: Global) -> Result<(String, String), Fail> {
     }
     Ok((stream, replies))
 }
+
+/// Appends the requests that enter the gateway, but for the one of this place.
+fn push_entered(stream: &mut String, but: usize) -> Result<(), Fail> {
+    for (place, &ask) in ENTERED.iter().enumerate() {
+        if place != but {
+            push_request(stream, ask)?;
+        }
+    }
+    Ok(())
+}
+
+/// The first of the requests that enter the gateway, so many.
+pub(crate) fn first_entered(alloc: Global, count: usize) -> Result<String, Fail> {
+    let mut stream = String::new(alloc);
+    for &ask in ENTERED.iter().take(count) {
+        push_request(&mut stream, ask)?;
+    }
+    Ok(stream)
+}
+
+/// The requests that enter the gateway, but for the one of this place; then all of them, and the questions.
+pub(crate) fn entered_twice(alloc: Global, but: usize) -> Result<String, Fail> {
+    let mut stream = String::new(alloc);
+    push_entered(&mut stream, but)?;
+    push_entered(&mut stream, ENTERED.len())?;
+    for turn in ASKED {
+        push_request(&mut stream, turn.ask)?;
+    }
+    Ok(stream)
+}
+
+/// How many requests enter the gateway.
+pub(crate) fn entered_count() -> usize {
+    ENTERED.len()
+}

@@ -8,6 +8,8 @@ mod commands_tests;
 #[cfg(test)]
 mod connections_tests;
 #[cfg(test)]
+mod faults_tests;
+#[cfg(test)]
 mod gateway_turns;
 #[cfg(test)]
 mod notes;
