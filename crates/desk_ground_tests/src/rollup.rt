@@ -83,6 +83,9 @@ fn enter<L: Ledger>(
         Err(fault) => return Ok(Err(fault)),
     };
     let count = replaced(&rolled, nodes as NodeId);
+    if rolled.nodes().len() != count {
+        return Err(Fail::new("a plan tells other nodes than it replaces"));
+    }
     desk.rollups.commit(rolled);
     desk.bill.commit(plan);
     if desk.bill.node_count() < before {
@@ -300,6 +303,26 @@ fn takes_the_least_label(desk: &mut Desk, alloc: Global) -> Result<(), Fail> {
 fn the_next_of_a_mark_is_the_child_with_the_least_label(rt: HostRuntime) -> Result<(), Fail> {
     let mut desk = start(rt.alloc())?;
     takes_the_least_label(&mut desk, rt.alloc())
+}
+
+/// Fails unless a copy has the values of all nodes, and keeps them where what it is a copy of gets others.
+fn is_copied(desk: &mut Desk, alloc: Global) -> Result<(), Fail> {
+    build(desk, alloc, "PABCM", &DIAMOND)?;
+    let mark = Mark { node: 4, what: 1 };
+    expect_eq(&give(desk, alloc, 4, 1_000_000, &[mark])?, &Ok(5))?;
+    let copy = Desk {
+        bill: desk.bill.copied(alloc)?,
+        rollups: desk.rollups.copied(alloc)?,
+    };
+    expect_eq(&give(desk, alloc, 4, 2_000_000, &[])?, &Ok(5))?;
+    has_at_top(&copy, alloc, 5_000_000, mark, &[0, 1, 3, 4])?;
+    expect_eq(&values_of(desk, 0)?.weight, &10_000_000)
+}
+
+#[test]
+fn a_copy_keeps_its_values(rt: HostRuntime) -> Result<(), Fail> {
+    let mut desk = start(rt.alloc())?;
+    is_copied(&mut desk, rt.alloc())
 }
 
 /// Adds forty layers of two nodes and two nodes below them, each of which has both nodes of the next layer but for the last.

@@ -353,6 +353,21 @@ fn a_copy_has_the_same_entries(rt: HostRuntime) -> Result<(), Fail> {
     is_copied(&yearly, &mut copy, rt.alloc())
 }
 
+/// Fails unless years that are made of all entries at once have the same entries.
+fn is_made_at_once(yearly: &Yearly, alloc: Global) -> Result<(), Fail> {
+    // The years tell that their entries stand in order.
+    let entries = yearly.as_slice();
+    match Yearly::from_entries(Vec::from_slice(alloc, entries)?) {
+        Ok(made) => expect_eq(&made.as_slice(), &entries),
+        Err(_) => Err(Fail::new("a year is too heavy")),
+    }
+}
+
+#[test]
+fn entries_make_years_at_once(rt: HostRuntime) -> Result<(), Fail> {
+    is_made_at_once(&three_entries(rt.alloc())?, rt.alloc())
+}
+
 /// Fails unless three products can be added to each of 92 years, and are counted then.
 fn has_room_for_hundreds(yearly: &mut Yearly, alloc: Global) -> Result<(), Fail> {
     const STEPS: &[Step] = &[
