@@ -5,7 +5,7 @@ use Rattle.desk_findings.proofs.ExampleProofs.{examples as desk_examples}
 use Rattle.desk_findings.specs.Findings.{findings_at, own_findings}
 use Rattle.desk_graph.specs.Reaches.{chain_within, reaches_within}
 use Rattle.desk_bridge.specs.Bridge.{bill_after}
-use Rattle.desk_bridge.specs.Examples.{BridgeExamples, FindingExamples}
+use Rattle.desk_bridge.specs.Examples.{BridgeExamples, FindingExamples, OrderExamples}
 use Rattle.desk_bridge.specs.Planning.{cycle_by}
 
 -- what the examples compute with
@@ -42,3 +42,7 @@ finding_examples = record {
   lead_in_pin = refl;
   one_entry = refl;
 }
+
+pub order_examples : OrderExamples
+unfolding examples
+order_examples = record { told = refl; by_material = refl; by_rule = refl; materials_first = refl; by_candidate = refl }

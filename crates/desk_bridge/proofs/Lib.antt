@@ -7,6 +7,7 @@ pub mod Cycles
 pub mod ExampleProofs
 pub mod Found
 pub mod Hops
+pub mod InOrder
 pub mod Indexes
 pub mod KeptLines
 pub mod KeptNodes
@@ -21,6 +22,7 @@ pub mod Refused
 pub mod Refuses
 pub mod RolledAlike
 pub mod RowRuns
+pub mod Sorted
 pub mod Stays
 pub mod Takes
 pub mod Values

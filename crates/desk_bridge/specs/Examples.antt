@@ -1,13 +1,14 @@
 -- The bill, the ways to findings, own values and the years of an ordinary desk, beside values that were worked out by hand: the gateway of
 -- a board with brass pins and of two cables.
 use Rattle.std.specs.Prelude.{◌≡◌, true, List, [], ◌∷◌, Some, None, codes}
-use Rattle.desk_law.specs.declared.rule.Rule.TheVariants.{Lead}
+use Rattle.std.specs.declared.cmp.Ordering.TheVariants.{Less, Greater}
+use Rattle.desk_law.specs.declared.rule.Rule.TheVariants.{Lead, Dehp}
 use Rattle.desk_model.specs.declared.edit.Edit.{Edit}
 use Rattle.desk_model.specs.declared.edit.Edit.TheVariants.{Line, Part, Unline}
 use Rattle.desk_model.specs.declared.part_sort.PartSort.TheVariants.{Assembly}
 use Rattle.desk_model.specs.Lists.{material_row}
 use Rattle.desk_findings.specs.Examples.Gateway.{desk, edits}
-use Rattle.desk_findings.specs.Findings.{above, over}
+use Rattle.desk_findings.specs.Findings.{Finding, above, findings, over}
 use Rattle.desk_findings.specs.Holders.{holder, next_of}
 use Rattle.desk_findings.specs.OwnValues.{content_of_lines, findings_of_lines, is_over_thousandth, mass_of_lines}
 use Rattle.desk_findings.specs.Reaches.{lines_of}
@@ -15,6 +16,7 @@ use Rattle.desk_graph.specs.Graph.{Graph, lines_of as node_lines}
 use Rattle.desk_graph.specs.Reaches.{chain}
 use Rattle.desk_bridge.specs.Bridge.{bill_after, node_of, rows_at}
 use Rattle.desk_bridge.specs.Numbers.{finding_number}
+use Rattle.desk_bridge.specs.Order.{finding_cmp}
 use Rattle.desk_bridge.specs.Planning.{cycle_by}
 use Rattle.desk_bridge.specs.Years.{entries_of}
 
@@ -38,6 +40,22 @@ pub record BridgeExamples : Type 0 where
   pub cycle : cycle_by gateway (Line (codes "t20") (codes "BOARD") (codes "GATEWAY") 1) ≡ Some (6 ∷ 5 ∷ [])
   pub no_cycle : cycle_by gateway (Line (codes "t20") (codes "GATEWAY") (codes "PIN") 1) ≡ None
   pub brass_chain : chain gateway.lines 6 0 ≡ 6 ∷ 5 ∷ 3 ∷ 0 ∷ []
+
+-- the findings of the gateway, in the order of answers
+abbrev pub gateway_findings : List Finding
+gateway_findings =
+    over (codes "BRASS") Lead
+    ∷ over (codes "PVC") Dehp
+    ∷ above (codes "CABLE") (codes "dehp")
+    ∷ above (codes "PIN") (codes "lead")
+    ∷ []
+
+pub record OrderExamples : Type 0 where
+  pub told : findings desk (codes "GATEWAY") ≡ gateway_findings
+  pub by_material : finding_cmp (over (codes "BRASS") Dehp) (over (codes "PVC") Lead) ≡ Less
+  pub by_rule : finding_cmp (over (codes "PVC") Dehp) (over (codes "PVC") Lead) ≡ Greater
+  pub materials_first : finding_cmp (over (codes "PVC") Dehp) (above (codes "CABLE") (codes "dehp")) ≡ Less
+  pub by_candidate : finding_cmp (above (codes "PIN") (codes "lead")) (above (codes "PIN") (codes "dehp")) ≡ Greater
 
 pub record FindingExamples : Type 0 where
   pub held : holder (above (codes "CABLE") (codes "dehp")) ≡ codes "CABLE"

@@ -6,6 +6,7 @@ pub mod Laws
 pub mod LookUps
 pub mod NewNodes
 pub mod Numbers
+pub mod Order
 pub mod Planning
 pub mod Plans
 pub mod Refusals

@@ -5,6 +5,7 @@ ghost use Rattle.desk_bridge.specs.Laws.{BillsAgree, BillsStay, BillsTake, Cycle
 ghost use Rattle.desk_bridge.specs.LookUps.{BridgesByLookUp};
 ghost use Rattle.desk_bridge.specs.NewNodes.{NodesAreAdded};
 ghost use Rattle.desk_bridge.specs.Numbers.{EditsKeepValues, NumbersServe};
+ghost use Rattle.desk_bridge.specs.Order.{FindingsAreOrdered};
 ghost use Rattle.desk_bridge.specs.Plans.{RowsPlansStand};
 ghost use Rattle.desk_bridge.specs.Refusals.{PartsRefuse};
 ghost use Rattle.desk_bridge.specs.RollUps.{RollUpsAgree};
@@ -95,4 +96,9 @@ pub fn parts_refuse()
 /// A plan of an edit's rows, where the bill refuses nothing, is the plan of the edit.
 pub fn rows_plans_stand()
     ensures { RowsPlansStand }
+{}
+
+/// Just the findings of a part, in the order of answers, are the list that answers tell.
+pub fn findings_are_ordered()
+    ensures { FindingsAreOrdered }
 {}
