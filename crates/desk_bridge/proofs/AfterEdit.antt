@@ -168,7 +168,7 @@ module _ (t : Lists) (edit : Edit) (g new : Graph) (kept : Kept) (owns : List Ow
           | inr other ↦ absurd (omega (arith, old node inside other, past, edited.rolled.rolled_size))
         ];
     steps = λ node there other.
-        let inside = omega (arith, there, edited.rolled.rolled_size, edited.nodes) in
+        let inside : node < length new.labels = omega (arith, there, edited.rolled.rolled_size, edited.nodes) in
         step_stays g edited.before.bill kept edited.rolled new.lines node there (lines_same node inside other);
     lighter = λ node what inside.
         let carries = rolled_agree (entered t edit) after_right new edited.after (λ n. amount_of (own_with owns kept.owns n).loads what) (own_load (entered t edit) (name what)) (λ n at. (own n at).loads what) node inside in
