@@ -1,8 +1,7 @@
 -- Which nodes an edit affects, and that the roll-ups may be prepared.
 use Rattle.std.proofs.Common.{◌≡◌, ℕ, ◌<◌, ◌≤◌, true, false, ◌==◌, List, [], ◌∷◌, length, find, Option, Some, None, is_some, unwrap_or, refl, sym, ap, ◌∙◌, subst, inl, inr, arith}
 use Rattle.std.specs.List.{AllByRecursion}
-use Rattle.std.proofs.lemmas.Bool.{cases_Bool, cases_lt, eqb-true, or_cases, or_right, true≢false}
-use Rattle.desk_text.specs.Code.{same_code}
+use Rattle.std.proofs.lemmas.Bool.{cases_Bool, cases_lt, eqb-true, or_cases, true≢false}
 use Rattle.desk_graph.specs.declared.line.BillLine.{BillLine}
 use Rattle.desk_graph.specs.Graph.{Graph, label_of, lines_of as node_lines}
 use Rattle.desk_graph.specs.Reaches.{has_node, is_affected as is_affected_node, is_or_reaches as node_is_or_reaches, reaches as node_reaches}
@@ -14,17 +13,15 @@ use Rattle.desk_rollup.specs.Values.{Kept, OwnValues, amount_of, own_at, own_wit
 use Rattle.desk_model.specs.declared.edit.Edit.{Edit}
 use Rattle.desk_model.specs.Effect.{entered}
 use Rattle.desk_model.specs.Lists.{Lists, is_kept}
-use Rattle.desk_model.proofs.Elements.{any-map, any_map, each}
+use Rattle.desk_model.proofs.Elements.{any-map}
 use Rattle.desk_findings.specs.Carried.{own_load}
 use Rattle.desk_findings.specs.Findings.{Finding}
 use Rattle.desk_findings.specs.Mass.{own_mass}
-use Rattle.desk_findings.specs.Reaches.{is_or_reaches, lines_of, reaches}
-use Rattle.desk_findings.proofs.Bill.{is_or_reaches_trans}
+use Rattle.desk_findings.specs.Reaches.{lines_of}
 use Rattle.desk_findings.proofs.Loads.{carried-le}
-use Rattle.desk_history.specs.Affected.{is_affected, seeds}
+use Rattle.desk_history.specs.Affected.{is_affected}
 use Rattle.desk_history.specs.Laws.{Stays}
 use Rattle.desk_history.specs.Sound.{IsConsistent}
-use Rattle.desk_history.proofs.SoundClauses.{parents_of, right_of}
 use Rattle.desk_history.proofs.SoundSteps.{IsConsistent-entered}
 use Rattle.desk_history.proofs.AffectedAbove.{rises}
 use Rattle.desk_history.proofs.Unaffected.{stays}

@@ -1,5 +1,5 @@
 -- As many marks as findings, and the hops lead the way of the chains.
-use Rattle.std.proofs.Common.{◌≡◌, ℕ, zero, suc, ◌+◌, ◌<◌, ◌≤◌, Bool, true, false, cond, ◌==◌, List, [], ◌∷◌, ◌++◌, length, find, map, sum_by, Option, Some, None, IfSome, option_map, unwrap_or, refl, sym, ap, ◌∙◌, subst, inl, inr, arith}
+use Rattle.std.proofs.Common.{◌≡◌, ℕ, zero, suc, ◌+◌, ◌<◌, ◌≤◌, Bool, true, false, cond, ◌==◌, List, [], ◌∷◌, ◌++◌, length, find, map, sum_by, Option, Some, None, IfSome, option_map, unwrap_or, refl, sym, ap, ◌∙◌, subst, inl, inr}
 use Rattle.std.specs.Prelude.{if◌then◌else◌}
 use Rattle.std.specs.List.{AllByRecursion, flat_map, list_any, range_with_len}
 use Rattle.std.specs.Option.{option_map_or}
@@ -7,12 +7,12 @@ use Rattle.std.proofs.lemmas.Bool.{and_parts, both_ways, cases_Bool, eq-eqb, eqb
 use Rattle.std.proofs.lemmas.List.{length-map}
 use Rattle.desk_graph.specs.declared.line.BillLine.{BillLine}
 use Rattle.desk_graph.specs.Graph.{Graph, label_of, lines_of as node_lines}
-use Rattle.desk_rollup.proofs.Counts.{none_times, one_if, times, times-cons}
-use Rattle.desk_rollup.proofs.Lists.{each_line, find_same, has_once}
+use Rattle.desk_rollup.proofs.Counts.{times}
+use Rattle.desk_rollup.proofs.Lists.{each_line, find_same}
 use Rattle.desk_rollup.proofs.MarkCount.{once_once}
 use Rattle.desk_rollup.proofs.Ranked.{gathered-step}
 use Rattle.desk_rollup.specs.Chain.{chain as node_chain, next_to as node_next, way}
-use Rattle.desk_rollup.specs.Numbers.{has, mark_numbers, once}
+use Rattle.desk_rollup.specs.Numbers.{has, mark_numbers}
 use Rattle.desk_rollup.specs.Plan.{AreRolledUp}
 use Rattle.desk_rollup.specs.Rolled.{gathered, mark_count, marks}
 use Rattle.desk_rollup.specs.Values.{Kept, OwnValues, own_at}
@@ -32,7 +32,7 @@ use Rattle.desk_bridge.specs.RollUps.{AreOwnMarks}
 use Rattle.desk_bridge.proofs.Bridges.{ends_alike, labels_of}
 use Rattle.desk_bridge.proofs.RolledAlike.{bill, find_lines, marked}
 use Rattle.desk_findings.proofs.Holders.{held, own_held, way-is_chain}
-use Rattle.desk_findings.proofs.Numbering.{as_many, counted, each_found, kept_label, label_count, same_itself}
+use Rattle.desk_findings.proofs.Numbering.{as_many, counted, each_found, kept_label, same_itself}
 
 -- what a search finds
 find_if : (P : ℕ → Type 0) (test : BillLine → Bool) (xs : List BillLine) → AllByRecursion (λ line. test line ≡ true → P line.node) xs → IfSome (option_map (λ line. line.node) (find test xs)) P

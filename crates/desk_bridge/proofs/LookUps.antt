@@ -1,10 +1,10 @@
 -- Lists in one order with equal look-ups are equal, and so are lines.
-use Rattle.std.proofs.Common.{◌≡◌, ℕ, ◌<◌, Bool, true, false, cond, ◌==◌, ◌&&◌, ◌||◌, List, [], ◌∷◌, length, filter, map, Option, Some, None, is_some, is_eq, option_map, refl, sym, ap, ◌∙◌, subst, inl, inr, Ordering, Less, Equal, Greater, arith}
+use Rattle.std.proofs.Common.{◌≡◌, ℕ, ◌<◌, Bool, true, false, ◌==◌, ◌&&◌, List, [], ◌∷◌, length, Option, Some, None, is_eq, option_map, refl, sym, ap, ◌∙◌, subst, inl, inr, Ordering, Less, Equal, Greater, arith}
 use Rattle.std.specs.Prelude.{if◌then◌else◌}
 use Rattle.std.specs.Cmp.{IsTotalOrder}
 use Rattle.std.specs.List.{AllByRecursion}
 use Rattle.std.specs.Ordering.{ordering_then}
-use Rattle.std.proofs.lemmas.Bool.{both_ways, cases_Bool, eq-eqb, eqb-true, false_from_ne_true, or_right}
+use Rattle.std.proofs.lemmas.Bool.{both_ways, cases_Bool, eq-eqb, eqb-true, false_from_ne_true}
 use Rattle.std.proofs.lemmas.Cmp.{tied_itself}
 use Rattle.desk_text.specs.Code.{code_cmp, same_code}
 use Rattle.desk_rows.specs.Rows.{IsByKey, row_of, without_row}

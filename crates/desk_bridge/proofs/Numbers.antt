@@ -1,5 +1,5 @@
 -- Numbers of findings.
-use Rattle.std.proofs.Common.{◌≡◌, ℕ, zero, suc, ◌+◌, ◌-◌, ◌*◌, ◌<◌, Bool, true, false, ◌==◌, ◌&&◌, ◌||◌, List, [], ◌∷◌, ◌++◌, length, filter, count_by, Option, Some, None, is_some, refl, sym, ap, ◌∙◌, subst, inl, inr, arith}
+use Rattle.std.proofs.Common.{◌≡◌, ℕ, zero, suc, ◌+◌, ◌-◌, ◌*◌, ◌<◌, Bool, true, false, ◌==◌, ◌&&◌, List, [], ◌∷◌, ◌++◌, length, filter, count_by, Option, Some, None, is_some, refl, sym, ap, ◌∙◌, subst, inl, inr, arith}
 use Rattle.std.specs.Prelude.{if◌then◌else◌, nat_lt, slice_index_or}
 use Rattle.std.specs.List.{AllByRecursion, list_any}
 use Rattle.std.specs.Option.{option_map_or}
@@ -20,7 +20,7 @@ use Rattle.desk_model.specs.declared.rows.part.PartRow.{PartRow}
 use Rattle.desk_model.specs.Effect.{entered}
 use Rattle.desk_model.specs.Lists.{Lists, is_kept, is_material, is_part, material_row, part_row}
 use Rattle.desk_model.proofs.Elements.{any_gives, any_same, each, each_filter, each_map, each_of_map}
-use Rattle.desk_model.proofs.Kept.{code_cmp_total, each_kept, found_each, same_code-true}
+use Rattle.desk_model.proofs.Kept.{code_cmp_total, each_kept, found_each}
 use Rattle.desk_findings.specs.Above.{content, is_above, is_candidate}
 use Rattle.desk_findings.specs.Articles.{is_article, is_article_sort}
 use Rattle.desk_findings.specs.Carried.{own_load}

@@ -2,7 +2,7 @@
 use Rattle.std.proofs.Common.{◌≡◌, ℕ, ◌^◌, ◌<◌, ◌≤◌, Bool, true, false, not, ◌||◌, List, [], ◌∷◌, length, find, Option, Some, None, MatchOption, is_some, option_map, refl, sym, ap, ◌∙◌, subst, ⊎_elim, Ordering, Less, Equal, Greater, is_lt, arith}
 use Rattle.std.specs.Prelude.{nat_le, nat_lt}
 use Rattle.std.specs.List.{AllByRecursion, list_any}
-use Rattle.std.proofs.lemmas.Bool.{and_parts, both_ways, cases_Bool, false_from_ne_true, false≢true, le-leb, leb-true, not-true, or_cases, true≢false}
+use Rattle.std.proofs.lemmas.Bool.{and_parts, both_ways, false_from_ne_true, false≢true, le-leb, leb-true, not-true, or_cases}
 use Rattle.std.proofs.lemmas.Map.Lookups.{exact_bytes}
 use Rattle.desk_text.specs.Code.{code_cmp}
 use Rattle.desk_rows.proofs.Order.{less_back}

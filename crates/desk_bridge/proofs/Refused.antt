@@ -1,6 +1,5 @@
 -- The rules 20 to 23 by what the parts tell.
-use Rattle.std.proofs.Common.{◌≡◌, ℕ, ◌<◌, ◌≤◌, true, false, List, Option, Some, None, map, option_map, refl, sym, ap, ◌∙◌, arith}
-use Rattle.std.specs.Prelude.{nat_lt}
+use Rattle.std.proofs.Common.{◌≡◌, ℕ, ◌<◌, ◌≤◌, true, false, List, Some, None, map, option_map, refl, sym, ap, ◌∙◌}
 use Rattle.std.proofs.lemmas.Bool.{le-ltb, lt-ltb}
 use Rattle.desk_graph.specs.Graph.{Graph, label_of}
 use Rattle.desk_rollup.specs.Plan.{AllFit, IsAccepted, IsFirstTooLarge}

@@ -1,6 +1,6 @@
 -- The entries of the shipments.
-use Rattle.std.proofs.Common.{◌≡◌, ℕ, zero, suc, ◌+◌, ◌-◌, ◌*◌, ◌^◌, ◌≤◌, Bool, true, false, cond, ◌==◌, ◌&&◌, List, [], ◌∷◌, filter, find, map, sum_by, Option, Some, None, is_eq, option_map, refl, sym, ap, ◌∙◌, subst, inl, inr, arith}
-use Rattle.std.specs.Prelude.{nat_le, nat_lt, IfSome, if◌then◌else◌}
+use Rattle.std.proofs.Common.{◌≡◌, ℕ, zero, suc, ◌+◌, ◌-◌, ◌*◌, ◌^◌, ◌≤◌, true, false, cond, ◌==◌, ◌&&◌, List, [], ◌∷◌, filter, find, map, sum_by, Option, Some, None, is_eq, option_map, refl, sym, ap, ◌∙◌, subst, inl, inr, arith}
+use Rattle.std.specs.Prelude.{nat_le, nat_lt, IfSome}
 use Rattle.std.specs.List.Sorted.{IsStrictlySortedBy}
 use Rattle.std.specs.Option.{option_map_or}
 use Rattle.std.specs.declared.cmp.Ordering.{Ordering}
@@ -19,7 +19,7 @@ use Rattle.desk_model.specs.Values.{is_code}
 use Rattle.desk_model.specs.Lists.{IsOrdered, Lists, shipment_key, shipment_key_cmp, shipment_row}
 use Rattle.desk_findings.specs.Mass.{mass}
 use Rattle.desk_findings.specs.Totals.{too_heavy_year, year_mass}
-use Rattle.desk_history.specs.Affected.{is_affected, seeds_of_new}
+use Rattle.desk_history.specs.Affected.{seeds_of_new}
 use Rattle.desk_history.specs.History.{PassesRows}
 use Rattle.desk_history.specs.Refused.{ship_below_zero}
 use Rattle.desk_history.specs.Rising.{changes_shipments}
@@ -33,7 +33,7 @@ use Rattle.desk_tonnage.specs.declared.entry.Entry.{Entry}
 use Rattle.desk_tonnage.specs.declared.product_mass.ProductMass.{ProductMass}
 use Rattle.desk_tonnage.specs.Edits.{HasMass, lowered, with_entry, with_units, without_units}
 use Rattle.desk_tonnage.specs.Entries.{entry_key, entry_key_cmp, entry_of, units_of as entry_units}
-use Rattle.desk_tonnage.specs.Masses.{mass_after, with_mass, with_masses}
+use Rattle.desk_tonnage.specs.Masses.{with_masses}
 use Rattle.desk_tonnage.specs.Years.{too_heavy_year as too_heavy_entries, year_mass as entries_mass}
 use Rattle.desk_bridge.specs.Years.{AreNewMasses, entries_of, entry_by}
 

@@ -1,5 +1,6 @@
 pub mod AfterEdit
 pub mod Bridge
+pub mod Building
 pub mod Examples
 pub mod Index
 pub mod Laws
@@ -7,9 +8,14 @@ pub mod LookUps
 pub mod NewNodes
 pub mod Numbers
 pub mod Order
+pub mod Own
+pub mod OwnAfter
 pub mod Planning
 pub mod Plans
 pub mod Refusals
 pub mod RollUps
+pub mod RowsAfter
+pub mod Seeds
+pub mod TablesAfter
 pub mod Values
 pub mod Years

@@ -1,5 +1,5 @@
 -- Numbers of findings: by the node that holds it, and by the rule or the number of the substance. Both lists only grow at their ends.
-use Rattle.std.specs.Prelude.{◌≡◌, ℕ, suc, ◌+◌, ◌*◌, ◌≤◌, true, false, List, [], ◌∷◌, ◌++◌, length, if◌then◌else◌}
+use Rattle.std.specs.Prelude.{◌≡◌, ℕ, ◌+◌, ◌*◌, ◌≤◌, true, false, List, [], ◌++◌, length}
 use Rattle.std.specs.List.{AllByRecursion, list_any}
 use Rattle.desk_text.specs.Code.{same_code}
 use Rattle.desk_law.specs.Rule.{rule_number}

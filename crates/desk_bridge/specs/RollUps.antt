@@ -1,21 +1,16 @@
 -- The roll-ups beside the tables: what nodes have is what their codes have.
 use Rattle.std.specs.Prelude.{◌≡◌, ℕ, ◌<◌, List, true, length, map, option_map}
-use Rattle.desk_graph.specs.declared.line.BillLine.{BillLine}
-use Rattle.desk_graph.specs.Bill.{IsBill}
-use Rattle.desk_graph.specs.Graph.{Graph, label_of, lines_of as node_lines}
-use Rattle.desk_graph.specs.Reaches.{chain as bill_chain, reaches as node_reaches}
+use Rattle.desk_graph.specs.Graph.{Graph, label_of}
 use Rattle.desk_rollup.specs.Chain.{chain as node_chain, next_to as node_next}
 use Rattle.desk_rollup.specs.Numbers.{has, mark_numbers}
 use Rattle.desk_rollup.specs.Plan.{AreRolledUp}
 use Rattle.desk_rollup.specs.Rolled.{amount, mark_count, marks, weight}
 use Rattle.desk_rollup.specs.Values.{Kept, OwnValues, amount_of, own_at}
-use Rattle.desk_model.specs.declared.rows.line.LineRow.{LineRow}
 use Rattle.desk_model.specs.Lists.{IsOrdered, Lists}
 use Rattle.desk_findings.specs.Carried.{carried, own_load}
 use Rattle.desk_findings.specs.Chain.{chain}
 use Rattle.desk_findings.specs.Findings.{Finding, finding_count, findings_at, is_in, own_findings}
 use Rattle.desk_findings.specs.Mass.{mass, own_mass}
-use Rattle.desk_findings.specs.Reaches.{lines_of, reaches}
 use Rattle.desk_findings.specs.Bill.{IsRight}
 use Rattle.desk_findings.specs.Holders.{holder, next_of}
 use Rattle.desk_findings.specs.Numbering.{AreNumbered, has_numbered}

@@ -14,7 +14,7 @@ ghost use Rattle.desk_bridge.specs.Index.{IsIndex};
 
 use crate::node_index::NodeIndex;
 use crate::planning::{BillFault, plan_edit};
-use desk_graph::{Bill, BillPlan, NodeId};
+use desk_graph::{Bill, BillPlan, BillView, NodeId};
 use desk_model::{Codes, Edit, ListOf, RuleFault};
 use desk_tables::{EditFault, Tables};
 use desk_text::{Code, OutOfMemory};
@@ -66,10 +66,10 @@ fn codes_of(alloc: Global, bill: &Bill, nodes: &[NodeId]) -> Result<Codes, OutOf
 }
 
 /// The code of a node.
-fn code_at(bill: &Bill, node: NodeId) -> Code
-    requires there { node < length bill.now.labels }
-    requires code { code_of (label_of bill.now.labels node) ≡ Ok (label_of bill.now.labels node) }
-    ensures { result ≡ label_of bill.now.labels node }
+pub(crate) fn code_at<B: BillView>(bill: &B, node: NodeId) -> Code
+    requires there { node < length (B.graph bill.now).labels }
+    requires code { code_of (label_of (B.graph bill.now).labels node) ≡ Ok (label_of (B.graph bill.now).labels node) }
+    ensures { result ≡ label_of (B.graph bill.now).labels node }
 {
     match Code::read(bill.label(node)) {
         Ok(code) => code,

@@ -1,7 +1,7 @@
 ghost use Rattle.std.specs.Prelude.{◌≡◌, [], ◌∷◌, ◌++◌, ℕ, List, false, length, option_map, IfOk};
 ghost use Rattle.desk_text.specs.Code.{code_cmp};
 ghost use Rattle.desk_rows.specs.Held.{IsRoomFor};
-ghost use Rattle.desk_rows.specs.Rows.{row_of};
+ghost use Rattle.desk_rows.specs.Rows.{row_of, with_rows};
 ghost use Rattle.desk_graph.specs.Edits.{is_taken};
 ghost use Rattle.desk_bridge.specs.Index.{IsIndex, index_with, node_if};
 
@@ -97,6 +97,14 @@ impl NodeIndex {
         ensures index { (labels : List (List ℕ)) → IsIndex labels self.old.rows → is_taken labels code.now ≡ false → node ≡ length labels → IsIndex (labels ++ code.now ∷ []) self.new.rows }
     {
         self.rows.put_ready(NodeRow { code: *code, node }, room);
+    }
+
+    /// Enters nodes in turn, in room that was made for them. It takes no memory.
+    pub fn add_all(&mut self, nodes: Vec<NodeRow>, room: Room<NodeRow>)
+        requires { IsRoomFor (length nodes.items) self.old room }
+        ensures { self.new.rows ≡ with_rows (λ row. row.code) code_cmp nodes.items self.old.rows }
+    {
+        self.rows.put_all_ready(nodes, room);
     }
 
     /// The same index once more.

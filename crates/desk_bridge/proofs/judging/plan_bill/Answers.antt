@@ -1,4 +1,4 @@
-use Rattle.std.proofs.Common.{◌≡◌, ◌∙◌, Ok, ap, length, map, subst, sym}
+use Rattle.std.proofs.Common.{◌≡◌, ◌∙◌, ap, map, subst, sym}
 use Rattle.desk_model.specs.Effect.{entered}
 use Rattle.desk_graph.specs.Graph.{label_of}
 use Rattle.desk_graph.specs.Reaches.{has_node}

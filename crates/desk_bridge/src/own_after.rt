@@ -1,0 +1,117 @@
+ghost use Rattle.std.specs.Prelude.{◌≡◌, ◌≤◌, ◌<◌, ◌++◌, ℕ, List, true, Ok, IfOk, length};
+ghost use Rattle.desk_text.specs.Code.{code_of};
+ghost use Rattle.desk_graph.specs.Bill.{IsBill};
+ghost use Rattle.desk_graph.specs.Graph.{label_of};
+ghost use Rattle.desk_graph.specs.Reaches.{AreAffected, has_node};
+ghost use Rattle.desk_bridge.specs.Bridge.{IsBillOf};
+ghost use Rattle.desk_bridge.specs.Index.{IsIndex};
+ghost use Rattle.desk_bridge.specs.Numbers.{AreNames};
+ghost use Rattle.desk_bridge.specs.OwnAfter.{AreOwnAfter, AreOwnAt};
+ghost use Rattle.desk_model.specs.Effect.{entered, made};
+ghost use Rattle.desk_history.specs.History.{PassesRows};
+ghost use Rattle.desk_history.specs.Sound.{IsConsistent, Sound};
+ghost use Rattle.desk_tables.specs.Change.{changed};
+ghost use Rattle.desk_tables.specs.Sums.{is_of_sums, may_raise_sums};
+
+use crate::judging::code_at;
+use crate::node_index::NodeIndex;
+use crate::own::own_of;
+use crate::seed_nodes::nodes_of;
+use crate::seeds::seed_codes;
+use crate::tables_after::TablesAfter;
+use desk_graph::{Bill, BillView, NodeId, PlannedBill};
+use desk_model::Edit;
+use desk_rollup::Own;
+use desk_tables::{RowChange, Tables};
+use desk_text::{Code, OutOfMemory};
+use std::alloc::Global;
+
+/// The own values of just the nodes that the edit affects, by the tables after it. `bill` is the bill after it, and `before` with its
+/// `index` the bill as it stands.
+pub fn owns_after<'a>(
+    alloc: Global,
+    tables: &Tables,
+    before: &Bill,
+    index: &NodeIndex,
+    bill: &PlannedBill<'a>,
+    names: &[Code],
+    edit: &Edit,
+    change: &RowChange,
+) -> Result<Vec<Own>, OutOfMemory>
+    requires sound { Sound tables.now.lists }
+    requires passes { PassesRows tables.now.lists edit.now }
+    requires made { changed tables.now.lists change.now ≡ made tables.now.lists edit.now }
+    requires sums { may_raise_sums edit.now ≡ true → is_of_sums change.now ≡ true }
+    requires index { IsIndex before.now.labels index.now.rows }
+    requires grows { (more : List (List ℕ)) × (bill.now.labels ≡ before.now.labels ++ more) }
+    requires of { IsBillOf (entered tables.now.lists edit.now) bill.now }
+    requires named { AreNames (entered tables.now.lists edit.now) names.now }
+    ensures { IfOk result (λ owns. AreOwnAfter tables.now.lists edit.now bill.now names.now owns.items) }
+{
+    // A bill tells what holds of every bill.
+    bill.node_count();
+    let codes = seed_codes(alloc, tables, edit)?;
+    let seeds = nodes_of(alloc, before, index, bill, codes.as_slice())?;
+    let nodes = affected(alloc, bill, seeds.as_slice())?;
+    let lists = TablesAfter::new(tables, change);
+    owns_at(alloc, &lists, bill, names, nodes.as_slice())
+}
+
+/// The own values of these nodes of the tables' bill.
+pub fn owns_of_all(
+    alloc: Global,
+    tables: &Tables,
+    bill: &Bill,
+    names: &[Code],
+    nodes: &[NodeId],
+) -> Result<Vec<Own>, OutOfMemory>
+    requires sound { Sound tables.now.lists }
+    requires of { IsBillOf tables.now.lists bill.now }
+    requires named { AreNames tables.now.lists names.now }
+    requires inside { (node : ℕ) → has_node nodes.now node ≡ true → node < length bill.now.labels }
+    ensures { IfOk result (λ owns. AreOwnAt tables.now.lists bill.now.labels names.now nodes.now owns.items) }
+{
+    // A bill tells what holds of every bill.
+    bill.node_count();
+    let lists = TablesAfter::unchanged(tables);
+    owns_at(alloc, &lists, bill, names, nodes)
+}
+
+/// The nodes that are or reach one of these.
+fn affected<'a>(
+    alloc: Global,
+    bill: &PlannedBill<'a>,
+    seeds: &[NodeId],
+) -> Result<Vec<NodeId>, OutOfMemory>
+    requires { (node : ℕ) → has_node seeds.now node ≡ true → node < length bill.now.labels }
+    ensures { IfOk result (λ nodes. AreAffected bill.now.lines seeds.now nodes.items) }
+{
+    match bill.affected(alloc, seeds) {
+        Ok(nodes) => Ok(nodes),
+        Err(_) => Err(OutOfMemory),
+    }
+}
+
+/// The own values of these nodes by these tables.
+fn owns_at<'a, B: BillView>(
+    alloc: Global,
+    lists: &TablesAfter<'a>,
+    bill: &B,
+    names: &[Code],
+    nodes: &[NodeId],
+) -> Result<Vec<Own>, OutOfMemory>
+    requires consistent { IsConsistent lists.now }
+    requires few { length lists.now.lines ≤ 131072 }
+    requires named { AreNames lists.now names.now }
+    requires bill { IsBill (B.graph bill.now) }
+    requires codes { (node : ℕ) → node < length (B.graph bill.now).labels → code_of (label_of (B.graph bill.now).labels node) ≡ Ok (label_of (B.graph bill.now).labels node) }
+    requires inside { (node : ℕ) → has_node nodes.now node ≡ true → node < length (B.graph bill.now).labels }
+    ensures { IfOk result (λ owns. AreOwnAt lists.now (B.graph bill.now).labels names.now nodes.now owns.items) }
+{
+    let mut owns = Vec::new(alloc);
+    for node in nodes {
+        let code = code_at(bill, *node);
+        owns.push(own_of(alloc, lists, names, &code, *node)?)?;
+    }
+    Ok(owns)
+}
