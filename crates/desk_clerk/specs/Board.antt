@@ -1,8 +1,10 @@
 -- The board that a name has before a desk is opened under it.
 use Rattle.desk_clerk.specs.declared.board.DeskBoard.{DeskBoard}
+use Rattle.desk_engine.specs.Stored.{nothing_stored}
 use Rattle.desk_model.specs.Start.{start}
 
--- a board of the start tables, whose lists have no room. The name of a desk that is opened has its own in this place
+-- a board of the start tables, whose lists have no room, and of which nothing is stored. The name of a desk that is opened has its own
+-- in this place
 pub blank_board : DeskBoard
 blank_board = record {
   engine = record {
@@ -21,5 +23,6 @@ blank_board = record {
         tickets = 0;
       };
     };
+    stored = nothing_stored;
   };
 }

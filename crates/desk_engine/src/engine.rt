@@ -1,17 +1,24 @@
-ghost use Rattle.std.specs.Prelude.{◌≡◌, ◌≢◌, ◌≤◌, ◌++◌, ℕ, List, true, Ok, Err, IfErr, IfOk, OnErr, OnOk};
+ghost use Rattle.std.specs.Prelude.{◌≡◌, ◌≢◌, ◌+◌, ◌≤◌, ◌++◌, ℕ, List, true, Ok, Err, IfErr, IfOk, OnErr, OnOk};
 ghost use Rattle.desk_engine.specs.Engine.{IsPlanOf, IsPrepared, lists_of};
+ghost use Rattle.desk_engine.specs.Planned.{most_steps};
+ghost use Rattle.desk_engine.specs.Stored.{IsStoredOf};
 ghost use Rattle.desk_history.specs.Sound.{Sound};
 ghost use Rattle.desk_scratch.specs.Eval.{eval};
 ghost use Rattle.desk_scratch.specs.Questions.{is_question_in_range};
 ghost use Rattle.desk_scratch.specs.declared.ask_fault.AskFault.TheVariants as ask;
-ghost use Rattle.desk_tables.specs.Judged.{IsRefusal};
+ghost use Rattle.desk_tables.specs.Judged.{IsRefusal, IsRowsPlan};
 ghost use Rattle.desk_tables.specs.Plan.{plan_number, planned};
 ghost use Rattle.desk_tables.specs.Soundness.{NamesBreach};
 
+use crate::commit::commit_stored;
 use crate::plan::Plan;
+use crate::planning::plan_stored;
+use crate::start::stored_of;
+use crate::stored::Stored;
+use crate::stored_plan::StoredPlan;
 use desk_graph::Steps;
 use desk_scratch::{AskFault, Question, answer_plain};
-use desk_tables::{Edit, EditFault, SoundFault, Tables};
+use desk_tables::{Edit, EditFault, SoundFault, Tables, TablesPlan};
 use desk_text::{Bytes, OutOfMemory};
 use std::alloc::Global;
 use std::marker::Model;
@@ -19,27 +26,31 @@ use std::sync::ledger::Ledger;
 
 /// What answers a desk's edits and questions. Its tables are sound.
 ///
-/// It keeps the tables alone and computes each answer of them anew.
+/// It keeps the tables, and beside them what is computed of them: the bill of materials, what each node of it has, and the years. An edit
+/// replaces what it affects.
 pub struct Engine {
     tables: Tables,
+    stored: Stored,
 }
 
 // Written out, so that a function that owns one does not prove anew how each part is dropped.
 impl Drop for Engine {
     fn drop(self) {
-        let Engine { tables: _ } = self;
+        let Engine {
+            tables: _,
+            stored: _,
+        } = self;
     }
 }
 
 impl Model for Engine {
-    ghost use Rattle.desk_engine.specs.Engine.{Engined};
-    ghost use Rattle.desk_history.specs.Sound.{Sound};
+    ghost use Rattle.desk_engine.specs.Engine.{Engined, IsWhole};
 
     ghost Value = { Engined };
 
-    ghost view = { λ engine. record { desk = engine.tables } };
+    ghost view = { λ engine. record { desk = engine.tables; stored = engine.stored } };
 
-    ghost invariant = { λ engine. Sound engine.tables.lists };
+    ghost invariant = { λ engine. IsWhole (record { desk = engine.tables; stored = engine.stored }) };
 }
 
 impl Engine {
@@ -53,9 +64,12 @@ impl Engine {
         ensures told { IfErr result (NamesBreach tables.lists) }
         ensures unsound { (table : ℕ) (key : List ℕ) → result ≡ Err (SoundFault.Unsound table key) → Sound tables.lists → ⊥ }
     {
-        match tables.is_sound(alloc) {
-            Ok(()) => Ok(Engine { tables }),
-            Err(fault) => Err(fault),
+        if let Err(fault) = tables.is_sound(alloc) {
+            return Err(fault);
+        }
+        match stored_of(alloc, &tables) {
+            Ok(stored) => Ok(Engine { tables, stored }),
+            Err(_) => Err(SoundFault::OutOfMemory),
         }
     }
 
@@ -65,10 +79,9 @@ impl Engine {
     pub fn copied(&self, alloc: Global) -> Result<Engine, OutOfMemory>
         ensures { IfOk result (λ copy. lists_of copy ≡ lists_of self.now) }
     {
-        match self.tables.copied(alloc) {
-            Ok(tables) => Ok(Engine { tables }),
-            Err(fault) => Err(fault),
-        }
+        let tables = self.tables.copied(alloc)?;
+        let stored = self.stored.copied(alloc)?;
+        Ok(Engine { tables, stored })
     }
 
     /// The tables. It takes no memory.
@@ -86,15 +99,18 @@ impl Engine {
         &self,
         alloc: Global,
         edit: &Edit,
-        _steps: &mut Steps<L>,
+        steps: &mut Steps<L>,
     ) -> Result<Plan, EditFault>
         ensures plan { IfOk result (λ plan. IsPlanOf self.now edit.now plan) }
         ensures fault { IfErr result (λ fault. IsRefusal (lists_of self.now) edit.now fault) }
+        ensures steps { steps.new ≤ steps.old + most_steps (lists_of self.now) edit.now }
     {
-        match self.tables.prepare(alloc, edit) {
-            Ok(tables) => Ok(Plan { tables }),
-            Err(fault) => Err(fault),
-        }
+        let tables = match self.tables.plan_rows(alloc, edit) {
+            Ok(tables) => tables,
+            Err(fault) => return Err(fault),
+        };
+        let stored = plan_beside(alloc, &self.tables, &self.stored, edit, &tables, steps)?;
+        Ok(Plan { tables, stored })
     }
 
     /// Carries out the plan, which was prepared at this engine as it stands, and gives the edit's number. It can't be refused and takes
@@ -104,8 +120,12 @@ impl Engine {
         ensures number { result ≡ plan_number plan.tables }
         ensures lists { lists_of self.new ≡ planned (lists_of self.old) plan.tables }
     {
-        let Plan { tables } = plan;
-        self.tables.commit(tables)
+        let Plan { tables, stored } = plan;
+        let number = self.tables.commit(tables);
+        if let Some(stored) = stored {
+            commit_stored(&mut self.stored, stored);
+        }
+        number
     }
 
     /// Appends the answer to the question at the tables.
@@ -125,5 +145,33 @@ impl Engine {
         ensures unchanged { OnErr result (out.new ≡ out.old) }
     {
         answer_plain(alloc, &self.tables, question, out)
+    }
+}
+
+/// What an edit with this plan for the tables does to what is stored of them: nothing, where it is kept already.
+///
+/// `Rule`: the first of the rules 20 to 23 that it breaks. `OutOfMemory`: none was left for the plan.
+#[tactic(auto, unfolding(desk_tables::specs::Judged::IsRowsPlan))]
+fn plan_beside<L: Ledger>(
+    alloc: Global,
+    tables: &Tables,
+    stored: &Stored,
+    edit: &Edit,
+    rows: &TablesPlan,
+    steps: &mut Steps<L>,
+) -> Result<Option<StoredPlan>, EditFault>
+    requires sound { Sound tables.now.lists }
+    requires stored { IsStoredOf tables.now.lists stored.now }
+    requires rows { IsRowsPlan tables.now edit.now rows.now }
+    ensures plan { IfOk result (λ plan. IsPlanOf (record { desk = tables.now; stored = stored.now }) edit.now (record { tables = rows.now; stored = plan })) }
+    ensures fault { IfErr result (λ fault. IsRefusal tables.now.lists edit.now fault) }
+    ensures steps { steps.new ≤ steps.old + most_steps tables.now.lists edit.now }
+{
+    match rows {
+        TablesPlan::Kept { .. } => Ok(None),
+        TablesPlan::New { change, .. } => {
+            let plan = plan_stored(alloc, tables, stored, edit, change, steps)?;
+            Ok(Some(plan))
+        }
     }
 }

@@ -1,9 +1,20 @@
-//! What answers a desk's edits and questions: the tables, and later what is computed of them once and kept.
+//! What answers a desk's edits and questions: the tables, and beside them what is computed of them once, kept, and brought up to date by
+//! each edit.
 #![tactic(auto)]
 
+mod commit;
 mod engine;
+mod masses;
+mod names;
+mod nodes;
 mod plan;
+mod planning;
+mod shipping;
+mod start;
+mod stored;
+mod stored_plan;
 mod uncounted;
+mod years;
 
 pub use engine::Engine;
 pub use plan::Plan;

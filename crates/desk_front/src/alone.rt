@@ -78,7 +78,33 @@ fn serve_by<R: Wait + Sync, L: Link, K: Keeper, J: Naming<DeskBoard>>(
     clerk.engine();
     let met = clerk.number();
     let mut room = Bytes::start(alloc);
-    let body = &mut room;
+    serve_over(rt, alloc, routes, clerk, met, &mut room, link)
+}
+
+/// The same with the number of the clerk's whole list, and room for the bodies of replies.
+fn serve_over<R: Wait + Sync, L: Link, K: Keeper, J: Naming<DeskBoard>>(
+    rt: &R,
+    alloc: Global,
+    routes: &Routes,
+    clerk: &mut Clerk<K, J>,
+    met: u64,
+    body: &mut Bytes,
+    link: &mut L,
+) -> Served
+    requires sound { Sound (whole clerk.old) }
+    requires met { met ≡ number_at (whole clerk.old) }
+    ensures served { result ≢ Served.OutOfMemory → (bytes : List ℕ) × Consumes (L.unread link.old) (L.unread link.new) bytes × (length bytes ≤ stream_limit)
+        × Serves (Converses
+        (record { whole = whole clerk.old; met = number_at (whole clerk.old); faults = K.faults (keeper_of clerk.old) })
+        (whole clerk.new) (K.faults (keeper_of clerk.new)))
+        result bytes (L.unread link.new) (L.written link.old) (L.written link.new) }
+    ensures nothing { result ≡ Served.OutOfMemory → (clerk.new ≡ clerk.old) × (link.new ≡ link.old) }
+    ensures told { K.Tells (keeper_of clerk.new) → K.Tells (keeper_of clerk.old) }
+    ensures never_falls { L.faults link.old ≤ L.faults link.new }
+    ensures steady { result ≢ Served.LinkFault → L.faults link.new ≡ L.faults link.old }
+    ensures failed { result ≡ Served.LinkFault → Rose (L.faults link.old) (L.faults link.new) }
+    ensures keeper_never_falls { K.faults (keeper_of clerk.old) ≤ K.faults (keeper_of clerk.new) }
+{
     let mut connection = Connection {
         routes,
         clerk,
@@ -100,7 +126,7 @@ fn serve_connection<R: Wait + Sync, L: Link, K: Keeper, J: Naming<DeskBoard>>(
     ensures same_clerk { connection.new.clerk.ghost_name ≡ connection.old.clerk.ghost_name }
     ensures served { result ≢ Served.OutOfMemory → (bytes : List ℕ) × Consumes (L.unread link.old) (L.unread link.new) bytes × (length bytes ≤ stream_limit)
         × Serves (Converses
-        (record { whole = whole connection.old.clerk.now; met = connection.old.met; faults = K.faults (keeper_of connection.old.clerk.now) })
+        (record { whole = whole connection.old.clerk.now; met = number_at (whole connection.old.clerk.now); faults = K.faults (keeper_of connection.old.clerk.now) })
         (whole connection.new.clerk.now) (K.faults (keeper_of connection.new.clerk.now)))
         result bytes (L.unread link.new) (L.written link.old) (L.written link.new) }
     ensures nothing { result ≡ Served.OutOfMemory → (connection.new.clerk.now ≡ connection.old.clerk.now) × (link.new ≡ link.old) }

@@ -5,6 +5,8 @@
 #[cfg(test)]
 mod clerk;
 #[cfg(test)]
+mod engine;
+#[cfg(test)]
 mod helpers;
 #[cfg(test)]
 mod records;

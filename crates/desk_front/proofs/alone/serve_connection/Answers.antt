@@ -1,5 +1,5 @@
 -- A connection converses with its clerk, which stays the same.
-use Rattle.std.proofs.Common.{◌≤◌, arith}
+use Rattle.std.proofs.Common.{◌≤◌, arith, sym}
 use Rattle.desk_clerk.specs.Clerk.{keeper_of, whole}
 use Rattle.desk_model.specs.Lists.{number_at}
 use Rattle.desk_front.specs.Service.{Replies}
@@ -46,7 +46,8 @@ returns-clause-served g c other =
     let left = whole c.serve.new.answerer.clerk.now in
     let counted = g.K.Keeper.faults (keeper_of c.serve.new.answerer.clerk.now) in
     let x = c.serve.ensures.served other in
-    let met : old.met ≤ number_at old.whole = omega (arith, c.requires.met) in (
+    let met : old.met ≤ number_at old.whole = omega (arith, c.requires.met) in
+    rw (sym c.requires.met) (
       x.0,
       x.1,
       x.2,

@@ -14,7 +14,7 @@ returns-clause-rule g c = λ fault n e. absurd (c.carry_out.ensures.no_rule faul
 
 pub returns-clause-refused : goal.returns-clause-refused
 returns-clause-refused g c = λ fault e.
-    not_refused c.self.inside.engine.desk c.args.edit.now c.in-Ok.plan.tables fault c.in-Ok.ensures.plan
+    not_refused c.self.inside.engine.desk c.args.edit.now c.in-Ok.plan.tables fault c.in-Ok.ensures.plan.tables
     (subst (λ desk. (step (tables_of desk) c.args.edit.now).0 ≡ Err fault) (sym c.self.view_is) e)
 
 pub returns-in-Err-clause-rule : goal.returns-in-Err-clause-rule

@@ -15,14 +15,14 @@ use Rattle.desk_clerk.proofs.stored_desk.StoredDesk.carry_out.Goals as goal
 pub returns-in-Err-clause-again : goal.returns-in-Err-clause-again
 returns-in-Err-clause-again g c = λ n kept.
     let tables = c.self.inside.engine.desk in
-    let is = subst (λ desk. IsPlanOf desk.engine c.args.edit.now c.args.plan) (sym c.self.view_is) c.requires in
+    let is = (subst (λ desk. IsPlanOf desk.engine c.args.edit.now c.args.plan) (sym c.self.view_is) c.requires).tables in
     let plan = kept_plan tables c.args.edit.now c.args.plan.tables n is (subst (λ desk. kept_number (tables_of desk) c.args.edit.now ≡ Some n) (sym c.self.view_is) kept) in
     c.keep.ensures.again plan.0 (c.tables.ensures ∙ plan.1) ∙ ap (λ desk. desk.keeper) c.self.view_is
 
 pub returns-in-Err-clause-memory : goal.returns-in-Err-clause-memory
 returns-in-Err-clause-memory g c = λ n kept wanting.
     let tables = c.self.inside.engine.desk in
-    let is = subst (λ desk. IsPlanOf desk.engine c.args.edit.now c.args.plan) (sym c.self.view_is) c.requires in
+    let is = (subst (λ desk. IsPlanOf desk.engine c.args.edit.now c.args.plan) (sym c.self.view_is) c.requires).tables in
     let plan = kept_plan tables c.args.edit.now c.args.plan.tables n is (subst (λ desk. kept_number (tables_of desk) c.args.edit.now ≡ Some n) (sym c.self.view_is) kept) in
     c.keep.ensures.memory plan.0 (c.tables.ensures ∙ plan.1) (c.in-Err.is ∙ ap (λ f. Err f) (handed c.in-Err.fault submit_fault.OutOfMemory wanting))
 
@@ -36,7 +36,7 @@ returns-in-Err-clause-steady g c = λ other.
 
 pub returns-in-Err-clause-asked : goal.returns-in-Err-clause-asked
 returns-in-Err-clause-asked g c = λ failed.
-    let is = subst (λ desk. IsPlanOf desk.engine c.args.edit.now c.args.plan) (sym c.self.view_is) c.requires in
+    let is = (subst (λ desk. IsPlanOf desk.engine c.args.edit.now c.args.plan) (sym c.self.view_is) c.requires).tables in
     let kept = c.in-Err.is ∙ ap (λ f. Err f) (handed c.in-Err.fault submit_fault.KeeperFault failed) in
     subst (λ desk. (kept_number (tables_of desk) c.args.edit.now ≡ None) × (is_ok (step (tables_of desk) c.args.edit.now).0 ≡ true)) c.self.view_is
     (asked_only c.self.inside.engine.desk c.args.edit.now c.args.plan.tables is (λ n same. c.keep.ensures.asked n (c.tables.ensures ∙ same) kept))
@@ -44,7 +44,7 @@ returns-in-Err-clause-asked g c = λ failed.
 pub invariant_of-self-2 : goal.invariant_of-self-2
 invariant_of-self-2 g c =
     let tables = c.self.inside.engine.desk in
-    let is = subst (λ desk. IsPlanOf desk.engine c.args.edit.now c.args.plan) (sym c.self.view_is) c.requires in
+    let is = (subst (λ desk. IsPlanOf desk.engine c.args.edit.now c.args.plan) (sym c.self.view_is) c.requires).tables in
     let content = g.K.Keeper.content c.keep.new.keeper in
     let plan = subst (λ p. IsPlan tables c.args.edit.now p) (sym c.tables.ensures) is in
     let stepped : (step tables.lists c.args.edit.now).1 ≡ lists_of c.commit-number.new.self = ap (λ done. done.1) is.0 ∙ sym c.commit-number.ensures.lists in (
@@ -59,6 +59,6 @@ commit-number-requires g c = (c.args.edit.now, c.in_form.ensures, subst (λ desk
 pub returns-clause-again : goal.returns-clause-again
 returns-clause-again g c = λ n kept.
     let tables = c.self.inside.engine.desk in
-    let is = subst (λ desk. IsPlanOf desk.engine c.args.edit.now c.args.plan) (sym c.self.view_is) c.requires in
+    let is = (subst (λ desk. IsPlanOf desk.engine c.args.edit.now c.args.plan) (sym c.self.view_is) c.requires).tables in
     let plan = kept_plan tables c.args.edit.now c.args.plan.tables n is (subst (λ desk. kept_number (tables_of desk) c.args.edit.now ≡ Some n) (sym c.self.view_is) kept) in
     c.keep.ensures.again plan.0 (c.tables.ensures ∙ plan.1) ∙ ap (λ desk. desk.keeper) c.self.view_is

@@ -1,0 +1,10 @@
+pub mod Committed
+pub mod Engines
+pub mod Entries
+pub mod Listed
+pub mod NamesGrow
+pub mod Planned
+pub mod Shipped
+pub mod Starts
+pub mod Ticks
+pub mod Weights

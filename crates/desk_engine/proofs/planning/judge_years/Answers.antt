@@ -1,0 +1,17 @@
+use Rattle.std.proofs.Common.{subst}
+use Rattle.desk_graph.specs.Planned.{planned}
+use Rattle.desk_model.specs.Effect.{entered}
+use Rattle.desk_bridge.specs.Years.{entries_of}
+use Rattle.desk_engine.specs.Years.{IsYearsFault}
+use Rattle.desk_engine.proofs.Planned.{refused_year, unrefused}
+use Rattle.desk_engine.proofs.planning.judge_years.Goals as goal
+
+pub returns-in-Ok-clause-unrefused : goal.returns-in-Ok-clause-unrefused
+returns-in-Ok-clause-unrefused g c =
+    unrefused c.args.tables.now.lists c.args.edit.now c.requires.passes (planned c.args.plan.now c.args.stored.now.bill) c.args._names.now c.args.stored.now c.args.rollups.now c.requires.rolled c.in-Ok.ensures.plan.light
+
+pub returns-in-Err-TooLarge-clause-fault : goal.returns-in-Err-TooLarge-clause-fault
+unfolding Rattle.desk_tables.specs.Judged.IsRefusal
+returns-in-Err-TooLarge-clause-fault g c =
+    refused_year c.args.tables.now.lists c.args.edit.now c.requires.passes (planned c.args.plan.now c.args.stored.now.bill) c.args._names.now c.args.stored.now c.args.rollups.now c.requires.rolled c.in-Err-TooLarge.year
+    (subst (IsYearsFault (entries_of (entered c.args.tables.now.lists c.args.edit.now))) c.in-Err-TooLarge.field-0-is c.in-Err-TooLarge.ensures.fault)
