@@ -154,7 +154,8 @@ fn serve_named<R: Wait + Sync, L: Link, K: Keeper, J: Naming<DeskBoard>>(
             let keeper = clerk.close(rt);
             match served {
                 Served::Ended => (Status::Done, keeper),
-                Served::Cut | Served::TooLong => (Status::Refused, keeper),
+                Served::Cut => (Status::Refused, keeper),
+                Served::TooLong => (Status::Refused, keeper),
                 Served::LinkFault => (Status::ConsoleFault, keeper),
                 Served::OutOfMemory => (answer_no_memory(link), keeper),
             }
