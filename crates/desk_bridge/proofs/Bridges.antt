@@ -34,7 +34,7 @@ pub right_tables : (t : Lists) → IsConsistent t → IsRight t
 right_tables t s = record { children = right_of t s; apart = s.codes_apart; acyclic = s.acyclic }
 
 -- labels that differ have a code once, where they have it
-once : (labels : List (List ℕ)) → ((a b : ℕ) → a < length labels → b < length labels → label_of labels a ≡ label_of labels b → a ≡ b) →
+pub once : (labels : List (List ℕ)) → ((a b : ℕ) → a < length labels → b < length labels → label_of labels a ≡ label_of labels b → a ≡ b) →
     (code : List ℕ) → count_by (λ listed. same_code listed code) labels ≡ cond (is_taken labels code) 1 0
 once [] unique code = refl
 once (label ∷ labels) unique code =
@@ -73,7 +73,7 @@ gone_by n true e none = absurd (omega (arith, e, none))
 gone_by n false e none = refl
 
 -- labels that stand as often as their codes are kept are taken where these are kept
-taken_by : (t : Lists) (labels : List (List ℕ)) → AreLabels t labels → (code : List ℕ) → is_taken labels code ≡ is_kept t code
+pub taken_by : (t : Lists) (labels : List (List ℕ)) → AreLabels t labels → (code : List ℕ) → is_taken labels code ≡ is_kept t code
 taken_by t labels are code =
     elim (cases_Bool (is_taken labels code)) [
       | inl there ↦ there ∙ sym (kept_by (count_by (λ listed. same_code listed code) labels) (is_kept t code) (are code) (some_counted (λ listed. same_code listed code) labels there))

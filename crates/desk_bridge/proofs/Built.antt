@@ -1,23 +1,20 @@
 -- A bill that is built from tables, node by node and line by line.
-use Rattle.std.proofs.Common.{◌≡◌, ℕ, zero, suc, ◌+◌, ◌-◌, ◌<◌, ◌≤◌, Bool, true, false, ◌&&◌, ◌||◌, List, [], ◌∷◌, ◌++◌, map, take, drop, get_or, length, Result, Ok, Err, OnOk, refl, sym, ap, ◌∙◌, subst, ◌⊎◌, ⊎_elim, Ordering, Less, arith}
+use Rattle.std.proofs.Common.{◌≡◌, ℕ, zero, suc, ◌+◌, ◌<◌, ◌≤◌, Bool, true, false, ◌&&◌, ◌||◌, List, [], ◌∷◌, ◌++◌, take, drop, get_or, length, Result, Ok, Err, OnOk, refl, sym, ap, ◌∙◌, subst, ⊎_elim, Ordering, Less, arith}
 use Rattle.std.specs.Prelude.{nat_le}
 use Rattle.std.specs.Cmp.{IsTotalOrder}
 use Rattle.std.specs.List.{AllByRecursion, list_any}
-use Rattle.std.proofs.lemmas.Bool.{and_from, and_parts, both_ways, false_from_ne_true, false≢true, leb-true, not-true, or_cases, or_left, or_right}
-use Rattle.std.proofs.lemmas.List.{append_assoc, length-set, length-take, take_more, take-append-drop, drop_more}
+use Rattle.std.proofs.lemmas.Bool.{and_from, and_parts, both_ways, false_from_ne_true, false≢true, leb-true, or_cases, or_left, or_right}
+use Rattle.std.proofs.lemmas.List.{length-set, length-take, take_more, take-append-drop, drop_more}
 use Rattle.std.proofs.Math.Seq.{take-length}
 use Rattle.desk_model.specs.declared.limits.TheConstants.{COUNT_LIMIT}
-use Rattle.desk_text.specs.Code.{code_cmp, same_code}
-use Rattle.desk_rows.specs.Rows.{IsByKey, with_row, with_rows}
-use Rattle.desk_rows.proofs.Edits.{IsByKey-with_row}
+use Rattle.desk_text.specs.Code.{same_code}
+use Rattle.desk_rows.specs.Rows.{IsByKey, with_row}
 use Rattle.desk_rows.proofs.Order.{AllAbove, by_key, first_above, none_by_key, rest_by_key}
 use Rattle.desk_model.specs.declared.rows.line.LineRow.{LineRow}
-use Rattle.desk_model.specs.declared.rows.material.MaterialRow.{MaterialRow}
-use Rattle.desk_model.specs.declared.rows.part.PartRow.{PartRow}
 use Rattle.desk_model.specs.Forms.{is_count, is_line_row}
 use Rattle.desk_model.specs.Lists.{Lists, is_kept, is_material, is_part, line_key, line_key_cmp}
-use Rattle.desk_model.proofs.Elements.{all_from_each, any-filter, any_map, each, each_from_all, each_map}
-use Rattle.desk_model.proofs.Kept.{code_cmp_total, line_key_cmp_total}
+use Rattle.desk_model.proofs.Elements.{all_from_each, any-filter, any_map, each, each_from_all}
+use Rattle.desk_model.proofs.Kept.{line_key_cmp_total}
 use Rattle.desk_findings.specs.Bill.{has_right_child}
 use Rattle.desk_findings.specs.Reaches.{enough, is_or_reaches, reaches, reaches_within}
 use Rattle.desk_findings.proofs.Bill.{HasParents, by_line, not_itself}
@@ -28,14 +25,12 @@ use Rattle.desk_graph.specs.Bill.{IsBill}
 use Rattle.desk_graph.specs.Edits.{with_line_in}
 use Rattle.desk_graph.specs.Graph.{Graph, label_of, line_count}
 use Rattle.desk_graph.specs.Reaches as graph
-use Rattle.desk_bridge.specs.Bridge.{HasSameLines, IsBillOf, node_of, with_codes}
-use Rattle.desk_bridge.specs.Building.{NextLine, nodes_of, with_first}
+use Rattle.desk_bridge.specs.Bridge.{HasSameLines, IsBillOf, node_of}
+use Rattle.desk_bridge.specs.Building.{NextLine, with_first}
 use Rattle.desk_bridge.proofs.Counted.{same_count}
 use Rattle.desk_bridge.proofs.Cycles.{fit_bill}
 use Rattle.desk_bridge.proofs.Found.{node_of-kept}
 use Rattle.desk_bridge.proofs.KeptLines.{same-with}
-use Rattle.desk_bridge.proofs.KeptNodes.{Fits, fits-materials, fits-part}
-use Rattle.desk_bridge.proofs.Plans.{with_codes-grows}
 use Rattle.desk_bridge.proofs.Reach.{same_is_or_reaches}
 
 module _ {R K : Type 0} (key : R → K) (cmp : K → K → Ordering) (o : IsTotalOrder cmp) where
@@ -50,18 +45,6 @@ module _ {R K : Type 0} (key : R → K) (cmp : K → K → Ordering) (o : IsTota
   all_less : (before : List R) (new : R) (more : List R) → IsByKey key cmp (before ++ new ∷ more) → AllByRecursion (λ row. cmp (key row) (key new) ≡ Less) before
   all_less [] new more h = tt
   all_less (row ∷ before) new more h = (in_middle (key row) before new more (first_above key cmp o row (before ++ new ∷ more) h), all_less before new more (rest_by_key key cmp o row (before ++ new ∷ more) h))
-
-  -- rows in order, put in one after the other, are the list
-  rows_put : (more before : List R) → IsByKey key cmp (before ++ more) → with_rows key cmp more before ≡ before ++ more
-  rows_put [] before h = sym (nothing before)
-    where
-      nothing : (xs : List R) → xs ++ [] ≡ xs
-      nothing [] = refl
-      nothing (x ∷ xs) = ap (λ rest. x ∷ rest) (nothing xs)
-  rows_put (new ∷ more) before h =
-      ap (λ rows. with_rows key cmp more rows) (put_last new before (all_less before new more h))
-      ∙ rows_put more (before ++ new ∷ []) (subst (IsByKey key cmp) (sym (append_assoc before (new ∷ []) more)) h)
-      ∙ append_assoc before (new ∷ []) more
 
   -- the next row is put behind those before it
   next_put : (rows : List R) (i : ℕ) (d : R) → IsByKey key cmp rows → i < length rows → with_row key cmp (get_or rows i d) (take i rows) ≡ take (i + 1) rows
@@ -115,38 +98,7 @@ reaches_fewer lines i (suc k) part target e =
     (take i lines))
     (sym (any-filter (λ line. same_code line.parent part) (λ line. same_code line.child target || reaches_within (take i lines) k line.child target) (take i lines)) ∙ e))
 
--- parts, one after the other
-fits-parts : (more : List PartRow) (t : Lists) (g : Graph) → HasParents t → t.lines ≡ [] → Fits t g → IsByKey (λ row. row.code) code_cmp t.parts → AllByRecursion (λ row. is_material t row.code ≡ false) more → Fits (record t { parts = with_rows (λ row. row.code) code_cmp more t.parts }) (with_codes (map (λ row. row.code) more) g)
-fits-parts [] t g parents bare fits by_key a = fits
-fits-parts (new ∷ more) t g parents bare fits by_key a =
-    let u : Lists = record t { parts = with_row (λ row. row.code) code_cmp new t.parts } in
-    fits-parts more u (Rattle.desk_bridge.specs.Bridge.with_code new.code g) (subst (λ lines. AllByRecursion (λ line. is_part u line.parent ≡ true) lines) (sym bare) tt) bare
-    (fits-part t g parents fits by_key new a.0) (IsByKey-with_row (λ row. row.code) code_cmp code_cmp_total new t.parts by_key) a.1
-
 module _ (t : Lists) (s : IsConsistent t) where
-  -- tables without rows in these three, and the bill without nodes
-  fits_none : Fits (record t { materials = []; parts = []; lines = [] }) (record { labels = []; lines = [] })
-  fits_none = record {
-    numbered = record { taken = λ code. refl; count = refl };
-    sizes = refl;
-    children = λ parent child e. absurd (false≢true (sym (no_lines parent child) ∙ e));
-    lines = λ node h. absurd (omega (arith, h));
-  }
-    where
-      no_lines : (parent child : ℕ) → Rattle.desk_graph.specs.Graph.is_line [] parent child ≡ false
-      no_lines parent child = refl
-
-  -- the bill with all nodes
-  pub fits_nodes : Fits (record t { lines = [] }) (nodes_of t)
-  fits_nodes =
-      let bare : Lists = record t { materials = []; parts = []; lines = [] } in
-      let materials = fits-materials t.materials bare (record { labels = []; lines = [] }) tt fits_none (none_by_key {R = MaterialRow} (λ row. row.code) code_cmp code_cmp_total) (each (λ row. is_part bare row.code ≡ false) (λ row. refl) t.materials) in
-      let with_materials : Fits (record t { parts = []; lines = [] }) (with_codes (map (λ row. row.code) t.materials) (record { labels = []; lines = [] })) =
-      subst (λ rows. Fits (record t { materials = rows; parts = []; lines = [] }) (with_codes (map (λ row. row.code) t.materials) (record { labels = []; lines = [] }))) (rows_put (λ row. row.code) code_cmp code_cmp_total t.materials [] s.ordered.materials) materials in
-      let free = each_map (λ part. Rattle.std.proofs.Common.not (is_material t part.code) ≡ true) (λ part. is_material t part.code ≡ false) (λ part. not-true (is_material t part.code)) t.parts (each_from_all (λ part. Rattle.std.proofs.Common.not (is_material t part.code)) t.parts s.codes_apart) in
-      let parts = fits-parts t.parts (record t { parts = []; lines = [] }) (with_codes (map (λ row. row.code) t.materials) (record { labels = []; lines = [] })) tt refl with_materials (none_by_key {R = PartRow} (λ row. row.code) code_cmp code_cmp_total) free in
-      subst (λ rows. Fits (record t { parts = rows; lines = [] }) (nodes_of t)) (rows_put (λ row. row.code) code_cmp code_cmp_total t.parts [] s.ordered.parts) parts
-
   -- the next line
   module _ (limits : KeepsLimits t) (g : Graph) (bill : IsBill g) (i : ℕ) (d : LineRow) (h : i < length t.lines) (of : IsBillOf (with_first t i) g) where
     line : LineRow
@@ -231,30 +183,8 @@ module _ (t : Lists) (s : IsConsistent t) where
     unfolding line p c
     after_line = after
 
--- the nodes of a bill of sound tables are no more than a bill may have
-pub few_nodes : (t : Lists) → IsConsistent t → KeepsLimits t → length (nodes_of t).labels ≤ 24576
-few_nodes t s limits =
-    let fits = fit_bill t limits.tables_fit in
-    let counted = (fits_nodes t s).numbered.count in
-    omega (arith, fits.materials, fits.parts, counted)
-
-pub bill_at_first : (t : Lists) → IsConsistent t → IsBillOf (with_first t 0) (nodes_of t)
-bill_at_first t s = let fits = fits_nodes t s in record { numbered = record { taken = fits.numbered.taken; count = fits.numbered.count }; lines = fits.lines }
-
 pub bill_at_last : (t : Lists) (g : Graph) (n : ℕ) → n ≡ length t.lines → IsBillOf (with_first t n) g → IsBillOf t g
 bill_at_last t g n e of = subst (λ rows. IsBillOf (record t { lines = rows }) g) (ap (λ k. take k t.lines) e ∙ take-length t.lines) of
-
--- what the loops of the building have come to
-module _ (t : Lists) (materials : List MaterialRow) (start : Graph) (materials_are : materials ≡ t.materials) (start_is : start ≡ record { labels = []; lines = [] }) where
-  pub with_materials : with_codes (map (λ row. row.code) materials) start ≡ with_codes (map (λ row. row.code) t.materials) (record { labels = []; lines = [] })
-  with_materials = ap (λ rows. with_codes (map (λ row. row.code) rows) start) materials_are ∙ ap (λ g. with_codes (map (λ row. row.code) t.materials) g) start_is
-
-  pub with_parts : (parts : List PartRow) (middle : Graph) → parts ≡ t.parts → middle ≡ with_codes (map (λ row. row.code) materials) start → with_codes (map (λ row. row.code) parts) middle ≡ nodes_of t
-  with_parts parts middle parts_are e = ap (λ rows. with_codes (map (λ row. row.code) rows) middle) parts_are ∙ ap (λ g. with_codes (map (λ row. row.code) t.parts) g) (e ∙ with_materials)
-
-pub few_materials : (t : Lists) → IsConsistent t → KeepsLimits t → (g : Graph) → g ≡ with_codes (map (λ row. row.code) t.materials) (record { labels = []; lines = [] }) → length g.labels ≤ 24576
-few_materials t s limits g e =
-    omega (arith, few_nodes t s limits, with_codes-grows (map (λ row. row.code) t.parts) (with_codes (map (λ row. row.code) t.materials) (record { labels = []; lines = [] })), ap (λ h. length h.labels) e)
 
 pub on_ok : {A E P Q : Type 0} (r : Result A E) → (P → Q) → OnOk r P → OnOk r Q
 on_ok (Ok x) f p = f p

@@ -14,26 +14,26 @@ use Rattle.desk_bridge.specs.Index.{IsIndex, index_with, node_if, row_if}
 use Rattle.desk_bridge.proofs.Found.{node_of-found, node_of-most, node_of-taken}
 use Rattle.desk_bridge.proofs.Nodes.{taken_of_node}
 
-or_no : (b : Bool) → (b || false) ≡ b
+pub or_no : (b : Bool) → (b || false) ≡ b
 or_no true = refl
 or_no false = refl
 
-or_yes : (b : Bool) → (b || true) ≡ true
+pub or_yes : (b : Bool) → (b || true) ≡ true
 or_yes true = refl
 or_yes false = refl
 
-taken-more : (labels : List (List ℕ)) (new code : List ℕ) → is_taken (labels ++ new ∷ []) code ≡ (is_taken labels code || same_code new code)
+pub taken-more : (labels : List (List ℕ)) (new code : List ℕ) → is_taken (labels ++ new ∷ []) code ≡ (is_taken labels code || same_code new code)
 taken-more labels new code = list_any-append (λ label. same_code label code) labels (new ∷ []) ∙ ap (λ b. is_taken labels code || b) (or_no (same_code new code))
 
 -- the node of a code that is taken stays
-node_of-kept : (labels : List (List ℕ)) (new code : List ℕ) → is_taken labels code ≡ true → node_of (labels ++ new ∷ []) code ≡ node_of labels code
+pub node_of-kept : (labels : List (List ℕ)) (new code : List ℕ) → is_taken labels code ≡ true → node_of (labels ++ new ∷ []) code ≡ node_of labels code
 node_of-kept labels new code e =
     let at = node_of-taken labels code e in
     position_or_len_push (λ label. same_code label code) labels new
     ∙ cond-false (node_of labels code == length labels) (length labels + cond (same_code new code) 0 1) (node_of labels code) (ne_eqb (node_of labels code) (length labels) (λ same. omega (arith, same, at.0)))
 
 -- and the new one is the last
-node_of-new : (labels : List (List ℕ)) (new : List ℕ) → is_taken labels new ≡ false → node_of (labels ++ new ∷ []) new ≡ length labels
+pub node_of-new : (labels : List (List ℕ)) (new : List ℕ) → is_taken labels new ≡ false → node_of (labels ++ new ∷ []) new ≡ length labels
 node_of-new labels new e =
     position_or_len_push (λ label. same_code label new) labels new
     ∙ cond-true (node_of labels new == length labels) (length labels + cond (same_code new new) 0 1) (node_of labels new) (eq-eqb (node_of labels new) (length labels) past)
@@ -104,3 +104,11 @@ taken_by labels rows index code o found some = there (is_taken labels code) (sym
     there : (b : Bool) → is_some (cond b (Some (node_of labels code)) None) ≡ true → b ≡ true
     there true e = refl
     there false e = e
+
+-- a code is taken exactly where it is found
+pub taken_is : (labels : List (List ℕ)) (rows : List NodeRow) → IsIndex labels rows → (code : List ℕ) (o : Option ℕ) → ((of : List (List ℕ)) → IsIndex of rows → o ≡ node_if of code) → is_some o ≡ is_taken labels code
+taken_is labels rows index code o found = ap is_some (found labels index) ∙ there (is_taken labels code)
+  where
+    there : (b : Bool) → is_some (cond b (Some (node_of labels code)) None) ≡ b
+    there true = refl
+    there false = refl

@@ -6,6 +6,7 @@ pub mod Chains
 pub mod Counted
 pub mod Cycles
 pub mod ExampleProofs
+pub mod Filled
 pub mod Found
 pub mod HeldAmounts
 pub mod Hops

@@ -1,8 +1,7 @@
-ghost use Rattle.std.specs.Prelude.{◌≡◌, [], ◌∷◌, ◌++◌, ℕ, List, false, length, option_map, IfOk};
+ghost use Rattle.std.specs.Prelude.{◌≡◌, [], ℕ, List, length, option_map, IfOk, IsSome};
 ghost use Rattle.desk_text.specs.Code.{code_cmp};
 ghost use Rattle.desk_rows.specs.Held.{IsRoomFor};
 ghost use Rattle.desk_rows.specs.Rows.{row_of, with_rows};
-ghost use Rattle.desk_graph.specs.Edits.{is_taken};
 ghost use Rattle.desk_bridge.specs.Index.{IsIndex, index_with, node_if};
 
 use desk_graph::NodeId;
@@ -90,13 +89,13 @@ impl NodeIndex {
         self.rows.room_for(alloc, more)
     }
 
-    /// Enters a node behind all others, whose code no other has, in room that was made for it. It takes no memory.
-    pub fn add(&mut self, code: &Code, node: NodeId, room: Room<NodeRow>)
-        requires { IsRoomFor 1 self.old room }
-        ensures rows { self.new.rows ≡ index_with code.now node self.old.rows }
-        ensures index { (labels : List (List ℕ)) → IsIndex labels self.old.rows → is_taken labels code.now ≡ false → node ≡ length labels → IsIndex (labels ++ code.now ∷ []) self.new.rows }
+    /// Changes the node of a code that is there. It takes no memory.
+    pub(crate) fn set(&mut self, code: &Code, node: NodeId)
+        requires { IsSome (row_of (λ row. row.code) code_cmp code.now self.old.rows) }
+        ensures { self.new.rows ≡ index_with code.now node self.old.rows }
     {
-        self.rows.put_ready(NodeRow { code: *code, node }, room);
+        let put = self.rows.put(NodeRow { code: *code, node });
+        prove!(put.is_ok());
     }
 
     /// Enters nodes in turn, in room that was made for them. It takes no memory.

@@ -1,5 +1,5 @@
 ghost use Rattle.std.specs.Prelude.{◌≡◌, ◌≢◌, ◌≤◌, ◌<◌, true, false, Some, None, Ok, Err, IfOk, IfErr, OnOk, OnErr, length, map};
-ghost use Rattle.desk_graph.specs.Edits.{is_taken, with_line_in};
+ghost use Rattle.desk_graph.specs.Edits.{is_taken, with_line_in, with_node};
 ghost use Rattle.desk_graph.specs.Graph.{line_count};
 ghost use Rattle.desk_graph.specs.Reaches.{chain, is_or_reaches};
 ghost use Rattle.desk_graph.specs.Planned.{IsBillPlan, planned};
@@ -8,7 +8,7 @@ ghost use Rattle.desk_bridge.specs.Index.{IsIndex};
 ghost use Rattle.desk_bridge.specs.Planning.{CanTake, chain_told, cycle_by};
 
 use crate::node_index::NodeIndex;
-use desk_graph::{Bill, BillPlan, LineFault, NodeFault, NodeId, OutOfMemory, Path, PlanFault};
+use desk_graph::{Bill, BillPlan, LineFault, NodeId, OutOfMemory, Path};
 use desk_model::{Edit, MaterialDecl};
 use desk_text::Code;
 use std::alloc::Global;
@@ -49,27 +49,38 @@ pub(crate) fn node_of(_bill: &Bill, index: &NodeIndex, code: &Code) -> NodeId
     node
 }
 
-/// Makes ready a node of the code, where there is none.
-fn plan_code(bill: &Bill, plan: &mut BillPlan, code: &Code) -> Result<(), OutOfMemory>
+/// Makes ready a node of the code, where there is none. It takes a binary search, and a look at the nodes that the plan adds already.
+fn plan_code(
+    bill: &Bill,
+    index: &NodeIndex,
+    plan: &mut BillPlan,
+    code: &Code,
+) -> Result<(), OutOfMemory>
+    requires index { IsIndex bill.now.labels index.now.rows }
     requires plan { IsBillPlan bill.now plan.old }
     requires room { length (with_code code.now (planned plan.old bill.now)).labels ≤ 24576 }
     ensures bill { OnOk result (planned plan.new bill.now ≡ with_code code.now (planned plan.old bill.now)) }
     ensures plan { OnOk result (IsBillPlan bill.now plan.new) }
     ensures err { OnErr result (plan.new ≡ plan.old) }
 {
-    match bill.plan_node(plan, code.as_bytes()) {
+    if index.node_of(code).is_some() | plan.adds(code.as_bytes()) {
+        return Ok(());
+    }
+    plan_free_code(bill, plan, code)
+}
+
+/// Makes ready a node of a code that is free.
+fn plan_free_code(bill: &Bill, plan: &mut BillPlan, code: &Code) -> Result<(), OutOfMemory>
+    requires plan { IsBillPlan bill.now plan.old }
+    requires free { is_taken (planned plan.old bill.now).labels code.now ≡ false }
+    requires room { length (planned plan.old bill.now).labels < 24576 }
+    ensures bill { OnOk result (planned plan.new bill.now ≡ with_node code.now (planned plan.old bill.now)) }
+    ensures plan { OnOk result (IsBillPlan bill.now plan.new) }
+    ensures err { OnErr result (plan.new ≡ plan.old) }
+{
+    match bill.plan_new_node(plan, code.as_bytes()) {
         Ok(_) => Ok(()),
-        Err(
-            PlanFault::Node {
-                fault: NodeFault::Taken,
-            },
-        ) => Ok(()),
-        Err(
-            PlanFault::Node {
-                fault: NodeFault::Full,
-            },
-        ) => unreachable!(),
-        Err(PlanFault::OutOfMemory) => Err(OutOfMemory),
+        Err(OutOfMemory) => Err(OutOfMemory),
     }
 }
 
@@ -77,27 +88,35 @@ fn plan_code(bill: &Bill, plan: &mut BillPlan, code: &Code) -> Result<(), OutOfM
 fn plan_materials(
     alloc: Global,
     bill: &Bill,
+    index: &NodeIndex,
     materials: &[MaterialDecl],
 ) -> Result<BillPlan, OutOfMemory>
-    requires { length (with_codes (map (λ material. material.code) materials.now) bill.now).labels ≤ 24576 }
+    requires index { IsIndex bill.now.labels index.now.rows }
+    requires fits { length (with_codes (map (λ material. material.code) materials.now) bill.now).labels ≤ 24576 }
     ensures bill { IfOk result (λ plan. planned plan bill.now ≡ with_codes (map (λ material. material.code) materials.now) bill.now) }
     ensures plan { IfOk result (λ plan. IsBillPlan bill.now plan) }
 {
     let mut plan = bill.plan_nothing(alloc);
     for material in materials {
-        plan_code(bill, &mut plan, &material.code)?;
+        plan_code(bill, index, &mut plan, &material.code)?;
     }
     Ok(plan)
 }
 
 /// Makes ready a node of a part's code, where there is none.
-fn plan_part(alloc: Global, bill: &Bill, code: &Code) -> Result<BillPlan, OutOfMemory>
-    requires { length (with_code code.now bill.now).labels ≤ 24576 }
+fn plan_part(
+    alloc: Global,
+    bill: &Bill,
+    index: &NodeIndex,
+    code: &Code,
+) -> Result<BillPlan, OutOfMemory>
+    requires index { IsIndex bill.now.labels index.now.rows }
+    requires fits { length (with_code code.now bill.now).labels ≤ 24576 }
     ensures bill { IfOk result (λ plan. planned plan bill.now ≡ with_code code.now bill.now) }
     ensures plan { IfOk result (λ plan. IsBillPlan bill.now plan) }
 {
     let mut plan = bill.plan_nothing(alloc);
-    plan_code(bill, &mut plan, code)?;
+    plan_code(bill, index, &mut plan, code)?;
     Ok(plan)
 }
 
@@ -143,8 +162,13 @@ pub fn plan_edit(
     ensures closes { IfErr result (λ fault. fault ≢ BillFault.OutOfMemory → cycle_by bill.now edit.now ≡ chain_told fault) }
 {
     match edit {
-        Edit::Declare { declaration } => Ok(plan_materials(alloc, bill, declaration.materials())?),
-        Edit::Part { code, .. } => Ok(plan_part(alloc, bill, code)?),
+        Edit::Declare { declaration } => Ok(plan_materials(
+            alloc,
+            bill,
+            index,
+            declaration.materials(),
+        )?),
+        Edit::Part { code, .. } => Ok(plan_part(alloc, bill, index, code)?),
         Edit::Line {
             parent,
             child,

@@ -10,7 +10,7 @@ use Rattle.desk_graph.specs.declared.fault.PlanFault.TheVariants.{Node}
 use Rattle.std.specs.Ordering.{is_eq}
 use Rattle.desk_graph.specs.Graph.{Graph, is_line, label_cmp}
 use Rattle.desk_graph.specs.Edits.{is_taken}
-use Rattle.desk_graph.specs.Order.{AreBothEnds, AreMarkedUp, AreSweptUp, IsInOrder, IsSwept, has_mark}
+use Rattle.desk_graph.specs.Order.{AreBothEnds, AreMarkedUp, AreSweptUp, HasOnce, IsInOrder, IsSwept, has_mark}
 use Rattle.desk_graph.specs.Planned.{BillEdit, HasMadeWayFor, IsBillPlan, as_planned, changed_lines, changed_users, plan_answer, planned, with_empty, with_next}
 use Rattle.desk_graph.specs.Reaches.{AreAffected, AreChildrenFirst}
 use Rattle.desk_graph.proofs.ChangedLines.{StaysKept, changed-kept, length-labels, more-kept, with_labels, with_labels-is, with_nodes-is}
@@ -35,6 +35,9 @@ module _ (labels : List (List ℕ)) (lines users : List (List BillLine)) (order 
 
   pub swept_after : IsSwept new_users new_order
   swept_after = bill_swept new_labels new_lines new_users new_order after.ends after.in_order
+
+  pub once_after : HasOnce new_order
+  once_after = after.in_order.once
 
   pub sizes_after : (length new_order ≡ length new_users) × (length new_users ≡ length (planned edit (record { labels = labels; lines = lines })).labels)
   sizes_after = (

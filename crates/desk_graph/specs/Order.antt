@@ -1,5 +1,5 @@
 -- What a bill keeps beside what callers see of it: the users of each node, and an order of its nodes in which children come first.
-use Rattle.std.specs.Prelude.{◌≡◌, ℕ, ◌<◌, ◌≤◌, Bool, true, false, not, ◌==◌, List, [], ◌∷◌, ◌++◌, ◌⊎◌, None, filter, length, slice_index}
+use Rattle.std.specs.Prelude.{◌≡◌, ℕ, ◌+◌, ◌<◌, ◌≤◌, Bool, true, false, not, ◌==◌, List, [], ◌∷◌, ◌++◌, ◌⊎◌, None, filter, length, slice_index}
 use Rattle.std.specs.Prelude.{slice_index_or, if◌then◌else◌, nat_lt, count_by}
 use Rattle.std.specs.List.{Contains}
 use Rattle.std.specs.Option.{option_map_or}
@@ -41,6 +41,18 @@ pub record AreMarkedUp (users : List (List BillLine)) (seeds : List ℕ) (marks 
 -- none of the first so many nodes of the order is marked
 abbrev pub AreUnmarked : ℕ → List ℕ → List Bool → Type 0
 AreUnmarked first order marks = (place : ℕ) → place < first → mark_of marks (slice_index order place) ≡ false
+
+-- no node of the order is marked at this place or behind it
+abbrev pub AreUnmarkedFrom : ℕ → List ℕ → List Bool → Type 0
+AreUnmarkedFrom end order marks = (place : ℕ) → end ≤ place → place < length order → mark_of marks (slice_index order place) ≡ false
+
+-- no number stands in the list twice
+abbrev pub HasNoneTwice : List ℕ → Type 0
+HasNoneTwice nodes = (node : ℕ) → count_by (λ other. other == node) nodes ≤ 1
+
+-- so many nodes at most are marked besides
+abbrev pub MarksAtMost : ℕ → List Bool → List Bool → Type 0
+MarksAtMost more old new = (nodes : List ℕ) → HasNoneTwice nodes → count_by (has_mark true new) nodes ≤ count_by (has_mark true old) nodes + more
 
 -- none of the first so many nodes of the order is one of these
 abbrev pub AreBehind : ℕ → List ℕ → List ℕ → Type 0

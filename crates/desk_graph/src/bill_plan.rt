@@ -1,3 +1,4 @@
+use crate::bill::is_taken;
 use crate::label::Label;
 use crate::line::NodeId;
 use crate::line_list::LineList;
@@ -39,6 +40,7 @@ impl Model for BillPlan {
 
 impl BillPlan {
     ghost use Rattle.std.specs.Prelude.{◌≡◌, []};
+    ghost use Rattle.desk_graph.specs.Edits.{is_taken};
 
     /// At most one line, and no new nodes. It takes no memory.
     pub(crate) fn of_line(alloc: Global, line: Option<LineChange>) -> BillPlan
@@ -50,5 +52,12 @@ impl BillPlan {
             line,
             none: LineList::new(alloc),
         }
+    }
+
+    /// Whether a new node of the plan has the label. No node of the bill is looked at.
+    pub fn adds(&self, label: &[u8]) -> bool
+        ensures { result ≡ is_taken self.now.labels label.now }
+    {
+        is_taken(self.labels.as_slice(), label)
     }
 }

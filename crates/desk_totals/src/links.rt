@@ -94,6 +94,22 @@ impl Links {
         self.links.as_slice()
     }
 
+    /// The codes of the nodes that lines lead to, in an order in which children come first, as far as a guess goes. Nothing is proved
+    /// of it: it may save time, and no result may come of it.
+    ///
+    /// It takes a pass over the lines.
+    pub fn guessed_order(&self, alloc: Global) -> Result<Vec<Code>, OutOfMemory> {
+        let mut codes = Vec::with_capacity(alloc, self.nodes.len())?;
+        let mut last = None;
+        for link in self.guess() {
+            if last != Some(link.child) && link.child < self.nodes.len() {
+                codes.push(self.nodes[link.child])?;
+            }
+            last = Some(link.child);
+        }
+        Ok(codes)
+    }
+
     /// The links in an order in which children come first, as far as a guess goes.
     pub(crate) fn guess(&self) -> &[Link] {
         self.guess.as_slice()

@@ -1,10 +1,10 @@
-use Rattle.std.proofs.Common.{◌≡◌, true, length, sym, ap, ◌∙◌, subst, arith}
+use Rattle.std.proofs.Common.{◌≡◌, length, sym, ap, ◌∙◌, subst, arith}
 use Rattle.std.specs.Prelude.{option_copied}
 use Rattle.std.proofs.lemmas.Result.{IfOk-weaker}
-use Rattle.desk_graph.specs.Order.{AreSweptUp, IsSwept}
+use Rattle.desk_graph.specs.Order.{AreSweptUp, HasOnce, IsSwept}
 use Rattle.desk_graph.specs.Planned.{HasMadeWayFor, IsBillPlan, changed_users, planned, with_empty, with_next}
 use Rattle.desk_graph.specs.Reaches.{AreAffected, AreChildrenFirst}
-use Rattle.desk_graph.proofs.AfterPlans.{first_after, nodes_after, sizes_after, swept_after}
+use Rattle.desk_graph.proofs.AfterPlans.{first_after, nodes_after, once_after, sizes_after, swept_after}
 use Rattle.desk_graph.proofs.Kept.{bill_swept}
 use Rattle.desk_graph.proofs.bill.Bill.affected_after.Goals as goal
 
@@ -75,6 +75,20 @@ swept_nodes-requires-2-clause-order c =
     let way : HasMadeWayFor bill.users.items edit.line bill.order made = subst (λ u. HasMadeWayFor u edit.line bill.order made) c.as_slice-2.ensures.value (subst (λ l. HasMadeWayFor c.as_slice-2.result.now l bill.order made) line c.in_ok-order.ensures.way) in
     let next : c.push_next.new.order.items ≡ with_next (length edit.labels) made = c.push_next.ensures.nodes ∙ ap (λ n. with_next n made) more in
     subst (IsSwept c.as_planned-users.result) (sym c.as_slice-3.ensures.value) (swept_after bill.labels.items bill.lines.items bill.users.items bill.order kept.ends kept.order edit good made c.push_next.new.order.items way next c.as_planned-users.result are)
+
+pub swept_nodes-requires-2-clause-once : goal.swept_nodes-requires-2-clause-once
+swept_nodes-requires-2-clause-once c =
+    let bill = c.self.inside in
+    let kept = c.self.invariant in
+    let edit = c.args.plan.now in
+    let line = c.as_ref-line.ensures.value ∙ ap (λ p. p.line) c.plan.view_is in
+    let more = c.len-more.ensures ∙ c.plan.inside.labels.ok.0 ∙ ap (λ p. length p.labels) c.plan.view_is in
+    let good : IsBillPlan (record { labels = bill.labels.items; lines = bill.lines.items }) edit = subst (λ g. IsBillPlan g edit) (sym c.self.view_is) c.requires.plan in
+    let are : c.as_planned-users.result ≡ with_empty (length edit.labels) (changed_users edit.line bill.users.items) = c.as_planned-users.ensures ∙ ap (λ n. with_empty n (changed_users (option_copied c.as_ref-line.result) c.as_slice.result.now)) more ∙ ap (λ l. with_empty (length edit.labels) (changed_users l c.as_slice.result.now)) line ∙ ap (λ u. with_empty (length edit.labels) (changed_users edit.line u)) c.as_slice.ensures.value in
+    let made = c.in_ok-order.order.items in
+    let way : HasMadeWayFor bill.users.items edit.line bill.order made = subst (λ u. HasMadeWayFor u edit.line bill.order made) c.as_slice-2.ensures.value (subst (λ l. HasMadeWayFor c.as_slice-2.result.now l bill.order made) line c.in_ok-order.ensures.way) in
+    let next : c.push_next.new.order.items ≡ with_next (length edit.labels) made = c.push_next.ensures.nodes ∙ ap (λ n. with_next n made) more in
+    subst HasOnce (sym c.as_slice-3.ensures.value) (once_after bill.labels.items bill.lines.items bill.users.items bill.order kept.ends kept.order edit good made c.push_next.new.order.items way next c.as_planned-users.result are)
 
 pub swept_nodes-requires-2-clause-seeds : goal.swept_nodes-requires-2-clause-seeds
 swept_nodes-requires-2-clause-seeds c =
