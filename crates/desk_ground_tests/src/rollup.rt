@@ -49,7 +49,7 @@ fn own_of(alloc: Global, node: NodeId, weight: u128, marks: &[Mark]) -> Result<O
 /// How many of the nodes below a number a plan replaces.
 fn replaced(plan: &RollPlan, nodes: NodeId) -> usize {
     (0..nodes)
-        .filter(|node| plan.rolled(*node).is_some())
+        .filter(|node| plan.weight(*node).is_some())
         .count()
 }
 

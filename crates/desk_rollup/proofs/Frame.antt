@@ -1,5 +1,5 @@
 -- What a sweep over the affected nodes finds at each of them.
-use Rattle.std.proofs.Common.{◌≡◌, ℕ, zero, suc, ◌+◌, ◌*◌, ◌^◌, ◌<◌, ◌≤◌, true, false, cond, ◌==◌, List, [], ◌∷◌, drop, map, take, fold, length, nat_lt, slice_index, slice_index_or, sum_by, Option, Some, None, option_map, refl, sym, ap, ◌∙◌, subst, inl, inr, arith}
+use Rattle.std.proofs.Common.{◌≡◌, ℕ, zero, suc, ◌+◌, ◌*◌, ◌^◌, ◌<◌, ◌≤◌, Bool, true, false, cond, ◌==◌, List, [], ◌∷◌, drop, map, take, fold, length, nat_lt, slice_index, slice_index_or, sum_by, Option, Some, None, unwrap_or, refl, sym, ap, ◌∙◌, subst, inl, inr, arith}
 use Rattle.std.specs.List.{AllByRecursion}
 use Rattle.std.proofs.lemmas.Bool.{both_ways, cases_Bool, cases_lt, eq-eqb, eqb-true, false_from_ne_true, le-ltb, lt-ltb, ltb-true, ne_eqb, or_cases, or_parts}
 use Rattle.std.proofs.lemmas.List.{length-map, length-take-le, get_or-map, get_or-take}
@@ -12,20 +12,20 @@ use Rattle.desk_graph.specs.Graph.{Graph, is_line, lines_of}
 use Rattle.desk_graph.specs.Reaches.{AreAffected, enough, has_node, is_affected, is_or_reaches, reaches}
 use Rattle.desk_graph.proofs.Reached.{affected-seed, affected-up, any_node-out, up}
 use Rattle.desk_graph.proofs.Ends.{has_node_there}
-use Rattle.desk_rollup.specs.Gathered.{all_hops, all_loads}
+use Rattle.desk_rollup.specs.Gathered.{AreNewHops, KeepHops, all_hops, all_loads}
 use Rattle.desk_rollup.specs.Numbers.{Rises, hop_numbers, substances}
 use Rattle.desk_rollup.specs.Places.{IsKnown, IsTold, Placed, known, place_at}
 use Rattle.desk_rollup.specs.Plan.{AreDistinct, nodes_of}
-use Rattle.desk_rollup.specs.Rolled.{IsRolled, amount, weight}
-use Rattle.desk_rollup.specs.Step.{IsStepOver}
+use Rattle.desk_rollup.specs.Rolled.{IsRolled, amount, hop, weight}
+use Rattle.desk_rollup.specs.Step.{IsStepOver, step_hop}
 use Rattle.desk_rollup.specs.Sweep.{IsSweep}
-use Rattle.desk_rollup.specs.Values.{Kept, OwnValues, RolledValues, amount_of, carried, own_at, own_with, rolled_at}
+use Rattle.desk_rollup.specs.Values.{Kept, NewRolled, OwnValues, RolledValues, amount_of, carried, filled, filled_at, hop_of, load_of, new_at, own_at, own_with, rolled_at}
 use Rattle.desk_rollup.specs.Weights.{IsKnownWeight, fitting, known_weight, weighed, with_child}
 use Rattle.desk_rollup.proofs.Counts.{has_at, none_times, one_if, some_times}
 use Rattle.desk_rollup.proofs.Gathers.{gathered_step}
 use Rattle.desk_rollup.proofs.Lists.{each_as, each_line, sum_same}
 use Rattle.desk_rollup.proofs.Ranked.{goes_up, rolled-step}
-use Rattle.desk_rollup.proofs.Rolls.{carried_is, step_rolled}
+use Rattle.desk_rollup.proofs.Rolls.{carried_is, hop_by, same_hops, step_rolled}
 
 -- the list has just the affected nodes
 pub affected_had : (lines : List (List BillLine)) (seeds nodes : List ℕ) → AreAffected lines seeds nodes → (node : ℕ) → has_node nodes node ≡ is_affected lines seeds node
@@ -86,18 +86,18 @@ some_inside one other e = cc
 some_is_none : {X : Type 0} (one : X) → ◌≡◌ {A = Option X} (Some one) None → ⊥
 some_is_none one e = cc
 
--- what is made of a weight that fits
-pub fitted : {X : Type 0} (f : ℕ → X) (n : ℕ) (x : X) → option_map f (fitting n) ≡ Some x → (n < 2 ^ 128) × (x ≡ f n)
-fitted f n x e =
+-- a weight that is found is the one that fits
+pub fitted : (n found : ℕ) → fitting n ≡ Some found → (n < 2 ^ 128) × (found ≡ n)
+fitted n found e =
     elim (cases_lt n (2 ^ 128)) [
-      | inl low ↦ (low, some_inside x (f n) (sym e ∙ ap (option_map f) (fits_yes n low)))
-      | inr large ↦ absurd (some_is_none x (sym e ∙ ap (option_map f) (fits_no n large)))
+      | inl low ↦ (low, some_inside found n (sym e ∙ fits_yes n low))
+      | inr large ↦ absurd (some_is_none found (sym e ∙ fits_no n large))
     ]
 
-pub unfitted : {X : Type 0} (f : ℕ → X) (n : ℕ) → option_map f (fitting n) ≡ None → 2 ^ 128 ≤ n
-unfitted f n e =
+pub unfitted : (n : ℕ) → fitting n ≡ None → 2 ^ 128 ≤ n
+unfitted n e =
     elim (cases_lt n (2 ^ 128)) [
-      | inl low ↦ absurd (some_is_none (f n) (sym (ap (option_map f) (fits_yes n low)) ∙ e))
+      | inl low ↦ absurd (some_is_none n (sym (fits_yes n low) ∙ e))
       | inr large ↦ large
     ]
 
@@ -236,7 +236,7 @@ module _ (g : Graph) (owns : List OwnValues) (kept : Kept) (of_owns placed : Pla
         by_place placed.nodes child (place_at placed child) (sweep.places child) (λ o. IsKnownWeight o kept.rolled new child)
         (λ away. has_kept child (sweep.bill.children node child line) away) (λ at h is. let before = child_before child at line h is in omega arith)
 
-    pub knows : (new : List RolledValues) → length new ≡ place → (child : ℕ) → is_line g.lines node child ≡ true → IsKnown (place_at placed child) kept.rolled new child
+    pub knows : (new : List NewRolled) → length new ≡ place → (child : ℕ) → is_line g.lines node child ≡ true → IsKnown (place_at placed child) kept.rolled new child
     knows new size child line =
         by_place placed.nodes child (place_at placed child) (sweep.places child) (λ o. IsKnown o kept.rolled new child)
         (λ away. has_kept child (sweep.bill.children node child line) away) (λ at h is. let before = child_before child at line h is in omega arith)
@@ -262,16 +262,20 @@ module _ (g : Graph) (owns : List OwnValues) (kept : Kept) (of_owns placed : Pla
         (own node).weight
         ∙ ap fitting (sym (rolled-step g.lines rank sweep.bill.ranked.1 (λ n. (own n).weight) node))
 
+    -- with the new values the nodes that stand before have those that are right
+    abbrev AreBefore : List NewRolled → Type 0
+    AreBefore new = (at : ℕ) → at < place → IsRolled g.lines own (slice_index placed.nodes at) (filled_at kept.rolled placed.nodes new at)
+
     -- what the new values and those that are kept tell of the children
-    rolled_below : (new : List RolledValues) → ((at : ℕ) → at < place → IsRolled g.lines own (slice_index placed.nodes at) (rolled_at new at)) →
+    rolled_below : (new : List NewRolled) → AreBefore new →
         (child : ℕ) → is_line g.lines node child ≡ true → IsRolled g.lines own child (known (place_at placed child) kept.rolled new child)
     rolled_below new before child line =
         by_place placed.nodes child (place_at placed child) (sweep.places child) (λ o. IsRolled g.lines own child (known o kept.rolled new child))
         (λ away. stays child away (sweep.bill.children node child line))
-        (λ spot h spot_is. subst (λ c. IsRolled g.lines own c (rolled_at new spot)) spot_is (before spot (child_before child spot line h spot_is)))
+        (λ spot h spot_is. subst (λ c. IsRolled g.lines own c (filled (rolled_at kept.rolled c) (new_at new spot))) spot_is (before spot (child_before child spot line h spot_is)))
 
     -- the weight that is found at the place by values
-    pub weighs_values : (new : List RolledValues) → ((at : ℕ) → at < place → IsRolled g.lines own (slice_index placed.nodes at) (rolled_at new at)) →
+    pub weighs_values : (new : List NewRolled) → AreBefore new →
         ((at : ℕ) → at < place → weight g.lines own (slice_index placed.nodes at) < 2 ^ 128) → (own node).weight < 2 ^ 128 →
         weighed (λ child. Some (known (place_at placed child) kept.rolled new child).weight) (own node).weight (lines_of g.lines node) ≡ fitting (weight g.lines own node)
     weighs_values new before light small =
@@ -287,13 +291,13 @@ module _ (g : Graph) (owns : List OwnValues) (kept : Kept) (of_owns placed : Pla
         (own node).weight
         ∙ ap fitting (sym (rolled-step g.lines rank sweep.bill.ranked.1 (λ n. (own n).weight) node))
 
-    abbrev made : List RolledValues → ℕ → RolledValues
+    abbrev made : List NewRolled → ℕ → RolledValues
     made new found =
         let below = λ (child : ℕ). known (place_at placed child) kept.rolled new child in
         record { weight = found; hops = all_hops below (own node).marks (lines_of g.lines node); loads = all_loads below (own node).loads (lines_of g.lines node) }
 
     -- the values that are found at the place
-    rolls : weight g.lines own node < 2 ^ 128 → (new : List RolledValues) → ((at : ℕ) → at < place → IsRolled g.lines own (slice_index placed.nodes at) (rolled_at new at)) →
+    rolls : weight g.lines own node < 2 ^ 128 → (new : List NewRolled) → AreBefore new →
         IsRolled g.lines own node (made new (weight g.lines own node))
     rolls fit new before =
         let below : ℕ → RolledValues = λ child. known (place_at placed child) kept.rolled new child in
@@ -312,18 +316,48 @@ module _ (g : Graph) (owns : List OwnValues) (kept : Kept) (of_owns placed : Pla
         let rolled = step_rolled g.lines rank sweep.bill.ranked.1 own below node _ right step in
         subst (λ w. IsRolled g.lines own node (made new w)) rolled.weight rolled
 
-    -- where values are found at the place, they are right, and the weight isn't too large
-    pub found_values : (new : List RolledValues) → ((at : ℕ) → at < place → IsRolled g.lines own (slice_index placed.nodes at) (rolled_at new at)) →
-        ((at : ℕ) → at < place → weight g.lines own (slice_index placed.nodes at) < 2 ^ 128) → (own node).weight < 2 ^ 128 → (values : RolledValues) →
-        option_map (made new) (weighed (λ child. Some (known (place_at placed child) kept.rolled new child).weight) (own node).weight (lines_of g.lines node)) ≡ Some values →
-        (weight g.lines own node < 2 ^ 128) × IsRolled g.lines own node values
-    found_values new before light small values e =
-        let found = fitted (made new) (weight g.lines own node) values (sym (ap (option_map (made new)) (weighs_values new before light small)) ∙ e) in
-        (found.0, subst (IsRolled g.lines own node) (sym found.1) (rolls found.0 new before))
+    -- where the node isn't given own values and its children keep their hops, the hops that are kept of it are right
+    kept_hops : (new : List NewRolled) → AreBefore new → has_node seeds node ≡ false → KeepHops (λ child. known (place_at placed child) kept.rolled new child) kept.rolled (lines_of g.lines node) →
+        Rises (hop_numbers (rolled_at kept.rolled node).hops) × ((mark : ℕ) → hop_of (rolled_at kept.rolled node).hops mark ≡ hop g.lines own node mark)
+    kept_hops new before none keeps =
+        let below : ℕ → RolledValues = λ child. known (place_at placed child) kept.rolled new child in
+        let of_node = lines_of g.lines node in
+        let there = inside node (has_at placed.nodes place low) in
+        let step = sweep.can.steps node (own_there node there none) none in (
+          step.hops_rise,
+          λ mark.
+              step.hops mark
+              ∙ ap (λ o. step_hop (rolled_at kept.rolled) o of_node mark) (sym (own_other owns kept.owns node none))
+              ∙ sym (same_hops below (rolled_at kept.rolled) (own node) of_node keeps mark)
+              ∙ hop_by g.lines rank sweep.bill.ranked.1 own below node (rolled_below new before) mark,
+        )
+
+    -- where new values are found at the place, the node has with them those that are right, and the weight isn't too large
+    pub found_values : (new : List NewRolled) → AreBefore new → ((at : ℕ) → at < place → weight g.lines own (slice_index placed.nodes at) < 2 ^ 128) → (own node).weight < 2 ^ 128 →
+        (values : NewRolled) (is_given : Bool) → (is_given ≡ false → has_node seeds node ≡ false) →
+        Some values.weight ≡ weighed (λ child. Some (known (place_at placed child) kept.rolled new child).weight) (own node).weight (lines_of g.lines node) →
+        AreNewHops (λ child. known (place_at placed child) kept.rolled new child) kept.rolled (own node).marks (lines_of g.lines node) node is_given values.hops →
+        values.loads ≡ all_loads (λ child. known (place_at placed child) kept.rolled new child) (own node).loads (lines_of g.lines node) →
+        (weight g.lines own node < 2 ^ 128) × IsRolled g.lines own node (filled (rolled_at kept.rolled node) values)
+    found_values new before light small values is_given none weighs_so hops loads =
+        let found = fitted (weight g.lines own node) values.weight (sym (weighs_so ∙ weighs_values new before light small)) in
+        let right = rolls found.0 new before in
+        let hops_right : Rises (hop_numbers (unwrap_or values.hops (rolled_at kept.rolled node).hops)) × ((mark : ℕ) → hop_of (unwrap_or values.hops (rolled_at kept.rolled node).hops) mark ≡ hop g.lines own node mark) =
+        elim hops [
+          | inl all ↦ (subst (λ h. Rises (hop_numbers h)) (sym all) right.hops_rise, λ mark. ap (λ h. hop_of h mark) all ∙ right.hops mark)
+          | inr keeps ↦ rw keeps.0 (kept_hops new before (none keeps.1) keeps.2)
+        ] in (
+          found.0,
+          record {
+            weight = found.1;
+            hops_rise = hops_right.0;
+            hops = hops_right.1;
+            loads_rise = subst (λ l. Rises (substances l)) (sym loads) right.loads_rise;
+            loads = λ what. ap (λ l. load_of l what) loads ∙ right.loads what;
+          },
+        )
 
     -- where none are found, the weight is too large
-    pub found_none : (new : List RolledValues) → ((at : ℕ) → at < place → IsRolled g.lines own (slice_index placed.nodes at) (rolled_at new at)) →
-        ((at : ℕ) → at < place → weight g.lines own (slice_index placed.nodes at) < 2 ^ 128) → (own node).weight < 2 ^ 128 →
-        option_map (made new) (weighed (λ child. Some (known (place_at placed child) kept.rolled new child).weight) (own node).weight (lines_of g.lines node)) ≡ None → 2 ^ 128 ≤ weight g.lines own node
-    found_none new before light small e =
-        unfitted (made new) (weight g.lines own node) (sym (ap (option_map (made new)) (weighs_values new before light small)) ∙ e)
+    pub found_none : (new : List NewRolled) → AreBefore new → ((at : ℕ) → at < place → weight g.lines own (slice_index placed.nodes at) < 2 ^ 128) → (own node).weight < 2 ^ 128 →
+        None ≡ weighed (λ child. Some (known (place_at placed child) kept.rolled new child).weight) (own node).weight (lines_of g.lines node) → 2 ^ 128 ≤ weight g.lines own node
+    found_none new before light small e = unfitted (weight g.lines own node) (sym (e ∙ weighs_values new before light small))

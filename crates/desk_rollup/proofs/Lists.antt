@@ -1,7 +1,8 @@
 -- Facts on numbers and on the lines of one node.
-use Rattle.std.proofs.Common.{◌≡◌, ℕ, Bool, true, false, cond, ◌||◌, ◌==◌, List, [], ◌∷◌, map, find, sum_by, Option, Some, None, is_some, option_map, refl, ap, ◌∙◌, subst, inl, inr, arith}
+use Rattle.std.proofs.Common.{◌≡◌, ℕ, ◌+◌, ◌<◌, Bool, true, false, cond, ◌||◌, ◌==◌, List, [], ◌∷◌, ◌++◌, length, slice_index_or, take, map, find, sum_by, Option, Some, None, is_some, option_map, refl, sym, ap, ◌∙◌, subst, inl, inr, arith}
 use Rattle.std.specs.List.{AllByRecursion, flat_map, list_any}
 use Rattle.std.proofs.lemmas.Bool.{cases_Bool, eq-eqb, eqb-true, or_left, or_parts, or_right}
+use Rattle.std.proofs.lemmas.List.{take_more}
 use Rattle.std.proofs.lemmas.List.Folds.{list_any-append}
 use Rattle.std.proofs.lemmas.List.Sums.{sum_by-cons}
 use Rattle.desk_graph.specs.declared.line.BillLine.{BillLine}
@@ -25,6 +26,14 @@ no_lines (line ∷ of_node) h = absurd (h line.node (or_left (line.node == line.
 pub each_as : {X : Type 0} (P Q : X → Type 0) → ((x : X) → P x → Q x) → (xs : List X) → AllByRecursion P xs → AllByRecursion Q xs
 each_as P Q f [] a = tt
 each_as P Q f (x ∷ xs) a = (f x a.0, each_as P Q f xs a.1)
+
+each_push : {X : Type 0} (P : X → Type 0) (xs : List X) (x : X) → AllByRecursion P xs → P x → AllByRecursion P (xs ++ x ∷ [])
+each_push P [] x a p = (p, tt)
+each_push P (y ∷ xs) x a p = (a.0, each_push P xs x a.1 p)
+
+-- what holds of so many and of the next holds of one more
+pub each_more : {X : Type 0} (P : X → Type 0) (xs : List X) (at : ℕ) (none : X) → at < length xs → AllByRecursion P (take at xs) → P (slice_index_or xs at none) → AllByRecursion P (take (at + 1) xs)
+each_more P xs at none low a p = subst (AllByRecursion P) (sym (take_more xs at none low)) (each_push P (take at xs) (slice_index_or xs at none) a p)
 
 pub sum_same : {X : Type 0} (f g : X → ℕ) (xs : List X) → AllByRecursion (λ x. f x ≡ g x) xs → sum_by f xs ≡ sum_by g xs
 sum_same f g [] a = refl

@@ -13,11 +13,11 @@ use Rattle.desk_rollup.specs.Places.{IsKnown, Placed, known, place_at}
 use Rattle.desk_rollup.specs.Rolled.{IsRolled, gathered, mark_count, marks}
 use Rattle.desk_rollup.specs.Plan.{nodes_of}
 use Rattle.desk_rollup.specs.Sweep.{AreRolledOf, IsSweep}
-use Rattle.desk_rollup.specs.Values.{Kept, OwnValues, RolledValues, hop_total, own_with, rolled_at}
+use Rattle.desk_rollup.specs.Values.{Kept, NewRolled, OwnValues, RolledValues, filled, hop_total, new_at, new_hop_total, own_with, rolled_at}
 use Rattle.desk_rollup.proofs.Counts.{none_times, one_if, same_length, some_times, sum_few, times, times-cons}
 use Rattle.desk_rollup.proofs.Frame.{by_place, has_kept, inside, stays}
 use Rattle.desk_rollup.proofs.Lists.{has_once}
-use Rattle.desk_rollup.proofs.MostHops.{hops_of, kept_sum, put_at, put_sum, put_there, sum_within}
+use Rattle.desk_rollup.proofs.MostHops.{hops_of, kept_sum, or_within, put_at, put_sum, put_there, sum_within}
 use Rattle.desk_rollup.proofs.Ranked.{gathered-step}
 use Rattle.desk_rollup.proofs.Rolls.{has_marks}
 
@@ -105,7 +105,7 @@ module _ (g : Graph) (owns : List OwnValues) (kept : Kept) (of_owns placed : Pla
       (sym (hop_count g.lines sweep.bill.ranked.0 sweep.bill.ranked.1 (own_with owns kept.owns) (slice_index placed.nodes place) values right))
 
 module _ (g : Graph) (owns : List OwnValues) (kept : Kept) (of_owns placed : Placed) (lists : List (List BillLine)) (sweep : IsSweep g owns kept of_owns placed lists)
-    (new : List RolledValues) (size : length new ≡ length placed.nodes) (right : AreRolledOf g owns kept placed.nodes new) where
+    (new : List NewRolled) (size : length new ≡ length placed.nodes) (right : AreRolledOf g owns kept placed.nodes new) where
   abbrev own : ℕ → OwnValues
   own = own_with owns kept.owns
 
@@ -118,7 +118,7 @@ module _ (g : Graph) (owns : List OwnValues) (kept : Kept) (of_owns placed : Pla
   pub all_right : (node : ℕ) → node < length g.labels → IsRolled g.lines own node (known (place_at placed node) kept.rolled new node)
   all_right node there =
       by_place placed.nodes node (place_at placed node) (sweep.places node) (λ o. IsRolled g.lines own node (known o kept.rolled new node))
-      (λ away. stays g owns kept of_owns placed lists sweep node away there) (λ spot h is. subst (λ n. IsRolled g.lines own n (rolled_at new spot)) is (right spot h))
+      (λ away. stays g owns kept of_owns placed lists sweep node away there) (λ spot h is. subst (λ n. IsRolled g.lines own n (filled (rolled_at kept.rolled n) (new_at new spot))) is (right spot h))
 
   abbrev counted : ℕ → ℕ
   counted node = cond (length (lines_of g.lines node) == 0) 0 (length (marks g.lines own node))
@@ -135,7 +135,7 @@ module _ (g : Graph) (owns : List OwnValues) (kept : Kept) (of_owns placed : Pla
       ∙ ap (λ n. so_far node + cond (length (lines_of g.lines node) == 0) 0 n) (sym (hop_count g.lines sweep.bill.ranked.0 sweep.bill.ranked.1 own node (known (place_at placed node) kept.rolled new node) (all_right node there)))
 
   -- there are no more marks than hops that are kept and new together
-  pub count_most : mark_count g.lines own ≤ hop_total kept.rolled + hop_total new
+  pub count_most : mark_count g.lines own ≤ hop_total kept.rolled + new_hop_total new
   count_most =
       let n = length g.lines in
       let kept_hops : ℕ → ℕ = λ node. hops_of (rolled_at kept.rolled node) in
@@ -149,7 +149,8 @@ module _ (g : Graph) (owns : List OwnValues) (kept : Kept) (of_owns placed : Pla
       most_at : (node : ℕ) → hops_of (known (place_at placed node) kept.rolled new node) ≤ hops_of (rolled_at kept.rolled node) + put_at placed.nodes new node
       most_at node =
           by_place placed.nodes node (place_at placed node) (sweep.places node) (λ o. hops_of (known o kept.rolled new node) ≤ hops_of (rolled_at kept.rolled node) + put_at placed.nodes new node)
-          (λ away. omega arith) (λ spot h is. omega (arith, put_there placed.nodes new spot node h size is))
+          (λ away. omega arith)
+          (λ spot h is. omega (arith, put_there placed.nodes new spot node h size is, or_within (new_at new spot).hops (rolled_at kept.rolled node).hops))
 
       counted_most : (node : ℕ) → node < length g.labels → counted node ≤ hops_of (rolled_at kept.rolled node) + put_at placed.nodes new node
       counted_most node there =

@@ -9,7 +9,7 @@ use Rattle.desk_graph.specs.Reaches.{AreAffected, AreChildrenFirst, is_affected}
 use Rattle.desk_rollup.specs.Places.{ArePlaced, Placed}
 use Rattle.desk_rollup.specs.Plan.{AllFit, CanPrepare, IsRollPlan, nodes_of}
 use Rattle.desk_rollup.specs.Sweep.{AreRolledOf, IsSweep}
-use Rattle.desk_rollup.specs.Values.{DoFit, Kept, OwnValues, RolledValues, no_values, own_with}
+use Rattle.desk_rollup.specs.Values.{DoFit, DoNewFit, Kept, NewRolled, OwnValues, no_new, own_with}
 use Rattle.desk_rollup.proofs.Counts.{distinct_once, few, has_at, same_length, times}
 use Rattle.desk_rollup.proofs.Frame.{affected_inside, inside, stays}
 
@@ -51,16 +51,16 @@ sweep_is g owns kept of_owns placed lists bill can size fit own_nodes own_places
 }
 
 module _ (g : Graph) (owns : List OwnValues) (kept : Kept) (of_owns placed : Placed) (lists : List (List BillLine)) (sweep : IsSweep g owns kept of_owns placed lists)
-    (new : List RolledValues) (size : length new ≡ length placed.nodes) (right : AreRolledOf g owns kept placed.nodes new) where
+    (new : List NewRolled) (size : length new ≡ length placed.nodes) (right : AreRolledOf g owns kept placed.nodes new) where
   -- no new weight is too large
-  pub new_fit : AllFit g (own_with owns kept.owns) → DoFit new
+  pub new_fit : AllFit g (own_with owns kept.owns) → DoNewFit new
   new_fit fit place =
       let P : ℕ → Type 0 = λ w. w < 2 ^ 128 in
       elim (cases_lt place (length new)) [
         | inl below ↦
             let low : place < length placed.nodes = omega (arith, below, size) in
             subst P (sym (right place low).weight) (fit (slice_index placed.nodes place) (inside g owns kept of_owns placed lists sweep (slice_index placed.nodes place) (has_at placed.nodes place low)))
-        | inr past ↦ subst P (sym (ap (λ v. v.weight) (get_or_past new place no_values past))) (omega arith)
+        | inr past ↦ subst P (sym (ap (λ v. v.weight) (get_or_past new place no_new past))) (omega arith)
       ]
 
   -- the plan is one of this bill

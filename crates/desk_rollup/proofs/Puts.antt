@@ -1,14 +1,15 @@
 -- What is written down node by node.
-use Rattle.std.proofs.Common.{◌≡◌, ℕ, zero, suc, ◌+◌, ◌^◌, ◌<◌, ◌≤◌, Bool, true, false, cond, ◌==◌, List, [], ◌∷◌, ◌++◌, length, set, slice_index, slice_index_or, take, Option, Some, None, refl, sym, ap, ◌∙◌, subst, inl, inr, arith, add-one}
+use Rattle.std.proofs.Common.{◌≡◌, ℕ, zero, suc, ◌+◌, ◌^◌, ◌<◌, ◌≤◌, Bool, true, false, cond, ◌==◌, List, [], ◌∷◌, ◌++◌, length, set, slice_index, slice_index_or, take, Option, Some, None, unwrap_or, refl, sym, ap, ◌∙◌, subst, inl, inr, arith, add-one}
 use Rattle.std.specs.Prelude.{position}
 use Rattle.std.specs.List.{position_or_len}
 use Rattle.std.proofs.lemmas.Bool.{both_ways, cases_eq, cases_lt, eq-eqb, eqb-true, le-ltb, lt-ltb, ne_eqb}
 use Rattle.std.proofs.lemmas.Bool.Decides.{nat_tests}
-use Rattle.std.proofs.lemmas.List.{get_or-set_other, get_or-set_same, get_or_append_left, get_or_at, get_or_push, length_push, length-take-le, take_more}
+use Rattle.std.proofs.lemmas.List.{get_or-set_other, get_or-set_same, get_or_append_left, get_or_push, length_push, length-take-le, take_more}
 use Rattle.std.proofs.lemmas.List.Folds.{list_any-append, list_any_none}
 use Rattle.std.proofs.lemmas.List.Quantifiers.{position-Some}
 use Rattle.std.proofs.lemmas.List.Sums.{fails_before_first, sum_by-cons}
 use Rattle.desk_graph.specs.Reaches.{has_node}
+use Rattle.desk_rollup.specs.declared.hop.Hop.{Hop}
 use Rattle.desk_rollup.specs.Numbers.{Rises, hop_numbers}
 use Rattle.desk_rollup.specs.Places.{ArePlaced, IsTold, Placed, place_in, place_told}
 use Rattle.desk_rollup.specs.Plan.{AreDistinct, nodes_of}
@@ -83,47 +84,50 @@ distinct_places (node ∷ nodes) distinct zero (suc j) h low e =
 distinct_places (node ∷ nodes) distinct (suc i) zero h low e = omega arith
 distinct_places (node ∷ nodes) distinct (suc i) (suc j) h low e = distinct_places nodes distinct.1 i j (omega arith) (omega arith) e
 
--- values are put in from the last on
-module _ (nodes : List ℕ) (distinct : AreDistinct nodes) (kept all front : List RolledValues) (values : RolledValues) (tail : List RolledValues) (whole : all ≡ front ++ values ∷ tail) (low : length front < length nodes)
-    (there : slice_index nodes (length front) < length kept) where
+-- values are put in at one of the nodes
+module _ (nodes : List ℕ) (distinct : AreDistinct nodes) (kept : List RolledValues) (spot : ℕ) (values : RolledValues) (low : spot < length nodes) (there : slice_index nodes spot < length kept) where
   abbrev at : ℕ
-  at = slice_index nodes (length front)
+  at = slice_index nodes spot
 
-  these : rolled_at all (length front) ≡ values
-  these = ap (λ l. rolled_at l (length front)) whole ∙ get_or_at front values tail no_values (length front) refl
-
-  pub put_next : ((place : ℕ) → length front + 1 ≤ place → place < length nodes → rolled_at kept (slice_index nodes place) ≡ rolled_at all place) →
-      (place : ℕ) → length front ≤ place → place < length nodes → rolled_at (set kept at values) (slice_index nodes place) ≡ rolled_at all place
-  put_next so place past h =
-      elim (cases_eq place (length front)) [
+  -- where the nodes behind have what is to be theirs, they and this one have it then
+  pub put_next : (meant : ℕ → RolledValues) → meant spot ≡ values → ((place : ℕ) → spot + 1 ≤ place → place < length nodes → rolled_at kept (slice_index nodes place) ≡ meant place) →
+      (place : ℕ) → spot ≤ place → place < length nodes → rolled_at (set kept at values) (slice_index nodes place) ≡ meant place
+  put_next meant is so place past h =
+      elim (cases_eq place spot) [
         | inl same ↦
-            subst (λ p. rolled_at (set kept at values) (slice_index nodes p) ≡ rolled_at all p) (sym same) (get_or-set_same kept at values no_values there ∙ sym these)
+            subst (λ p. rolled_at (set kept at values) (slice_index nodes p) ≡ meant p) (sym same) (get_or-set_same kept at values no_values there ∙ sym is)
         | inr other ↦
-            let later : length front + 1 ≤ place = omega (arith, past, other) in
-            get_or-set_other kept at (slice_index nodes place) values no_values (distinct_places nodes distinct (length front) place (omega arith) h) ∙ so place later h
+            let later : spot + 1 ≤ place = omega (arith, past, other) in
+            get_or-set_other kept at (slice_index nodes place) values no_values (distinct_places nodes distinct spot place (omega arith) h) ∙ so place later h
       ]
+
+  -- the nodes before have what they had
+  pub put_before : (place : ℕ) → place < spot → rolled_at (set kept at values) (slice_index nodes place) ≡ rolled_at kept (slice_index nodes place)
+  put_before place h =
+      get_or-set_other kept at (slice_index nodes place) values no_values (λ e. distinct_places nodes distinct place spot h low (sym e))
 
   pub put_stays : (node : ℕ) → has_node nodes node ≡ false → rolled_at (set kept at values) node ≡ rolled_at kept node
   put_stays node away =
-      get_or-set_other kept at node values no_values (λ e. both_ways (has_node nodes node) away (subst (λ n. has_node nodes n ≡ true) (sym e) (has_at nodes (length front) low)))
+      get_or-set_other kept at node values no_values (λ e. both_ways (has_node nodes node) away (subst (λ n. has_node nodes n ≡ true) (sym e) (has_at nodes spot low)))
 
-  pub put_fit : DoFit kept → DoFit all → DoFit (set kept at values)
-  put_fit fit all_fit node =
-      let P : RolledValues → Type 0 = λ v. v.weight < 2 ^ 128 in
+  -- what holds of the values of each node, and of these, holds of each still
+  put_each : (P : RolledValues → Type 0) → ((node : ℕ) → P (rolled_at kept node)) → P values → (node : ℕ) → P (rolled_at (set kept at values) node)
+  put_each P all this node =
       elim (cases_eq node at) [
-        | inl same ↦
-            subst (λ n. P (rolled_at (set kept at values) n)) (sym same) (subst P (sym (get_or-set_same kept at values no_values there)) (subst P these (all_fit (length front))))
-        | inr other ↦ subst P (sym (get_or-set_other kept at node values no_values other)) (fit node)
+        | inl same ↦ subst (λ n. P (rolled_at (set kept at values) n)) (sym same) (subst P (sym (get_or-set_same kept at values no_values there)) this)
+        | inr other ↦ subst P (sym (get_or-set_other kept at node values no_values other)) (all node)
       ]
 
-  pub put_order : AreHopsInOrder kept → AreHopsInOrder all → AreHopsInOrder (set kept at values)
-  put_order order all_order node =
-      let P : RolledValues → Type 0 = λ v. Rises (hop_numbers v.hops) in
-      elim (cases_eq node at) [
-        | inl same ↦
-            subst (λ n. P (rolled_at (set kept at values) n)) (sym same) (subst P (sym (get_or-set_same kept at values no_values there)) (subst P these (all_order (length front))))
-        | inr other ↦ subst P (sym (get_or-set_other kept at node values no_values other)) (order node)
-      ]
+  pub put_fit : DoFit kept → values.weight < 2 ^ 128 → DoFit (set kept at values)
+  put_fit fit light = put_each (λ v. v.weight < 2 ^ 128) fit light
+
+  pub put_order : AreHopsInOrder kept → Rises (hop_numbers values.hops) → AreHopsInOrder (set kept at values)
+  put_order order rises = put_each (λ v. Rises (hop_numbers v.hops)) order rises
+
+-- hops stand in order where those that are kept and the new ones do
+pub or_in_order : (new : Option (List Hop)) (kept : List Hop) → Rises (hop_numbers kept) → Rises (hop_numbers (unwrap_or new [])) → Rises (hop_numbers (unwrap_or new kept))
+or_in_order None kept order new_order = order
+or_in_order (Some hops) kept order new_order = new_order
 
 -- where the values of a node are put in, its hops are exchanged for theirs
 pub put_hops : (kept : List RolledValues) (node : ℕ) (values : RolledValues) → node < length kept →

@@ -14,6 +14,15 @@ use Rattle.desk_rollup.specs.Values.{OwnValues, RolledValues, amount_of, carried
 use Rattle.desk_rollup.proofs.Lists.{amount_none, any_same, each_as, each_line, find_same, has_found, is_found, none_any, some_map, sum_none, sum_same}
 use Rattle.desk_rollup.proofs.Ranked.{gathered_has, goes_up, rolled-step}
 
+-- hops go by the own values and by the hops of the children alone
+pub same_hops : (a b : ℕ → RolledValues) (own : OwnValues) (of_node : List BillLine) → AllByRecursion (λ line. (a line.node).hops ≡ (b line.node).hops) of_node →
+    (mark : ℕ) → step_hop a own of_node mark ≡ step_hop b own of_node mark
+same_hops a b own of_node each mark =
+    ap (λ o. cond (has (mark_numbers own.marks) mark) (Some None) (option_map (λ line. Some line.node) o))
+    (find_same (λ line. has (hop_numbers (a line.node).hops) mark) (λ line. has (hop_numbers (b line.node).hops) mark) of_node
+    (each_as (λ line. (a line.node).hops ≡ (b line.node).hops) (λ line. has (hop_numbers (a line.node).hops) mark ≡ has (hop_numbers (b line.node).hops) mark)
+    (λ line e. ap (λ h. has (hop_numbers h) mark) e) of_node each))
+
 module _ (lines : List (List BillLine)) (rank : ℕ → ℕ) (ranked : Falls lines rank) (own : ℕ → OwnValues) where
   abbrev own_marks : ℕ → List ℕ
   own_marks node = mark_numbers (own node).marks
@@ -89,7 +98,7 @@ module _ (lines : List (List BillLine)) (rank : ℕ → ℕ) (ranked : Falls lin
         (λ line is. ap (λ v. line.count * v) is.weight) of_node each_right))
         ∙ sym (rolled-step lines rank ranked (λ n. (own n).weight) node)
 
-    hop_by : (mark : ℕ) → step_hop below (own node) of_node mark ≡ hop lines own node mark
+    pub hop_by : (mark : ℕ) → step_hop below (own node) of_node mark ≡ hop lines own node mark
     hop_by mark =
         ap (λ o. cond (has (own_marks node) mark) (Some None) (option_map (λ line. Some line.node) o))
         (find_same (λ line. has (hop_numbers (below line.node).hops) mark) (λ line. has (marks lines own line.node) mark) of_node

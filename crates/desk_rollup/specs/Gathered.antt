@@ -1,12 +1,13 @@
 -- The lists of a node, gathered from its own entries and from those of its children.
-use Rattle.std.specs.Prelude.{◌≡◌, ℕ, ◌+◌, ◌*◌, ◌-◌, ◌^◌, List, [], ◌∷◌, Some, None, fold, map, min}
+use Rattle.std.specs.Prelude.{◌≡◌, ◌⊎◌, ℕ, Bool, false, Option, ◌+◌, ◌*◌, ◌-◌, ◌^◌, List, [], ◌∷◌, Some, None, fold, map, min, unwrap_or}
+use Rattle.std.specs.List.{AllByRecursion}
 use Rattle.desk_graph.specs.declared.line.BillLine.{BillLine}
 use Rattle.desk_rollup.specs.declared.mark.Mark.{Mark}
 use Rattle.desk_rollup.specs.declared.hop.Hop.{Hop}
 use Rattle.desk_rollup.specs.declared.load.Load.{Load}
 use Rattle.desk_rollup.specs.Merge.{merged}
 use Rattle.desk_rollup.specs.Numbers.{mark_number}
-use Rattle.desk_rollup.specs.Values.{RolledValues}
+use Rattle.desk_rollup.specs.Values.{RolledValues, rolled_at}
 
 -- the list with each of the entries
 abbrev pub with_each : {X : Type 0} → (X → ℕ) → (X → X → X) → List X → List X → List X
@@ -45,3 +46,13 @@ all_loads below loads of_node =
 -- where no child of the lines has a hop or a load, a node without any of its own has none
 abbrev pub HaveNone : (ℕ → RolledValues) → List BillLine → Type 0
 HaveNone below of_node = (all_hops below [] of_node ≡ []) × (all_loads below [] of_node ≡ [])
+
+-- what the children of the lines have of hops is what is kept of them
+abbrev pub KeepHops : (ℕ → RolledValues) → List RolledValues → List BillLine → Type 0
+KeepHops below kept of_node = AllByRecursion (λ line. (below line.node).hops ≡ (rolled_at kept line.node).hops) of_node
+
+-- with these new hops a node has those that it comes to; or there are none, it isn't given own values, and its children keep their hops
+abbrev pub AreNewHops : (ℕ → RolledValues) → List RolledValues → List Mark → List BillLine → ℕ → Bool → Option (List Hop) → Type 0
+AreNewHops below kept marks of_node node is_given hops =
+    (unwrap_or hops (rolled_at kept node).hops ≡ all_hops below marks of_node)
+    ⊎ ((hops ≡ None) × (is_given ≡ false) × KeepHops below kept of_node)

@@ -7,14 +7,14 @@ use Rattle.desk_rollup.specs.declared.fault.RollFault.{RollFault}
 use Rattle.desk_rollup.specs.declared.fault.RollFault.TheVariants.{WeightTooLarge, MarksFull, OutOfMemory}
 use Rattle.desk_rollup.specs.Rolled.{IsRolled, amount, mark_count, weight}
 use Rattle.desk_rollup.specs.Step.{IsStep}
-use Rattle.desk_rollup.specs.Values.{Kept, OwnValues, RolledValues, own_at, own_with, rolled_at}
+use Rattle.desk_rollup.specs.Values.{Kept, NewRolled, OwnValues, filled_at, new_at, own_at, own_with, rolled_at}
 
 -- what is to be put in: new own values of nodes, and the values of the nodes that they replace, of so many nodes in all
 pub record Planned : Type 0 where
   pub count : ℕ
   pub owns : List OwnValues
   pub nodes : List ℕ
-  pub rolled : List RolledValues
+  pub rolled : List NewRolled
 
 -- the nodes of these own values
 abbrev pub nodes_of : List OwnValues → List ℕ
@@ -70,7 +70,7 @@ pub record IsRollPlan (g : Graph) (owns : List OwnValues) (kept : Kept) (plan : 
   pub kept_nodes : length kept.rolled ≤ plan.count
   pub sizes : length plan.rolled ≡ length plan.nodes
   pub replaced : (place : ℕ) → place < length plan.nodes →
-      IsRolled g.lines (own_with owns kept.owns) (slice_index plan.nodes place) (rolled_at plan.rolled place)
+      IsRolled g.lines (own_with owns kept.owns) (slice_index plan.nodes place) (filled_at kept.rolled plan.nodes plan.rolled place)
   pub stays : (node : ℕ) → node < length g.labels → has_node plan.nodes node ≡ false →
       IsRolled g.lines (own_with owns kept.owns) node (rolled_at kept.rolled node)
 
@@ -80,8 +80,8 @@ pub record AreRolledUp (g : Graph) (kept : Kept) : Type 0 where
   pub rolled_size : length kept.rolled ≡ length g.labels
   pub rolled : (node : ℕ) → node < length g.labels → IsRolled g.lines (own_at kept.owns) node (rolled_at kept.rolled node)
 
--- the values are those that the plan has of the node, or there are none
-abbrev pub IsPlannedOf : Planned → ℕ → Option RolledValues → Type 0
+-- the weight is the one that the plan has of the node, or there is none
+abbrev pub IsPlannedOf : Planned → ℕ → Option ℕ → Type 0
 IsPlannedOf plan node None = has_node plan.nodes node ≡ false
-IsPlannedOf plan node (Some values) =
-    (place : ℕ) × (place < length plan.nodes) × (slice_index plan.nodes place ≡ node) × (values ≡ rolled_at plan.rolled place)
+IsPlannedOf plan node (Some weight) =
+    (place : ℕ) × (place < length plan.nodes) × (slice_index plan.nodes place ≡ node) × (weight ≡ (new_at plan.rolled place).weight)

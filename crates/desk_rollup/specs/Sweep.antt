@@ -8,7 +8,7 @@ use Rattle.desk_graph.specs.Reaches.{AreAffected, AreChildrenFirst}
 use Rattle.desk_rollup.specs.Places.{ArePlaced, Placed}
 use Rattle.desk_rollup.specs.Plan.{AllFit, CanPrepare, IsFirstTooLarge, nodes_of}
 use Rattle.desk_rollup.specs.Rolled.{IsRolled}
-use Rattle.desk_rollup.specs.Values.{DoFit, Kept, OwnValues, RolledValues, own_with, rolled_at}
+use Rattle.desk_rollup.specs.Values.{DoFit, Kept, NewRolled, OwnValues, filled_at, own_with}
 
 -- the new own values go with the bill and with what is kept, the places are those of their nodes and of the affected nodes, children
 -- first, the lines are those of the affected nodes, and no weight that is kept is 2^128 or more
@@ -24,10 +24,10 @@ pub record IsSweep (g : Graph) (owns : List OwnValues) (kept : Kept) (of_owns pl
   pub children_first : AreChildrenFirst g.lines placed.nodes
   pub lines_are : lists ≡ map (lines_of g.lines) placed.nodes
 
--- the values are those of the nodes
-abbrev pub AreRolledOf : Graph → List OwnValues → Kept → List ℕ → List RolledValues → Type 0
-AreRolledOf g owns kept nodes rolled =
-    (place : ℕ) → place < length nodes → IsRolled g.lines (own_with owns kept.owns) (slice_index nodes place) (rolled_at rolled place)
+-- with the new values the nodes have those that are right
+abbrev pub AreRolledOf : Graph → List OwnValues → Kept → List ℕ → List NewRolled → Type 0
+AreRolledOf g owns kept nodes new =
+    (place : ℕ) → place < length nodes → IsRolled g.lines (own_with owns kept.owns) (slice_index nodes place) (filled_at kept.rolled nodes new place)
 
 -- the node is the first that is too large, or there is none
 abbrev pub IsTooLargeOr : Graph → (ℕ → OwnValues) → Option ℕ → Type 0

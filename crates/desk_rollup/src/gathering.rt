@@ -72,6 +72,13 @@ impl<E: Entry> Gathering<E> {
         Ok(())
     }
 
+    /// The entries, as they stand here.
+    pub fn as_slice(&self) -> &[E]
+        ensures { result.now ≡ self.now }
+    {
+        self.held.as_slice()
+    }
+
     /// The entries, in a list that takes no more room than they do.
     pub fn copied(&self, alloc: Global) -> Result<Vec<E>, OutOfMemory>
         ensures { IfOk result (λ entries. entries.items ≡ self.now) }

@@ -1,9 +1,9 @@
-ghost use Rattle.std.specs.Prelude.{Some};
+ghost use Rattle.std.specs.Prelude.{◌≡◌, true, Some};
 ghost use Rattle.desk_rollup.specs.Numbers.{mark_number};
 
 use crate::entry::Entry;
 use crate::mark::Mark;
-use crate::rolled::Rolled;
+use crate::values::Found;
 use desk_graph::{BillLine, NodeId};
 
 /// A mark of a node, and where the way to it goes on. It takes 16 bytes.
@@ -39,7 +39,31 @@ impl Entry for Hop {
         }
     }
 
-    fn listed(rolled: &Rolled) -> &[Hop] {
-        rolled.hops.as_slice()
+    fn listed<'v>(found: &Found<'v>) -> &'v [Hop] {
+        found.hops
     }
+}
+
+impl Hop {
+    /// Whether this is the same hop.
+    pub(crate) fn is(self, other: Hop) -> bool
+        ensures { result ≡ true → self ≡ other }
+    {
+        self.mark.node == other.mark.node
+            && self.mark.what == other.mark.what
+            && is_same_way(self.next, other.next)
+    }
+}
+
+/// Whether the way goes on in the same direction.
+fn is_same_way(first: Option<NodeId>, second: Option<NodeId>) -> bool
+    ensures { result ≡ true → first ≡ second }
+{
+    let Some(node) = first else {
+        return second.is_none();
+    };
+    let Some(other) = second else {
+        return false;
+    };
+    node == other
 }

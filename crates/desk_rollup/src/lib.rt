@@ -10,6 +10,7 @@ mod laws;
 mod load;
 mod mark;
 mod merge;
+mod new_values;
 mod own;
 mod places;
 mod plan;

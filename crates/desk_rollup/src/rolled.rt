@@ -1,8 +1,10 @@
-ghost use Rattle.std.specs.Prelude.{◌≡◌, true, [], length, IfOk};
-ghost use Rattle.desk_rollup.specs.Values.{no_values};
+ghost use Rattle.std.specs.Prelude.{◌≡◌, ◌+◌, ℕ, [], length, IfOk, IfSome};
+ghost use Rattle.desk_rollup.specs.Values.{filled, no_values};
 
 use crate::hop::Hop;
 use crate::load::Load;
+use crate::new_values::NewValues;
+use crate::values::Found;
 use desk_graph::OutOfMemory;
 use std::alloc::Global;
 use std::marker::Model;
@@ -35,34 +37,44 @@ impl Rolled {
     pub(crate) fn none(alloc: Global) -> Rolled
         ensures { result ≡ no_values }
     {
-        Rolled::of_weight(alloc, 0)
-    }
-
-    /// A node that weighs so much, and has no mark and no load. It takes no memory.
-    pub(crate) fn of_weight(alloc: Global, weight: u128) -> Rolled
-        ensures { result ≡ record { weight = weight; hops = []; loads = [] } }
-    {
         Rolled {
-            weight,
+            weight: 0,
             hops: Vec::new(alloc),
             loads: Vec::new(alloc),
         }
     }
 
-    /// Whether the node has no mark and no load.
-    pub(crate) fn has_none(&self) -> bool
-        ensures hops { result ≡ true → self.now.hops ≡ [] }
-        ensures loads { result ≡ true → self.now.loads ≡ [] }
+    /// The values, as they stand here.
+    pub(crate) fn found(&self) -> Found
+        ensures { result ≡ self.now }
     {
-        self.hops.is_empty() && self.loads.is_empty()
+        Found {
+            weight: self.weight,
+            hops: self.hops.as_slice(),
+            loads: self.loads.as_slice(),
+        }
     }
 
-    /// How many hops the node has.
-    pub(crate) fn hop_count(&self) -> usize
-        ensures { result ≡ length self.now.hops }
+    /// Puts new values in, and gives how many hops all nodes have then, if it is told how many they have now.
+    pub(crate) fn put(&mut self, new: NewValues, hops: Option<usize>) -> Option<usize>
+        ensures values { self.new ≡ filled self.old new }
+        ensures hops { (rest : ℕ) → IfSome hops (λ sum. sum ≡ rest + length self.old.hops) → IfSome result (λ sum. sum ≡ rest + length self.new.hops) }
     {
-        self.hops.len()
+        let NewValues {
+            weight,
+            hops: new_hops,
+            loads,
+        } = new;
+        self.weight = weight;
+        self.loads = loads;
+        let Some(new_hops) = new_hops else {
+            return hops;
+        };
+        let sum = exchanged(hops, self.hops.len(), new_hops.len());
+        self.hops = new_hops;
+        sum
     }
+
     /// The same values once more.
     pub(crate) fn copied(&self, alloc: Global) -> Result<Rolled, OutOfMemory>
         ensures { IfOk result (λ rolled. rolled ≡ self.now) }
@@ -73,4 +85,11 @@ impl Rolled {
             loads: Vec::from_slice(alloc, self.loads.as_slice())?,
         })
     }
+}
+
+/// The sum once one of its parts is exchanged for another, if that can be told.
+fn exchanged(sum: Option<usize>, old: usize, new: usize) -> Option<usize>
+    ensures { (rest : ℕ) → IfSome sum (λ sum. sum ≡ rest + old) → IfSome result (λ sum. sum ≡ rest + new) }
+{
+    sum?.checked_sub(old)?.checked_add(new)
 }

@@ -1,6 +1,6 @@
-ghost use Rattle.std.specs.Prelude.{◌≡◌, ◌<◌, ◌^◌, ℕ, true, Some, map, option_map, IfOk, IfSome, OnOk};
+ghost use Rattle.std.specs.Prelude.{◌≡◌, ◌<◌, ◌^◌, ℕ, true, [], Some, map, option_map, unwrap_or, IfOk, IfSome, OnOk};
 ghost use Rattle.desk_graph.specs.Graph.{has_line};
-ghost use Rattle.desk_rollup.specs.Gathered.{HaveNone, all_hops, all_loads, own_hop, with_each, with_lines};
+ghost use Rattle.desk_rollup.specs.Gathered.{AreNewHops, HaveNone, KeepHops, all_loads, own_hop, with_each, with_lines};
 ghost use Rattle.desk_rollup.specs.Places.{IsKnown, known, place_at};
 ghost use Rattle.desk_rollup.specs.Weights.{weighed};
 
@@ -9,11 +9,11 @@ use crate::gathering::Gathering;
 use crate::hop::Hop;
 use crate::load::Load;
 use crate::mark::Mark;
+use crate::new_values::{NewValues, new_hops};
 use crate::own::Own;
-use crate::rolled::Rolled;
 use crate::values::Values;
 use crate::weights::with_more;
-use desk_graph::{BillLine, OutOfMemory};
+use desk_graph::{BillLine, NodeId, OutOfMemory};
 use std::alloc::Global;
 
 /// What makes the values of one node after another. It keeps the room in which it gathers them.
@@ -32,36 +32,59 @@ impl Roller {
         }
     }
 
-    /// The values of a node, by its own and by those of its children, unless it weighs 2^128 or more. Where neither it nor a child has a
-    /// mark or a load, nothing is gathered: that is so in most of a bill of which only the weights are asked for.
+    /// The new values of a node, by its own, new ones or those that are kept, and by those of its children, unless it weighs 2^128 or
+    /// more. Where it isn't given own values and its children keep their hops, it keeps its hops, and only loads are gathered. Where
+    /// neither it nor a child has a mark or a load, nothing is gathered: that is so in most of a bill of which only the weights are
+    /// asked for.
     pub fn roll(
         &mut self,
         alloc: Global,
+        node: NodeId,
         own: &Own,
+        is_given: bool,
         lines: &[BillLine],
         values: &Values,
-    ) -> Result<Option<Rolled>, OutOfMemory>
+    ) -> Result<Option<NewValues>, OutOfMemory>
         requires { (child : ℕ) → has_line lines.now child ≡ true → IsKnown (place_at values.now.places.now child) values.now.kept.now values.now.new.now child }
-        ensures values { IfOk result (λ rolled. let below = λ (child : ℕ). known (place_at values.now.places.now child) values.now.kept.now values.now.new.now child in
-            rolled ≡ option_map (λ weight. record { weight = weight; hops = all_hops below own.now.marks lines.now; loads = all_loads below own.now.loads lines.now })
-            (weighed (λ child. Some (below child).weight) own.now.weight lines.now)) }
+        ensures weight { IfOk result (λ found. option_map (λ new. new.weight) found
+            ≡ weighed (λ child. Some (known (place_at values.now.places.now child) values.now.kept.now values.now.new.now child).weight) own.now.weight lines.now) }
+        ensures hops { IfOk result (λ found. IfSome found (λ new.
+            AreNewHops (λ child. known (place_at values.now.places.now child) values.now.kept.now values.now.new.now child) values.now.kept.now own.now.marks lines.now node is_given new.hops)) }
+        ensures loads { IfOk result (λ found. IfSome found (λ new. new.loads
+            ≡ all_loads (λ child. known (place_at values.now.places.now child) values.now.kept.now values.now.new.now child) own.now.loads lines.now)) }
         ensures own { own.now.weight < 2 ^ 128 }
     {
         let Some(sum) = sum_up(own.weight, lines, values) else {
             return Ok(None);
         };
         let weight = sum.weight;
+        let kept = values.kept_hops(node);
         if sum.has_none && own.marks.is_empty() && own.loads.is_empty() {
-            return Ok(Some(Rolled::of_weight(alloc, weight)));
+            let hops = new_hops(alloc, &[], kept)?;
+            let loads = Vec::new(alloc);
+            return Ok(Some(NewValues {
+                weight,
+                hops,
+                loads,
+            }));
+        }
+        self.loads.clear();
+        add_each(own.loads.as_slice(), &mut self.loads)?;
+        if sum.keeps_hops && !is_given {
+            add_lines(lines, values, &mut self.loads)?;
+            let loads = self.loads.copied(alloc)?;
+            return Ok(Some(NewValues {
+                weight,
+                hops: None,
+                loads,
+            }));
         }
         self.hops.clear();
         add_marks(own.marks.as_slice(), &mut self.hops)?;
-        self.loads.clear();
-        add_each(own.loads.as_slice(), &mut self.loads)?;
-        add_lines(lines, values, &mut self.hops, &mut self.loads)?;
-        let hops = self.hops.copied(alloc)?;
+        add_both(lines, values, &mut self.hops, &mut self.loads)?;
+        let hops = new_hops(alloc, self.hops.as_slice(), kept)?;
         let loads = self.loads.copied(alloc)?;
-        Ok(Some(Rolled {
+        Ok(Some(NewValues {
             weight,
             hops,
             loads,
@@ -76,25 +99,35 @@ struct Sum {
     weight: u128,
     /// Whether no child has a mark or a load.
     has_none: bool,
+    /// Whether each child has the hops that are kept of it.
+    keeps_hops: bool,
 }
 
-/// What the lines of a node come to, unless it weighs 2^128 or more. Each child is looked up once for both.
+/// What the lines of a node come to, unless it weighs 2^128 or more.
 fn sum_up(own: u128, lines: &[BillLine], values: &Values) -> Option<Sum>
     requires { (child : ℕ) → has_line lines.now child ≡ true → IsKnown (place_at values.now.places.now child) values.now.kept.now values.now.new.now child }
     ensures weight { option_map (λ sum. sum.weight) result
         ≡ weighed (λ child. Some (known (place_at values.now.places.now child) values.now.kept.now values.now.new.now child).weight) own lines.now }
     ensures none { IfSome result (λ sum. sum.has_none ≡ true →
         HaveNone (λ child. known (place_at values.now.places.now child) values.now.kept.now values.now.new.now child) lines.now) }
+    ensures keeps { IfSome result (λ sum. sum.keeps_hops ≡ true →
+        KeepHops (λ child. known (place_at values.now.places.now child) values.now.kept.now values.now.new.now child) values.now.kept.now lines.now) }
     ensures own { own < 2 ^ 128 }
 {
     let mut weight = own;
     let mut has_none = true;
+    let mut keeps_hops = true;
     for line in lines {
         let child = values.of(line.node);
         weight = with_more(weight, line.count, child.weight)?;
         has_none = has_none && child.has_none();
+        keeps_hops = keeps_hops && values.keeps_hops(line.node);
     }
-    Some(Sum { weight, has_none })
+    Some(Sum {
+        weight,
+        has_none,
+        keeps_hops,
+    })
 }
 
 /// Adds own marks.
@@ -120,8 +153,25 @@ fn add_each<E: Entry>(entries: &[E], into: &mut Gathering<E>) -> Result<(), OutO
     Ok(())
 }
 
-/// Adds what the children of the lines have. Each child is looked up once for both.
-fn add_lines<E: Entry, F: Entry>(
+/// Adds what the children of the lines have.
+fn add_lines<E: Entry>(
+    lines: &[BillLine],
+    values: &Values,
+    into: &mut Gathering<E>,
+) -> Result<(), OutOfMemory>
+    requires { (child : ℕ) → has_line lines.now child ≡ true → IsKnown (place_at values.now.places.now child) values.now.kept.now values.now.new.now child }
+    ensures { OnOk result (into.new ≡ with_lines E.number E.joined E.lifted E.listed
+        (λ child. known (place_at values.now.places.now child) values.now.kept.now values.now.new.now child) lines.now into.old) }
+{
+    for line in lines {
+        let child = values.of(line.node);
+        into.add_lifted(*line, E::listed(&child))?;
+    }
+    Ok(())
+}
+
+/// Adds what the children of the lines have to both. Each child is looked up once.
+fn add_both<E: Entry, F: Entry>(
     lines: &[BillLine],
     values: &Values,
     first: &mut Gathering<E>,
@@ -135,8 +185,8 @@ fn add_lines<E: Entry, F: Entry>(
 {
     for line in lines {
         let child = values.of(line.node);
-        first.add_lifted(*line, E::listed(child))?;
-        second.add_lifted(*line, F::listed(child))?;
+        first.add_lifted(*line, E::listed(&child))?;
+        second.add_lifted(*line, F::listed(&child))?;
     }
     Ok(())
 }

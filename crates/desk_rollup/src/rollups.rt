@@ -4,11 +4,12 @@ ghost use Rattle.desk_graph.specs.Reaches.{AreAffected, has_node};
 ghost use Rattle.desk_rollup.specs.Chain.{chain, next_to};
 ghost use Rattle.desk_rollup.specs.Numbers.{Rises, hop_numbers, mark_number};
 ghost use Rattle.desk_rollup.specs.Plan.{AreDistinct, AreRolledUp, CanPrepare, IsAccepted, IsRefused, IsRollPlan, nodes_of};
-ghost use Rattle.desk_rollup.specs.Values.{AreHopsInOrder, DoFit, OwnValues, hop_of, hop_total, own_at, own_with, rolled_at};
+ghost use Rattle.desk_rollup.specs.Values.{AreHopsInOrder, AreNewInOrder, DoFit, DoNewFit, OwnValues, filled_at, hop_of, hop_total, own_at, own_with, rolled_at};
 
 use crate::fault::RollFault;
 use crate::hop::Hop;
 use crate::mark::Mark;
+use crate::new_values::NewValues;
 use crate::own::Own;
 use crate::places::Places;
 use crate::plan::RollPlan;
@@ -320,7 +321,7 @@ fn put_owns(kept: &mut [Own], new: Vec<Own>)
 fn put_rolled(
     kept: &mut [Rolled],
     nodes: &[NodeId],
-    mut new: Vec<Rolled>,
+    mut new: Vec<NewValues>,
     mut hops: Option<usize>,
 ) -> Option<usize>
     requires distinct { AreDistinct nodes.now }
@@ -329,22 +330,14 @@ fn put_rolled(
     requires hops { IfSome hops (λ hops. hops ≡ hop_total kept.old) }
     ensures size { length kept.new ≡ length kept.old }
     ensures stays { (node : ℕ) → has_node nodes.now node ≡ false → rolled_at kept.new node ≡ rolled_at kept.old node }
-    ensures put { (place : ℕ) → place < length nodes.now → rolled_at kept.new (slice_index nodes.now place) ≡ rolled_at new.items place }
-    ensures fit { DoFit kept.old → DoFit new.items → DoFit kept.new }
-    ensures order { AreHopsInOrder kept.old → AreHopsInOrder new.items → AreHopsInOrder kept.new }
+    ensures put { (place : ℕ) → place < length nodes.now → rolled_at kept.new (slice_index nodes.now place) ≡ filled_at kept.old nodes.now new.items place }
+    ensures fit { DoFit kept.old → DoNewFit new.items → DoFit kept.new }
+    ensures order { AreHopsInOrder kept.old → AreNewInOrder new.items → AreHopsInOrder kept.new }
     ensures hops { IfSome result (λ hops. hops ≡ hop_total kept.new) }
 {
     while let Some(values) = new.pop() {
         let node = nodes[new.len()] as usize;
-        hops = exchanged(hops, kept[node].hop_count(), values.hop_count());
-        kept[node] = values;
+        hops = kept[node].put(values, hops);
     }
     hops
-}
-
-/// The sum once one of its parts is exchanged for another, if that can be told.
-fn exchanged(sum: Option<usize>, old: usize, new: usize) -> Option<usize>
-    ensures { (rest : ℕ) → IfSome sum (λ sum. sum ≡ rest + old) → IfSome result (λ sum. sum ≡ rest + new) }
-{
-    sum?.checked_sub(old)?.checked_add(new)
 }

@@ -1,5 +1,5 @@
 -- What is too large with one child more is too large with all.
-use Rattle.std.proofs.Common.{◌≡◌, ◌∙◌, ℕ, ◌+◌, ◌*◌, ap, sym, None, Option, Some, option_map, slice_index_or}
+use Rattle.std.proofs.Common.{◌≡◌, ◌∙◌, ℕ, ◌+◌, ◌*◌, ap, sym, None, Some, option_map, slice_index_or}
 use Rattle.desk_graph.specs.declared.line.BillLine.{BillLine}
 use Rattle.desk_rollup.specs.Places.{known, place_at}
 use Rattle.desk_rollup.specs.Values.{RolledValues}

@@ -1,32 +1,38 @@
--- Where neither a node nor a child of it has a mark or a load, none is gathered.
-use Rattle.std.proofs.Common.{◌≡◌, ◌∙◌, ℕ, List, [], ap, sym, Option, Some, option_map}
+-- Where hops are gathered, or there are none to gather, those that are new or kept are all.
+use Rattle.std.proofs.Common.{◌≡◌, ◌∙◌, ℕ, List, [], ap, inl, map, Some, sym, unwrap_or, option_map, Vec, Global}
 use Rattle.std.proofs.lemmas.Bool.{eqb-true}
 use Rattle.std.proofs.lemmas.List.{nil_from_length}
 use Rattle.desk_rollup.specs.declared.hop.Hop.{Hop}
-use Rattle.desk_rollup.specs.declared.load.Load.{Load}
 use Rattle.desk_rollup.specs.declared.mark.Mark.{Mark}
-use Rattle.desk_rollup.specs.Gathered.{all_hops, all_loads}
+use Rattle.desk_rollup.specs.Gathered.{all_hops, own_hop, with_each, with_lines}
+use Rattle.desk_rollup.specs.Numbers.{mark_number}
 use Rattle.desk_rollup.specs.Places.{known, place_at}
-use Rattle.desk_rollup.specs.Values.{OwnValues, RolledValues}
-use Rattle.desk_rollup.specs.Weights.{weighed}
+use Rattle.desk_rollup.specs.Values.{RolledValues}
 use Rattle.desk_rollup.proofs.roller.Roller.roll.Goals as goal
 
-pub returns-then-is_empty-2-clause-values : goal.returns-then-is_empty-2-clause-values
-returns-then-is_empty-2-clause-values c =
+pub returns-then-is_empty-2-clause-hops : goal.returns-then-is_empty-2-clause-hops
+returns-then-is_empty-2-clause-hops c =
+    let below : ℕ → RolledValues = λ child. known (place_at c.args.values.now.places.now child) c.args.values.now.kept.now c.args.values.now.new.now child in
+    let own = c.own.inside in
+    let no_marks : own.marks.items ≡ [] = nil_from_length own.marks.items (sym own.marks.ok.0 ∙ eqb-true own.marks.len 0 (sym c.if-is_empty.ensures)) in
+    inl
+    (ap (unwrap_or (option_map (λ (hops : Vec Hop Global). hops.items) c.in_ok-hops.hops)) (sym c.kept_hops-kept.ensures)
+    ∙ c.in_ok-hops.ensures
+    ∙ sym (c.in-Some.ensures.none c.if-sum.true).0
+    ∙ ap (λ marks. all_hops below marks c.args.lines.now) (sym no_marks ∙ ap (λ o. o.marks) c.own.view_is))
+
+pub returns-clause-hops : goal.returns-clause-hops
+returns-clause-hops c =
     let below : ℕ → RolledValues = λ child. known (place_at c.args.values.now.places.now child) c.args.values.now.kept.now c.args.values.now.new.now child in
     let lines = c.args.lines.now in
-    let own = c.own.inside in
-    let weight = c.in-Some.sum.weight in
-    let none = c.in-Some.ensures.none c.if-sum.true in
-    let no_marks : own.marks.items ≡ [] = nil_from_length own.marks.items (sym own.marks.ok.0 ∙ eqb-true own.marks.len 0 (sym c.if-is_empty.ensures)) in
-    let no_loads : own.loads.items ≡ [] = nil_from_length own.loads.items (sym own.loads.ok.0 ∙ eqb-true own.loads.len 0 (sym c.if-is_empty-2.ensures)) in
-    let values : List Mark → List Load → ℕ → RolledValues = λ marks loads w. record { weight = w; hops = all_hops below marks lines; loads = all_loads below loads lines } in
-    let found : OwnValues → Option RolledValues = λ o. option_map (values o.marks o.loads) (weighed (λ child. Some (below child).weight) o.weight lines) in
-    let without : List Hop → List Load → RolledValues = λ hops loads. record { weight = weight; hops = hops; loads = loads } in
-    let is : c.of_weight.result ≡ values own.marks.items own.loads.items weight =
-    c.of_weight.ensures
-    ∙ ap (λ h. without h []) (sym none.0)
-    ∙ ap (without (all_hops below [] lines)) (sym none.1)
-    ∙ ap (λ m. values m [] weight) (sym no_marks)
-    ∙ ap (λ l. values own.marks.items l weight) (sym no_loads) in
-    ap (λ (v : RolledValues). Some v) is ∙ ap (option_map (values own.marks.items own.loads.items)) c.in-Some.ensures.weight ∙ ap found c.own.view_is
+    let of_lines : List Hop → List Hop = λ held.
+    with_lines (λ hop. mark_number hop.mark) (λ held more. held) (λ line hop. record { mark = hop.mark; next = Some line.node }) (λ values. values.hops) below lines held in
+    let of_own : List Mark → List Hop → List Hop = λ marks held. with_each (λ hop. mark_number hop.mark) (λ held more. held) (map own_hop marks) held in
+    inl
+    (ap (unwrap_or (option_map (λ (hops : Vec Hop Global). hops.items) c.in_ok-hops-2.hops)) (sym c.kept_hops-kept.ensures)
+    ∙ c.in_ok-hops-2.ensures
+    ∙ c.as_slice-3.ensures
+    ∙ c.in_ok-add_both.ensures.first
+    ∙ ap of_lines c.in_ok-add_marks.ensures
+    ∙ ap (λ held. of_lines (of_own c.as_slice-2.result.now held)) c.clear-2.ensures
+    ∙ ap (λ marks. all_hops below marks lines) (c.as_slice-2.ensures.value ∙ ap (λ o. o.marks) c.own.view_is))

@@ -1,14 +1,18 @@
 -- Each node has the values that it comes to, until a weight is too large.
-use Rattle.std.proofs.Common.{◌≡◌, ℕ, ◌<◌, ◌^◌, ◌+◌, ◌==◌, ◌++◌, cond, [], ◌∷◌, List, true, length, slice_index, slice_index_or, Option, None, Some, option_map, sym, ap, ◌∙◌, subst, refl, inl, inr, arith}
+use Rattle.std.proofs.Common.{◌≡◌, ℕ, ◌<◌, ◌^◌, ◌+◌, ◌==◌, ◌++◌, cond, [], ◌∷◌, List, true, false, length, slice_index, slice_index_or, Option, None, Some, IfSome, option_map, unwrap_or, sym, ap, ◌∙◌, subst, refl, inl, inr, arith}
 use Rattle.std.proofs.lemmas.Bool.{cases_lt}
 use Rattle.std.proofs.lemmas.List.{length_push, get_or_append_left, get_or_push}
 use Rattle.desk_graph.specs.declared.line.BillLine.{BillLine}
-use Rattle.desk_graph.specs.Graph.{has_line}
+use Rattle.desk_graph.specs.Graph.{has_line, lines_of}
+use Rattle.desk_graph.specs.Reaches.{has_node}
+use Rattle.desk_rollup.specs.declared.hop.Hop.{Hop}
+use Rattle.desk_rollup.specs.declared.load.Load.{Load}
 use Rattle.desk_rollup.specs.declared.rolled.Rolled.{Rolled}
-use Rattle.desk_rollup.specs.Gathered.{all_hops, all_loads}
+use Rattle.desk_rollup.specs.Gathered.{AreNewHops, all_loads}
 use Rattle.desk_rollup.specs.Places.{IsKnown, known, place_at}
+use Rattle.desk_rollup.specs.Plan.{nodes_of}
 use Rattle.desk_rollup.specs.Rolled.{IsRolled, weight}
-use Rattle.desk_rollup.specs.Values.{OwnValues, RolledValues, no_values, own_with, rolled_at}
+use Rattle.desk_rollup.specs.Values.{NewRolled, OwnValues, filled, filled_at, new_at, no_new, own_with, rolled_at}
 use Rattle.desk_rollup.specs.Weights.{weighed}
 use Rattle.desk_rollup.proofs.Counts.{has_at}
 use Rattle.desk_rollup.proofs.Frame.{found_none, found_values, inside, knows, list_at}
@@ -16,8 +20,8 @@ use Rattle.desk_rollup.proofs.Heavy.{first_of_all}
 use Rattle.desk_rollup.proofs.MarkCount.{more_marks, some_marks}
 use Rattle.desk_rollup.proofs.sweep.Sweep.rolled.Goals as goal
 
-pub own-requires-clause-there : goal.own-requires-clause-there
-own-requires-clause-there g c =
+pub own-own-requires-clause-there : goal.own-own-requires-clause-there
+own-own-requires-clause-there g c =
     let bill = g.B.BillView.graph c.args.self.now.bill.now in
     let s = c.args.self.now in
     let nodes = s.places.now.nodes in
@@ -49,20 +53,18 @@ returns-in_default-clause-refused g c fit =
     let low : place < length nodes = omega (arith, c.loop-place-test.true, ap (λ l. length l) c.as_slice-node-items.ensures) in
     let node = slice_index nodes place in
     let own = own_with s.owns.now s.kept.now.owns in
-    let new : List RolledValues = c.as_slice.result.now in
+    let new : List NewRolled = c.as_slice.result.now in
     let list = (slice_index_or s.lists.now place (record { ref_ptr = (0, 0); now = [] })).now in
     let lines = list_at bill s.owns.now s.kept.now s.of_owns.now s.places.now _ c.requires s.lists.now (λ l. l.now) place (record { ref_ptr = (0, 0); now = [] }) refl low in
-    let before : (spot : ℕ) → spot < place → IsRolled bill.lines own (slice_index nodes spot) (rolled_at new spot) = λ spot h.
-    subst (λ l. IsRolled bill.lines own (slice_index nodes spot) (rolled_at l spot)) (sym c.as_slice.ensures.value) (c.loop-place.invariant.1 spot h) in
-    let own_is : c.own.result.now ≡ own node = c.own.ensures ∙ ap (λ l. own (slice_index l place)) c.as_slice-node-items.ensures in
+    let before : (spot : ℕ) → spot < place → IsRolled bill.lines own (slice_index nodes spot) (filled_at s.kept.now.rolled nodes new spot) = λ spot h.
+    subst (λ l. IsRolled bill.lines own (slice_index nodes spot) (filled_at s.kept.now.rolled nodes l spot)) (sym c.as_slice.ensures.value) (c.loop-place.invariant.1 spot h) in
+    let own_is : c.own-own.result.now ≡ own node = c.own-own.ensures ∙ ap (λ l. own (slice_index l place)) c.as_slice-node-items.ensures in
     let P : OwnValues → Type 0 = λ o. o.weight < 2 ^ 128 in
     let small : (own node).weight < 2 ^ 128 = subst P own_is c.in_ok-new.ensures.own in
-    let found : List Rolled → OwnValues → List BillLine → Option RolledValues = λ kept o l.
-    let below = λ (child : ℕ). known (place_at s.places.now child) kept new child in
-    option_map (λ w. record { weight = w; hops = all_hops below o.marks l; loads = all_loads below o.loads l }) (weighed (λ child. Some (below child).weight) o.weight l) in
-    let is : c.in_ok-new.field-0 ≡ found s.kept.now.rolled (own node) (Rattle.desk_graph.specs.Graph.lines_of bill.lines node) =
-    c.in_ok-new.ensures.values ∙ ap (λ k. found k c.own.result.now list) c.values.ensures.values ∙ ap (λ o. found s.kept.now.rolled o list) own_is ∙ ap (found s.kept.now.rolled (own node)) lines in
-    let large = found_none bill s.owns.now s.kept.now s.of_owns.now s.places.now _ c.requires place low new before c.loop-place.invariant.2 small (sym is ∙ c.in_default.is) in
+    let weighs : List Rolled → OwnValues → List BillLine → Option ℕ = λ kept o l. weighed (λ child. Some (known (place_at s.places.now child) kept new child).weight) o.weight l in
+    let weighs_so : option_map (λ values. values.weight) c.in_ok-new.field-0 ≡ weighs s.kept.now.rolled (own node) (lines_of bill.lines node) =
+    c.in_ok-new.ensures.weight ∙ ap (λ k. weighs k c.own-own.result.now list) c.values.ensures.values ∙ ap (λ o. weighs s.kept.now.rolled o list) own_is ∙ ap (weighs s.kept.now.rolled (own node)) lines in
+    let large = found_none bill s.owns.now s.kept.now s.of_owns.now s.places.now _ c.requires place low new before c.loop-place.invariant.2 small (ap (option_map (λ values. values.weight)) (sym c.in_default.is) ∙ weighs_so) in
     let light = fit node (inside bill s.owns.now s.kept.now s.of_owns.now s.places.now _ c.requires node (has_at nodes place low)) in
     omega (arith, large, light)
 
@@ -75,40 +77,60 @@ loop-place-preserved g c =
     let low : place < length nodes = omega (arith, c.loop-place-test.true, ap (λ l. length l) c.as_slice-node-items.ensures) in
     let node = slice_index nodes place in
     let own = own_with s.owns.now s.kept.now.owns in
-    let new : List RolledValues = c.as_slice.result.now in
+    let new : List NewRolled = c.as_slice.result.now in
     let list = (slice_index_or s.lists.now place (record { ref_ptr = (0, 0); now = [] })).now in
     let lines = list_at bill s.owns.now s.kept.now s.of_owns.now s.places.now _ c.requires s.lists.now (λ l. l.now) place (record { ref_ptr = (0, 0); now = [] }) refl low in
-    let before : (spot : ℕ) → spot < place → IsRolled bill.lines own (slice_index nodes spot) (rolled_at new spot) = λ spot h.
-    subst (λ l. IsRolled bill.lines own (slice_index nodes spot) (rolled_at l spot)) (sym c.as_slice.ensures.value) (c.loop-place.invariant.1 spot h) in
-    let own_is : c.own.result.now ≡ own node = c.own.ensures ∙ ap (λ l. own (slice_index l place)) c.as_slice-node-items.ensures in
+    let before : (spot : ℕ) → spot < place → IsRolled bill.lines own (slice_index nodes spot) (filled_at s.kept.now.rolled nodes new spot) = λ spot h.
+    subst (λ l. IsRolled bill.lines own (slice_index nodes spot) (filled_at s.kept.now.rolled nodes l spot)) (sym c.as_slice.ensures.value) (c.loop-place.invariant.1 spot h) in
+    let own_is : c.own-own.result.now ≡ own node = c.own-own.ensures ∙ ap (λ l. own (slice_index l place)) c.as_slice-node-items.ensures in
     let P : OwnValues → Type 0 = λ o. o.weight < 2 ^ 128 in
     let small : (own node).weight < 2 ^ 128 = subst P own_is c.in_ok-new.ensures.own in
-    let found : List Rolled → OwnValues → List BillLine → Option RolledValues = λ kept o l.
-    let below = λ (child : ℕ). known (place_at s.places.now child) kept new child in
-    option_map (λ w. record { weight = w; hops = all_hops below o.marks l; loads = all_loads below o.loads l }) (weighed (λ child. Some (below child).weight) o.weight l) in
-    let is : c.in_ok-new.field-0 ≡ found s.kept.now.rolled (own node) (Rattle.desk_graph.specs.Graph.lines_of bill.lines node) =
-    c.in_ok-new.ensures.values ∙ ap (λ k. found k c.own.result.now list) c.values.ensures.values ∙ ap (λ o. found s.kept.now.rolled o list) own_is ∙ ap (found s.kept.now.rolled (own node)) lines in
-    let right = found_values bill s.owns.now s.kept.now s.of_owns.now s.places.now _ c.requires place low new before c.loop-place.invariant.2 small c.in-Some.new (sym is ∙ c.in-Some.is) in
-    let sum = c.with_hops-marks.ensures ∙ ap (λ l. c.loop-place.marks + cond (length l == 0) 0 (length c.in-Some.new.hops)) lines in
-    let more = more_marks bill s.owns.now s.kept.now s.of_owns.now s.places.now _ c.requires place low c.in-Some.new right.1 in
+    let weighs : List Rolled → OwnValues → List BillLine → Option ℕ = λ kept o l. weighed (λ child. Some (known (place_at s.places.now child) kept new child).weight) o.weight l in
+    let weighs_so : option_map (λ values. values.weight) c.in_ok-new.field-0 ≡ weighs s.kept.now.rolled (own node) (lines_of bill.lines node) =
+    c.in_ok-new.ensures.weight ∙ ap (λ k. weighs k c.own-own.result.now list) c.values.ensures.values ∙ ap (λ o. weighs s.kept.now.rolled o list) own_is ∙ ap (weighs s.kept.now.rolled (own node)) lines in
+    let hops_of : List Rolled → OwnValues → List BillLine → ℕ → Option (List Hop) → Type 0 = λ kept o l n found.
+    AreNewHops (λ child. known (place_at s.places.now child) kept new child) kept o.marks l n c.is_given-is_given.result found in
+    let hops : List Rolled → OwnValues → List BillLine → ℕ → Type 0 = λ kept o l n. hops_of kept o l n c.in-Some.new.hops in
+    let found_hops : hops c.values.result.now c.own-own.result.now list (slice_index c.as_slice-node-items.result.now place) =
+    subst (λ o. IfSome o (λ values. hops_of c.values.result.now c.own-own.result.now list (slice_index c.as_slice-node-items.result.now place) values.hops)) c.in-Some.is c.in_ok-new.ensures.hops in
+    let node_is : slice_index c.as_slice-node-items.result.now place ≡ node = ap (λ l. slice_index l place) c.as_slice-node-items.ensures in
+    let hops_so : hops s.kept.now.rolled (own node) (lines_of bill.lines node) node =
+    subst (hops s.kept.now.rolled (own node) (lines_of bill.lines node)) node_is
+    (subst (λ l. hops s.kept.now.rolled (own node) l (slice_index c.as_slice-node-items.result.now place)) lines
+    (subst (λ o. hops s.kept.now.rolled o list (slice_index c.as_slice-node-items.result.now place)) own_is
+    (subst (λ k. hops k c.own-own.result.now list (slice_index c.as_slice-node-items.result.now place)) c.values.ensures.values found_hops))) in
+    let loads : List Rolled → OwnValues → List BillLine → List Load = λ kept o l. all_loads (λ child. known (place_at s.places.now child) kept new child) o.loads l in
+    let found_loads : c.in-Some.new.loads ≡ loads c.values.result.now c.own-own.result.now list =
+    subst (λ o. IfSome o (λ values. values.loads ≡ loads c.values.result.now c.own-own.result.now list)) c.in-Some.is c.in_ok-new.ensures.loads in
+    let loads_so : c.in-Some.new.loads ≡ loads s.kept.now.rolled (own node) (lines_of bill.lines node) =
+    found_loads ∙ ap (λ k. loads k c.own-own.result.now list) c.values.ensures.values ∙ ap (λ o. loads s.kept.now.rolled o list) own_is ∙ ap (loads s.kept.now.rolled (own node)) lines in
+    let none : c.is_given-is_given.result ≡ false → has_node (nodes_of s.owns.now) node ≡ false = λ e. ap (has_node (nodes_of s.owns.now)) (sym node_is) ∙ sym c.is_given-is_given.ensures ∙ e in
+    let right = found_values bill s.owns.now s.kept.now s.of_owns.now s.places.now _ c.requires place low new before c.loop-place.invariant.2 small c.in-Some.new c.is_given-is_given.result none
+    (ap (option_map (λ values. values.weight)) (sym c.in-Some.is) ∙ weighs_so) hops_so loads_so in
+    let filled_is : c.hops_or.result.now ≡ (filled (rolled_at s.kept.now.rolled node) c.in-Some.new).hops =
+    c.hops_or.ensures ∙ ap (unwrap_or c.in-Some.new.hops) (c.kept_hops.ensures ∙ ap (λ k. (rolled_at k (slice_index c.as_slice-node-items.result.now place)).hops) c.values.ensures.values ∙ ap (λ n. (rolled_at s.kept.now.rolled n).hops) node_is) in
+    let sum = c.with_hops-marks.ensures ∙ ap (λ l. c.loop-place.marks + cond (length l == 0) 0 (length c.hops_or.result.now)) lines
+    ∙ ap (λ h. c.loop-place.marks + cond (length (lines_of bill.lines node) == 0) 0 (length h)) filled_is in
+    let more = more_marks bill s.owns.now s.kept.now s.of_owns.now s.places.now _ c.requires place low (filled (rolled_at s.kept.now.rolled node) c.in-Some.new) right.1 in
     let items = c.in_ok-push.ensures.items in (
       ap (λ l. length l) items ∙ length_push c.loop-place.rolled.items c.in-Some.new ∙ ap (λ n. n + 1) c.loop-place.invariant.0,
       λ spot h.
-          subst (λ l. IsRolled bill.lines own (slice_index nodes spot) (rolled_at l spot)) (sym items)
+          let holds : ℕ → NewRolled → Type 0 = λ n values. IsRolled bill.lines own (slice_index nodes n) (filled (rolled_at s.kept.now.rolled (slice_index nodes n)) values) in
+          subst (λ l. holds spot (new_at l spot)) (sym items)
           (elim (cases_lt spot place) [
             | inl earlier ↦
-                subst (IsRolled bill.lines own (slice_index nodes spot)) (sym (get_or_append_left c.loop-place.rolled.items (c.in-Some.new ∷ []) no_values spot (omega (arith, c.loop-place.invariant.0)))) (c.loop-place.invariant.1 spot earlier)
+                subst (holds spot) (sym (get_or_append_left c.loop-place.rolled.items (c.in-Some.new ∷ []) no_new spot (omega (arith, c.loop-place.invariant.0)))) (c.loop-place.invariant.1 spot earlier)
             | inr last ↦
                 let same : place ≡ spot = omega arith in
-                subst (λ n. IsRolled bill.lines own (slice_index nodes n) (rolled_at (c.loop-place.rolled.items ++ c.in-Some.new ∷ []) n)) same
-                (subst (IsRolled bill.lines own node) (sym (get_or_push c.loop-place.rolled.items c.in-Some.new no_values place c.loop-place.invariant.0)) right.1)
+                subst (λ n. holds n (new_at (c.loop-place.rolled.items ++ c.in-Some.new ∷ []) n)) same
+                (subst (holds place) (sym (get_or_push c.loop-place.rolled.items c.in-Some.new no_new place c.loop-place.invariant.0)) right.1)
           ]),
       λ spot h.
           elim (cases_lt spot place) [
             | inl earlier ↦ c.loop-place.invariant.2 spot earlier
             | inr last ↦ let same : place ≡ spot = omega arith in subst (λ n. weight bill.lines own (slice_index nodes n) < 2 ^ 128) same right.0
           ],
-      sum ∙ ap (λ n. n + cond (length (Rattle.desk_graph.specs.Graph.lines_of bill.lines node) == 0) 0 (length c.in-Some.new.hops)) c.loop-place.invariant.3 ∙ sym more,
+      sum ∙ ap (λ n. n + cond (length (lines_of bill.lines node) == 0) 0 (length (filled (rolled_at s.kept.now.rolled node) c.in-Some.new).hops)) c.loop-place.invariant.3 ∙ sym more,
       omega (arith, c.if-marks-gt-MARK_LIMIT.false),
     )
 
@@ -121,22 +143,41 @@ returns-then-marks-gt-MARK_LIMIT-clause-refused g c fit =
     let low : place < length nodes = omega (arith, c.loop-place-test.true, ap (λ l. length l) c.as_slice-node-items.ensures) in
     let node = slice_index nodes place in
     let own = own_with s.owns.now s.kept.now.owns in
-    let new : List RolledValues = c.as_slice.result.now in
+    let new : List NewRolled = c.as_slice.result.now in
     let list = (slice_index_or s.lists.now place (record { ref_ptr = (0, 0); now = [] })).now in
     let lines = list_at bill s.owns.now s.kept.now s.of_owns.now s.places.now _ c.requires s.lists.now (λ l. l.now) place (record { ref_ptr = (0, 0); now = [] }) refl low in
-    let before : (spot : ℕ) → spot < place → IsRolled bill.lines own (slice_index nodes spot) (rolled_at new spot) = λ spot h.
-    subst (λ l. IsRolled bill.lines own (slice_index nodes spot) (rolled_at l spot)) (sym c.as_slice.ensures.value) (c.loop-place.invariant.1 spot h) in
-    let own_is : c.own.result.now ≡ own node = c.own.ensures ∙ ap (λ l. own (slice_index l place)) c.as_slice-node-items.ensures in
+    let before : (spot : ℕ) → spot < place → IsRolled bill.lines own (slice_index nodes spot) (filled_at s.kept.now.rolled nodes new spot) = λ spot h.
+    subst (λ l. IsRolled bill.lines own (slice_index nodes spot) (filled_at s.kept.now.rolled nodes l spot)) (sym c.as_slice.ensures.value) (c.loop-place.invariant.1 spot h) in
+    let own_is : c.own-own.result.now ≡ own node = c.own-own.ensures ∙ ap (λ l. own (slice_index l place)) c.as_slice-node-items.ensures in
     let P : OwnValues → Type 0 = λ o. o.weight < 2 ^ 128 in
     let small : (own node).weight < 2 ^ 128 = subst P own_is c.in_ok-new.ensures.own in
-    let found : List Rolled → OwnValues → List BillLine → Option RolledValues = λ kept o l.
-    let below = λ (child : ℕ). known (place_at s.places.now child) kept new child in
-    option_map (λ w. record { weight = w; hops = all_hops below o.marks l; loads = all_loads below o.loads l }) (weighed (λ child. Some (below child).weight) o.weight l) in
-    let is : c.in_ok-new.field-0 ≡ found s.kept.now.rolled (own node) (Rattle.desk_graph.specs.Graph.lines_of bill.lines node) =
-    c.in_ok-new.ensures.values ∙ ap (λ k. found k c.own.result.now list) c.values.ensures.values ∙ ap (λ o. found s.kept.now.rolled o list) own_is ∙ ap (found s.kept.now.rolled (own node)) lines in
-    let right = found_values bill s.owns.now s.kept.now s.of_owns.now s.places.now _ c.requires place low new before c.loop-place.invariant.2 small c.in-Some.new (sym is ∙ c.in-Some.is) in
-    let sum = c.with_hops-marks.ensures ∙ ap (λ l. c.loop-place.marks + cond (length l == 0) 0 (length c.in-Some.new.hops)) lines in
-    let more = more_marks bill s.owns.now s.kept.now s.of_owns.now s.places.now _ c.requires place low c.in-Some.new right.1 in
+    let weighs : List Rolled → OwnValues → List BillLine → Option ℕ = λ kept o l. weighed (λ child. Some (known (place_at s.places.now child) kept new child).weight) o.weight l in
+    let weighs_so : option_map (λ values. values.weight) c.in_ok-new.field-0 ≡ weighs s.kept.now.rolled (own node) (lines_of bill.lines node) =
+    c.in_ok-new.ensures.weight ∙ ap (λ k. weighs k c.own-own.result.now list) c.values.ensures.values ∙ ap (λ o. weighs s.kept.now.rolled o list) own_is ∙ ap (weighs s.kept.now.rolled (own node)) lines in
+    let hops_of : List Rolled → OwnValues → List BillLine → ℕ → Option (List Hop) → Type 0 = λ kept o l n found.
+    AreNewHops (λ child. known (place_at s.places.now child) kept new child) kept o.marks l n c.is_given-is_given.result found in
+    let hops : List Rolled → OwnValues → List BillLine → ℕ → Type 0 = λ kept o l n. hops_of kept o l n c.in-Some.new.hops in
+    let found_hops : hops c.values.result.now c.own-own.result.now list (slice_index c.as_slice-node-items.result.now place) =
+    subst (λ o. IfSome o (λ values. hops_of c.values.result.now c.own-own.result.now list (slice_index c.as_slice-node-items.result.now place) values.hops)) c.in-Some.is c.in_ok-new.ensures.hops in
+    let node_is : slice_index c.as_slice-node-items.result.now place ≡ node = ap (λ l. slice_index l place) c.as_slice-node-items.ensures in
+    let hops_so : hops s.kept.now.rolled (own node) (lines_of bill.lines node) node =
+    subst (hops s.kept.now.rolled (own node) (lines_of bill.lines node)) node_is
+    (subst (λ l. hops s.kept.now.rolled (own node) l (slice_index c.as_slice-node-items.result.now place)) lines
+    (subst (λ o. hops s.kept.now.rolled o list (slice_index c.as_slice-node-items.result.now place)) own_is
+    (subst (λ k. hops k c.own-own.result.now list (slice_index c.as_slice-node-items.result.now place)) c.values.ensures.values found_hops))) in
+    let loads : List Rolled → OwnValues → List BillLine → List Load = λ kept o l. all_loads (λ child. known (place_at s.places.now child) kept new child) o.loads l in
+    let found_loads : c.in-Some.new.loads ≡ loads c.values.result.now c.own-own.result.now list =
+    subst (λ o. IfSome o (λ values. values.loads ≡ loads c.values.result.now c.own-own.result.now list)) c.in-Some.is c.in_ok-new.ensures.loads in
+    let loads_so : c.in-Some.new.loads ≡ loads s.kept.now.rolled (own node) (lines_of bill.lines node) =
+    found_loads ∙ ap (λ k. loads k c.own-own.result.now list) c.values.ensures.values ∙ ap (λ o. loads s.kept.now.rolled o list) own_is ∙ ap (loads s.kept.now.rolled (own node)) lines in
+    let none : c.is_given-is_given.result ≡ false → has_node (nodes_of s.owns.now) node ≡ false = λ e. ap (has_node (nodes_of s.owns.now)) (sym node_is) ∙ sym c.is_given-is_given.ensures ∙ e in
+    let right = found_values bill s.owns.now s.kept.now s.of_owns.now s.places.now _ c.requires place low new before c.loop-place.invariant.2 small c.in-Some.new c.is_given-is_given.result none
+    (ap (option_map (λ values. values.weight)) (sym c.in-Some.is) ∙ weighs_so) hops_so loads_so in
+    let filled_is : c.hops_or.result.now ≡ (filled (rolled_at s.kept.now.rolled node) c.in-Some.new).hops =
+    c.hops_or.ensures ∙ ap (unwrap_or c.in-Some.new.hops) (c.kept_hops.ensures ∙ ap (λ k. (rolled_at k (slice_index c.as_slice-node-items.result.now place)).hops) c.values.ensures.values ∙ ap (λ n. (rolled_at s.kept.now.rolled n).hops) node_is) in
+    let sum = c.with_hops-marks.ensures ∙ ap (λ l. c.loop-place.marks + cond (length l == 0) 0 (length c.hops_or.result.now)) lines
+    ∙ ap (λ h. c.loop-place.marks + cond (length (lines_of bill.lines node) == 0) 0 (length h)) filled_is in
+    let more = more_marks bill s.owns.now s.kept.now s.of_owns.now s.places.now _ c.requires place low (filled (rolled_at s.kept.now.rolled node) c.in-Some.new) right.1 in
     let all = some_marks bill s.owns.now s.kept.now s.of_owns.now s.places.now _ c.requires (place + 1) in
     omega (arith, sum, more, all, c.if-marks-gt-MARK_LIMIT.true, c.loop-place.invariant.3)
 
