@@ -1,5 +1,5 @@
 -- Lists that a loop makes, item by item.
-use Rattle.std.proofs.Common.{◌≡◌, ℕ, zero, suc, ◌+◌, ◌<◌, ◌≤◌, Bool, true, false, ◌||◌, ◌==◌, List, [], ◌∷◌, ◌++◌, drop, get_or, length, refl, sym, ap, ◌∙◌, append_assoc, arith}
+use Rattle.std.proofs.Common.{◌≡◌, ℕ, zero, suc, ◌+◌, ◌<◌, ◌≤◌, Bool, true, false, ◌||◌, ◌==◌, List, [], ◌∷◌, ◌++◌, drop, get_or, length, take, refl, subst, sym, ap, ◌∙◌, append_assoc, arith}
 use Rattle.std.specs.List.{AllByRecursion}
 use Rattle.std.proofs.lemmas.List.{drop_all, drop_more}
 use Rattle.desk_graph.specs.Graph.{label_of}
@@ -25,6 +25,18 @@ pub each_at : {X : Type 0} (P : X → Type 0) (xs : List X) (i : ℕ) (d : X) �
 each_at P [] i d a low = absurd (omega (arith, low))
 each_at P (x ∷ xs) zero d a low = a.0
 each_at P (x ∷ xs) (suc i) d a low = each_at P xs i d a.1 (omega (arith, low))
+
+-- and what holds of the first ones and of the next holds of one more
+each_next : {X : Type 0} (P Q : X → Type 0) → ((x : X) → P x → Q x) → (xs : List X) (i : ℕ) (x : X) → i < length xs → x ≡ get_or xs i x → AllByRecursion P (take i xs) → Q x → AllByRecursion Q (take (suc i) xs)
+each_next P Q f [] i x low is a q = absurd (omega (arith, low))
+each_next P Q f (y ∷ xs) zero x low is a q = (subst Q is q, tt)
+each_next P Q f (y ∷ xs) (suc i) x low is a q = (f y a.0, each_next P Q f xs i x (omega (arith, low)) is a.1 q)
+
+pub each_more : {X : Type 0} (P Q : X → Type 0) → ((x : X) → P x → Q x) → (xs : List X) (i : ℕ) (x : X) → i < length xs → x ≡ get_or xs i x → AllByRecursion P (take i xs) → Q x → AllByRecursion Q (take (i + 1) xs)
+each_more P Q f xs i x low is a q = subst (λ n. AllByRecursion Q (take n xs)) one (each_next P Q f xs i x low is a q)
+  where
+    one : suc i ≡ i + 1
+    one = omega arith
 
 pub drop-front : {X : Type 0} (xs ys : List X) → drop (length xs) (xs ++ ys) ≡ ys
 drop-front [] ys = refl

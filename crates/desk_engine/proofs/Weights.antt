@@ -1,5 +1,5 @@
 -- What products weigh: by the kept values of their nodes before an edit, and by the planned ones after it.
-use Rattle.std.proofs.Common.{◌≡◌, ℕ, ◌<◌, true, false, ◌==◌, List, [], ◌∷◌, ◌++◌, length, map, Option, Some, None, is_some, refl, sym, ap, ◌∙◌, subst, inl, inr, arith}
+use Rattle.std.proofs.Common.{◌≡◌, ℕ, ◌<◌, true, false, ◌==◌, List, [], get_or, ◌∷◌, ◌++◌, length, map, Option, Some, None, is_some, refl, sym, ap, ◌∙◌, subst, inl, inr, arith}
 use Rattle.std.specs.Prelude.{slice_index}
 use Rattle.std.specs.List.{AllByRecursion}
 use Rattle.std.specs.Option.{option_map_or}
@@ -13,8 +13,9 @@ use Rattle.desk_graph.specs.Graph.{Graph, label_of}
 use Rattle.desk_graph.specs.Planned.{BillEdit, planned}
 use Rattle.desk_graph.specs.Reaches.{has_node}
 use Rattle.desk_rollup.specs.Plan.{AreRolledUp, Planned}
-use Rattle.desk_rollup.specs.Values.{Kept, own_at, own_with, rolled_at}
+use Rattle.desk_rollup.specs.Values.{Kept, new_at, own_at, own_with, rolled_at}
 use Rattle.desk_model.specs.declared.edit.Edit.{Edit}
+use Rattle.desk_model.specs.declared.rows.product.ProductRow.{ProductRow}
 use Rattle.desk_model.specs.declared.rows.shipment.ShipmentRow.{ShipmentRow}
 use Rattle.desk_model.specs.Effect.{entered}
 use Rattle.desk_model.specs.Lists.{Lists, is_kept, is_material, is_part, is_product}
@@ -42,10 +43,10 @@ use Rattle.desk_bridge.proofs.Numbers.{numbers_differ}
 use Rattle.desk_bridge.proofs.RolledAlike.{rolled_agree}
 use Rattle.desk_bridge.proofs.Values.{values_of}
 use Rattle.desk_engine.specs.declared.stored.Stored.{Stored}
-use Rattle.desk_engine.specs.Masses.{AreAllWeighed, AreMasses, AreWeights, IsWeighed}
+use Rattle.desk_engine.specs.Masses.{AreAllWeighed, AreMasses, AreWeights, IsWeighed, IsWeighedIfPlanned}
 use Rattle.desk_engine.specs.Planned.{IsRolledFor}
 use Rattle.desk_engine.specs.Stored.{IsStoredOf}
-use Rattle.desk_engine.proofs.Listed.{has_push}
+use Rattle.desk_engine.proofs.Listed.{each_at, has_push}
 use Rattle.desk_engine.proofs.Planned.{planned_labels}
 
 -- the kept weights are masses
@@ -82,6 +83,11 @@ product_kept t s code there =
     or_right (is_material t code) (is_part t code)
     (kept_each (λ row. row.part) (λ c. is_part t c ≡ true) code t.products (each_from_all (λ row. is_part t row.part) t.products (names_of t s.names_kept).products) there)
 
+pub product_row_kept : (t : Lists) → IsConsistent t → (place : ℕ) (d : ProductRow) → place < length t.products → is_kept t (get_or t.products place d).part ≡ true
+product_row_kept t s place d low =
+    let part = get_or t.products place d in
+    or_right (is_material t part.part) (is_part t part.part) (each_at (λ row. is_part t row.part ≡ true) t.products place d (each_from_all (λ row. is_part t row.part) t.products (names_of t s.names_kept).products) low)
+
 -- a mass that is put in
 some_inside : {X : Type 0} {x y : X} → Some x ≡ Some y → x ≡ y
 some_inside e = cc
@@ -96,7 +102,7 @@ module _ (labels : List (List ℕ)) (given : Planned) (masses new : List Product
   pub stays_weighed : (product : List ℕ) → IsWeighed masses product → IsWeighed new product
   stays_weighed product there = ap (λ rows. is_some (row_of (λ one. one.product) code_cmp product rows)) put ∙ kept-with_row (λ one. one.product) code_cmp code_cmp_total product weighed masses there
 
-  pub weights_put : (place : ℕ) → place < length given.nodes → label_of labels (slice_index given.nodes place) ≡ weighed.product → weighed.mass ≡ (rolled_at given.rolled place).weight → AreWeights labels given masses → AreWeights labels given new
+  pub weights_put : (place : ℕ) → place < length given.nodes → label_of labels (slice_index given.nodes place) ≡ weighed.product → weighed.mass ≡ (new_at given.rolled place).weight → AreWeights labels given masses → AreWeights labels given new
   weights_put place low label weight before product other found =
       elim (cases_Bool (same_code weighed.product product)) [
         | inl same ↦
@@ -118,12 +124,31 @@ all_more t labels nodes more node masses new is stays here before other there pr
           subst (λ n. IsWeighed new (label_of labels n)) same (here (subst (λ n. is_product t (label_of labels n) ≡ true) (sym same) product))
     ]
 
+-- a product's node after a plan is that before it, and no other has its code
+module _ (t : Lists) (stored : Stored) (is : IsStoredOf t stored) (labels more : List (List ℕ)) (grows : labels ≡ stored.bill.labels ++ more) (product : List ℕ) (kept : is_kept t product ≡ true) where
+  pub node_there : (node_of stored.bill.labels product < length labels) × (label_of labels (node_of stored.bill.labels product) ≡ product)
+  node_there =
+      let node = node_of-kept t stored.bill.labels is.of.bill.numbered product kept in (
+        omega (arith, node.0, ap length grows, length-append stored.bill.labels more),
+        ap (λ ls. label_of ls (node_of stored.bill.labels product)) grows ∙ get_or_append_left stored.bill.labels more [] (node_of stored.bill.labels product) node.0 ∙ node.1,
+      )
+
+  pub one_node : (g : Graph) → IsBill g → g.labels ≡ labels → (node : ℕ) → node < length labels → label_of labels node ≡ product → node ≡ node_of stored.bill.labels product
+  one_node g bill same node inside e =
+      bill.unique node (node_of stored.bill.labels product) (subst (λ ls. node < length ls) (sym same) inside) (subst (λ ls. node_of stored.bill.labels product < length ls) (sym same) node_there.0)
+      (subst (λ ls. label_of ls node ≡ label_of ls (node_of stored.bill.labels product)) (sym same) (e ∙ sym node_there.1))
+
+-- products in the plan are weighed where each product is, if it is in the plan
+pub all_products : (t : Lists) (labels : List (List ℕ)) (nodes : List ℕ) (masses : List ProductMass) (rows : List ProductRow) → rows ≡ t.products → AllByRecursion (λ row. IsWeighedIfPlanned labels nodes masses row.part) rows → AreAllWeighed t labels nodes masses
+all_products t labels nodes masses rows is a node has there =
+    kept_each (λ row. row.part) (IsWeighedIfPlanned labels nodes masses) (label_of labels node) rows a (subst (λ list. is_some (row_of (λ row. row.part) code_cmp (label_of labels node) list) ≡ true) (sym is) there) node has refl
+
 -- masses of all products that an edit affects make the entries of the shipments after it
 module _ (t : Lists) (edit : Edit) (s : Sound t) (passes : PassesRows t edit) (stored : Stored) (is : IsStoredOf t stored) (plan : BillEdit) (names : List (List ℕ)) (given : Planned)
     (rolled : IsRolledFor t edit (planned plan stored.bill) names stored.rollups given) (masses : List ProductMass) (weights : AreWeights (planned plan stored.bill).labels given masses)
     (all : AreAllWeighed t (planned plan stored.bill).labels given.nodes masses) where
   -- a planned weight is the mass after the edit
-  planned_mass : (place : ℕ) → place < length given.nodes → (rolled_at given.rolled place).weight ≡ mass (entered t edit) (label_of (planned plan stored.bill).labels (slice_index given.nodes place))
+  planned_mass : (place : ℕ) → place < length given.nodes → (new_at given.rolled place).weight ≡ mass (entered t edit) (label_of (planned plan stored.bill).labels (slice_index given.nodes place))
   planned_mass place low =
       let node = slice_index given.nodes place in
       let inside : node < length (planned plan stored.bill).labels = subst (λ n. node < n) rolled.rolls.count (rolled.rolls.inside node (has_node-at given.nodes place 0 low)) in

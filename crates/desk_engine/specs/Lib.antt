@@ -1,3 +1,4 @@
+pub mod Answers
 pub mod Engine
 pub mod Masses
 pub mod Names

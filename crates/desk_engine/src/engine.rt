@@ -5,6 +5,7 @@ ghost use Rattle.desk_engine.specs.Stored.{IsStoredOf};
 ghost use Rattle.desk_history.specs.Sound.{Sound};
 ghost use Rattle.desk_scratch.specs.Eval.{eval};
 ghost use Rattle.desk_scratch.specs.Questions.{is_question_in_range};
+ghost use Rattle.desk_scratch.specs.Steps.{HasStepped};
 ghost use Rattle.desk_scratch.specs.declared.ask_fault.AskFault.TheVariants as ask;
 ghost use Rattle.desk_tables.specs.Judged.{IsRefusal, IsRowsPlan};
 ghost use Rattle.desk_tables.specs.Plan.{plan_number, planned};
@@ -13,11 +14,12 @@ ghost use Rattle.desk_tables.specs.Soundness.{NamesBreach};
 use crate::commit::commit_stored;
 use crate::plan::Plan;
 use crate::planning::plan_stored;
+use crate::source::answer_stored;
 use crate::start::stored_of;
 use crate::stored::Stored;
 use crate::stored_plan::StoredPlan;
 use desk_graph::Steps;
-use desk_scratch::{AskFault, Question, answer_plain};
+use desk_scratch::{AskFault, Question};
 use desk_tables::{Edit, EditFault, SoundFault, Tables, TablesPlan};
 use desk_text::{Bytes, OutOfMemory};
 use std::alloc::Global;
@@ -128,7 +130,8 @@ impl Engine {
         number
     }
 
-    /// Appends the answer to the question at the tables.
+    /// Appends the answer to the question at the tables, made of what is stored of them. On a product's compliance it takes a step for the
+    /// product, and one for each line of the chains that it prints.
     ///
     /// `NoSuchCode`: the question is about a material, a part, or either, of which nothing is kept. `NotAProduct`: a RoHS question is
     /// about a part that is no product. `OutOfMemory`: none was left for the answer. After an error `out` is as it was.
@@ -137,14 +140,15 @@ impl Engine {
         alloc: Global,
         question: &Question,
         out: &mut Bytes,
-        _steps: &mut Steps<L>,
+        steps: &mut Steps<L>,
     ) -> Result<(), AskFault>
         requires { is_question_in_range question.now ≡ true }
         ensures answer { OnOk result ((text : List ℕ) × (eval (lists_of self.now) question.now ≡ Ok text) × (out.new ≡ out.old ++ text)) }
         ensures refusal { IfErr result (λ fault. fault ≢ ask.OutOfMemory → eval (lists_of self.now) question.now ≡ Err fault) }
         ensures unchanged { OnErr result (out.new ≡ out.old) }
+        ensures steps { OnOk result (HasStepped (lists_of self.now) question.now steps.old steps.new) }
     {
-        answer_plain(alloc, &self.tables, question, out)
+        answer_stored(alloc, &self.tables, &self.stored, question, out, steps)
     }
 }
 

@@ -2,17 +2,23 @@
 //! each edit.
 #![tactic(auto)]
 
+mod chained;
 mod commit;
 mod engine;
 mod masses;
 mod names;
+mod node_values;
 mod nodes;
 mod plan;
 mod planning;
 mod shipping;
+mod source;
 mod start;
 mod stored;
+mod stored_loads;
 mod stored_plan;
+mod stored_uses;
+mod told;
 mod uncounted;
 mod years;
 

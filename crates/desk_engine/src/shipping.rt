@@ -120,7 +120,7 @@ pub(crate) fn plan_years<L: Ledger>(
         } => Ok(plan_taking(&stored.years, year, product, units)),
         Shipping::Leaves => {
             let after = PlannedBill::new(&stored.bill, plan);
-            let masses = masses_of(alloc, tables, &after, rollups)?;
+            let masses = masses_of(alloc, tables, stored, &after, rollups)?;
             plan_weighing(alloc, &stored.years, &masses)
         }
     }

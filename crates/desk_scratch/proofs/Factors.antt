@@ -1,5 +1,5 @@
 -- What a rule counts of a substance is told by the members of the substance alone.
-use Rattle.std.proofs.Common.{◌≡◌, ◌*◌, ◌∙◌, ℕ, cond, List, [], ◌∷◌, Option, Some, filter, find, refl, sym, ap, sum_by, Ordering, Less, Equal, Greater, is_eq}
+use Rattle.std.proofs.Common.{◌≡◌, ◌*◌, ◌∙◌, ℕ, cond, List, [], ◌∷◌, Some, filter, find, refl, sym, ap, sum_by, Less, Equal, Greater, is_eq}
 use Rattle.std.specs.Option.{option_map_or}
 use Rattle.std.specs.Ordering.{nat_cmp, ordering_then}
 use Rattle.std.proofs.lemmas.List.Sums.{sum_by-cons}
@@ -47,3 +47,15 @@ share_by_holdings t rule material = each material.substances
     each (held ∷ substances) =
         sum_by-cons (λ (holding : Holding). holding.mass * factor_in rule holding.members) _ (holdings_of t substances)
         ∙ rw (factor_found t rule held.substance, each substances) (sym (sum_by-cons (λ held. held.mass * factor_of t rule held.substance) held substances))
+
+-- and so is the sum over the substances, by the members of each
+pub share_by_members : (t : Lists) (rule : Rule) (material : MaterialRow)
+    → sum_by (λ (held : SubstanceMass). held.mass * factor_in rule (members_of t held.substance)) material.substances ≡ share t rule material
+unfolding share
+share_by_members t rule material = each material.substances
+  where
+    each : (substances : List SubstanceMass) → sum_by (λ (held : SubstanceMass). held.mass * factor_in rule (members_of t held.substance)) substances ≡ sum_by (λ held. held.mass * factor_of t rule held.substance) substances
+    each [] = refl
+    each (held ∷ substances) =
+        sum_by-cons (λ (one : SubstanceMass). one.mass * factor_in rule (members_of t one.substance)) held substances
+        ∙ rw (factor_found t rule held.substance, each substances) (sym (sum_by-cons (λ one. one.mass * factor_of t rule one.substance) held substances))

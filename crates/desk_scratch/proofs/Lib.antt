@@ -4,12 +4,15 @@ pub mod Compliant
 pub mod Content
 pub mod Counted
 pub mod Descents
-pub mod DutyParts
 pub mod ExampleProofs
 pub mod Factors
+pub mod FlatMaps
+pub mod FoundBreaches
+pub mod FoundDuties
 pub mod LastLine
 pub mod Light
 pub mod Lines
+pub mod NoneAbove
 pub mod Overs
 pub mod Pieces
 pub mod Reached

@@ -4,20 +4,20 @@ use Rattle.std.proofs.lemmas.List.{append-nil}
 use Rattle.std.specs.Prelude.{◌||◌, OnOk, is_ok, if◌then◌else◌}
 use Rattle.std.specs.List.{flat_map, list_any}
 
--- the texts of one element more
-flat_map-more : {X : Type 0} (f : X → List ℕ) (xs : List X) (i : ℕ) (d : X) → i < length xs
+-- what one element more gives
+flat_map-more : {X Y : Type 0} (f : X → List Y) (xs : List X) (i : ℕ) (d : X) → i < length xs
     → flat_map f (take (suc i) xs) ≡ flat_map f (take i xs) ++ f (get_or xs i d)
 flat_map-more f [] i d h = absurd (omega arith)
 flat_map-more f (x ∷ xs) zero d h = append-nil (f x)
-flat_map-more f (x ∷ xs) (suc i) d h =
-    ap (λ (t : List ℕ). f x ++ t) (flat_map-more f xs i d (omega arith)) ∙ sym (append_assoc (f x) (flat_map f (take i xs)) (f (get_or xs i d)))
+flat_map-more {X} {Y} f (x ∷ xs) (suc i) d h =
+    ap (λ (t : List Y). f x ++ t) (flat_map-more f xs i d (omega arith)) ∙ sym (append_assoc (f x) (flat_map f (take i xs)) (f (get_or xs i d)))
 
--- a loop that appends the text of each element has appended those of one element more
-pub line-added : {X : Type 0} (f : X → List ℕ) (xs : List X) (i : ℕ) (d : X) (old mid new : List ℕ) → i < length xs
+-- a loop that appends what each element gives has appended that of one element more
+pub line-added : {X Y : Type 0} (f : X → List Y) (xs : List X) (i : ℕ) (d : X) (old mid new : List Y) → i < length xs
     → mid ≡ old ++ flat_map f (take i xs) → new ≡ mid ++ f (get_or xs i d) → new ≡ old ++ flat_map f (take (i + 1) xs)
-line-added f xs i d old mid new h before step =
-    step ∙ ap (λ (t : List ℕ). t ++ f (get_or xs i d)) before ∙ append_assoc old (flat_map f (take i xs)) (f (get_or xs i d))
-    ∙ ap (λ (t : List ℕ). old ++ t) (sym (flat_map-more f xs i d h)) ∙ rw add-one refl
+line-added {X} {Y} f xs i d old mid new h before step =
+    step ∙ ap (λ (t : List Y). t ++ f (get_or xs i d)) before ∙ append_assoc old (flat_map f (take i xs)) (f (get_or xs i d))
+    ∙ ap (λ (t : List Y). old ++ t) (sym (flat_map-more f xs i d h)) ∙ rw add-one refl
 
 -- and so it has where the element is the one at the place
 pub text-added : {X : Type 0} (f : X → List ℕ) (xs : List X) (i : ℕ) (x : X) (old mid new : List ℕ) → i < length xs → x ≡ get_or xs i x

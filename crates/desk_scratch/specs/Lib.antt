@@ -6,6 +6,7 @@ pub mod Faults
 pub mod Holdings
 pub mod Judgement
 pub mod Laws
+pub mod LookUps
 pub mod Material
 pub mod MaterialBlock
 pub mod Part
@@ -14,6 +15,7 @@ pub mod Reach33
 pub mod Reach7
 pub mod Rohs
 pub mod SharedLines
+pub mod Steps
 pub mod SubBill
 pub mod Summary
 pub mod Uses

@@ -1,19 +1,20 @@
-ghost use Rattle.std.specs.Prelude.{◌≡◌, ◌≤◌, length, true, IfOk};
+ghost use Rattle.std.specs.Prelude.{◌≡◌, ◌≤◌, length, option_copied, true, IfOk, IfSome};
 ghost use Rattle.desk_text.specs.Day.{is_askable};
 ghost use Rattle.desk_history.specs.Sound.{Sound};
 ghost use Rattle.desk_model.specs.declared.limits.TheConstants.{CONTENT_LIMIT};
 ghost use Rattle.desk_model.specs.declared.rows.material.MaterialRow.{MaterialRow};
+ghost use Rattle.desk_model.specs.Lists.{material_row};
 ghost use Rattle.desk_findings.specs.Share.{share};
 ghost use Rattle.desk_findings.specs.Verdicts.{terms_of, verdict_on};
 ghost use Rattle.desk_scratch.specs.Assessment.{facts_of};
 ghost use Rattle.desk_scratch.specs.Holdings.{holdings_of};
 
 use crate::facts::Facts;
-use crate::holdings::Holdings;
+use crate::holdings::{Holdings, share_of};
 use desk_law::{KindOnDay, Rule, Terms, Verdict, judge};
-use desk_model::SubstanceMass;
+use desk_model::{MaterialRow, SubstanceMass};
 use desk_tables::Tables;
-use desk_text::OutOfMemory;
+use desk_text::{Code, OutOfMemory};
 use std::alloc::Global;
 use std::marker::Model;
 
@@ -71,6 +72,22 @@ impl<'a> Assessment<'a> {
         ensures { IfOk result (λ holdings. holdings ≡ holdings_of self.now.lists substances.now) }
     {
         Holdings::new(alloc, self.tables, substances)
+    }
+
+    /// The material of this code. It takes a binary search.
+    pub(crate) fn material(&self, code: &Code) -> Option<&'a MaterialRow>
+        ensures row { option_copied result ≡ material_row self.now.lists code.now }
+        ensures few { IfSome result (λ row. length row.now.substances ≤ CONTENT_LIMIT) }
+    {
+        self.tables.material(code)
+    }
+
+    /// The rule's share in a material, in millionths of a microgram. It takes a binary search for each of its substances.
+    pub(crate) fn share(&self, rule: Rule, material: &MaterialRow) -> u128
+        requires { length material.now.substances ≤ CONTENT_LIMIT }
+        ensures { result ≡ share self.now.lists rule material.now }
+    {
+        share_of(self.tables, rule, material.substances.as_slice())
     }
 
     /// The verdict on a material for the rule, whose share in it is given. It looks at each exemption row where the

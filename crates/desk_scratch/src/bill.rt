@@ -1,4 +1,4 @@
-ghost use Rattle.std.specs.Prelude.{◌≡◌, ◌≤◌, ◌-◌, ℕ, List, Some, length, is_some, true, map, IfOk};
+ghost use Rattle.std.specs.Prelude.{◌≡◌, ◌+◌, ◌≤◌, ◌-◌, ℕ, List, Some, length, is_some, true, map, IfOk};
 ghost use Rattle.std.specs.List.{range_with_len};
 ghost use Rattle.desk_history.specs.Sound.{Sound};
 ghost use Rattle.desk_model.specs.Lists.{is_part, part_row};
@@ -10,13 +10,21 @@ ghost use Rattle.desk_findings.specs.Reaches.{is_or_reaches, reaches};
 ghost use Rattle.desk_model.specs.Lists.{nodes_of};
 ghost use Rattle.desk_totals.specs.Fit.{fit};
 ghost use Rattle.desk_totals.specs.Places.{node_at};
+ghost use Rattle.desk_scratch.specs.Steps.{line_count};
 
-use desk_model::{Codes, PartRow, PartSort};
+use crate::answer_source::AnswerSource;
+use crate::finding::Finding;
+use crate::load::Load;
+use crate::sub_bill::SubBill;
+use crate::uses_found::does_hold;
+use desk_graph::Steps;
+use desk_model::{Codes, LineRow, PartRow, PartSort, ProductRow};
 use desk_tables::Tables;
 use desk_text::{Code, OutOfMemory};
 use desk_totals::Links;
 use std::alloc::Global;
 use std::marker::Model;
+use std::sync::ledger::Ledger;
 
 /// The bill of materials of sound tables with the masses of its parts: what an answer makes once, and then looks up.
 pub(crate) struct Bill<'a> {
@@ -126,6 +134,21 @@ impl<'a> Bill<'a> {
         self.links.chain(alloc, part, target)
     }
 
+    /// Of each node whether it reaches the code. It takes a pass over nodes and lines.
+    pub(crate) fn marks(&self, alloc: Global, code: &Code) -> Result<Vec<bool>, OutOfMemory>
+        ensures { IfOk result (λ marks. marks.items ≡ map (λ node. reaches self.now node code.now) (nodes_of self.now)) }
+    {
+        self.links.marks(alloc, code)
+    }
+
+    /// Whether the part reaches the code or is it, by whether each node reaches the code. It takes a binary search.
+    pub(crate) fn does_hold(&self, marks: &[bool], part: &Code, code: &Code) -> bool
+        requires { marks.now ≡ map (λ node. reaches self.now node code.now) (nodes_of self.now) }
+        ensures { result ≡ is_or_reaches self.now part.now code.now }
+    {
+        does_hold(&self.links, marks, part, code)
+    }
+
     /// Of each material, in order, whether the part reaches it. It takes, for each 64 materials, a few passes over
     /// nodes and lines.
     pub(crate) fn reached_materials(
@@ -231,6 +254,74 @@ impl<'a> Bill<'a> {
             // Each part is a node.
             None => unreachable!(),
         }
+    }
+}
+
+impl<'a> AnswerSource for Bill<'a> {
+    ghost lists = { λ bill. bill };
+
+    fn tables(&self) -> &Tables {
+        Bill::tables(self)
+    }
+
+    fn mass(&self, part: &Code) -> u128 {
+        Bill::mass(self, part)
+    }
+
+    fn content(&self, article: &Code, substance: &Code) -> u128 {
+        Bill::content(self, article, substance)
+    }
+
+    fn findings<L: Ledger>(
+        &self,
+        alloc: Global,
+        part: &Code,
+        steps: &mut Steps<L>,
+    ) -> Result<Vec<Finding>, OutOfMemory> {
+        steps.tick();
+        Bill::findings(self, alloc, part)
+    }
+
+    fn chain<L: Ledger>(
+        &self,
+        alloc: Global,
+        part: &Code,
+        finding: &Finding,
+        steps: &mut Steps<L>,
+    ) -> Result<Codes, OutOfMemory> {
+        let codes = match *finding {
+            Finding::Over { material, .. } => Bill::chain(self, alloc, part, &material),
+            Finding::Above { article, .. } => Bill::chain(self, alloc, part, &article),
+        }?;
+        count_lines(codes.as_slice(), steps);
+        Ok(codes)
+    }
+
+    fn loads(&self, alloc: Global, part: &Code) -> Result<Vec<Load>, OutOfMemory> {
+        let sub_bill = SubBill::new(alloc, self.tables, part)?;
+        sub_bill.loads_of(alloc, part)
+    }
+
+    fn tonnages(&self, alloc: Global, year: u16) -> Result<Vec<u128>, OutOfMemory> {
+        Bill::tonnages(self, alloc, year)
+    }
+
+    fn users(&self, alloc: Global, code: &Code) -> Result<Vec<LineRow>, OutOfMemory> {
+        Bill::users(self, alloc, code)
+    }
+
+    fn products_with(&self, alloc: Global, code: &Code) -> Result<Vec<ProductRow>, OutOfMemory> {
+        Bill::products_with(self, alloc, code)
+    }
+}
+
+/// Counts a step for each line of the chain.
+fn count_lines<L: Ledger>(chain: &[Code], steps: &mut Steps<L>)
+    ensures { steps.new ≡ steps.old + line_count chain.now }
+{
+    let lines = chain.len().saturating_sub(1);
+    for _ in 0..lines {
+        steps.tick();
     }
 }
 

@@ -80,6 +80,20 @@ impl<'a> Holdings<'a> {
     }
 }
 
+/// The share of the rule in a material of these substances, by the tables, in millionths of a microgram. It takes a binary
+/// search for each of them, and no memory.
+pub(crate) fn share_of(tables: &Tables, rule: Rule, substances: &[SubstanceMass]) -> u128
+    requires sound { Sound tables.now.lists }
+    requires few { length substances.now ≤ CONTENT_LIMIT }
+    ensures { (material : MaterialRow) → substances.now ≡ material.substances → result ≡ share tables.now.lists rule material }
+{
+    let mut share = 0u128;
+    for held in substances {
+        share = share_with(share, rule, &holding_of(tables, held));
+    }
+    share
+}
+
 /// What is held of a substance. It takes a binary search.
 fn holding_of<'a>(tables: &'a Tables, held: &SubstanceMass) -> Holding<'a>
     requires { Sound tables.now.lists }

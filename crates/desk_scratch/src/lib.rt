@@ -4,15 +4,19 @@
 #![tactic(auto)]
 
 mod answer;
+mod answer_source;
 mod ask_fault;
 mod assessment;
 mod bill;
+mod blank_text;
 mod check;
-mod duties;
 pub mod examples;
 mod facts;
+mod finding;
+mod founds;
 mod holdings;
 pub mod laws;
+mod load;
 mod material;
 mod material_block;
 mod part;
@@ -23,10 +27,15 @@ mod rohs;
 mod shared_lines;
 mod sub_bill;
 mod summary;
+mod tonnages;
 mod uses;
+mod uses_found;
 mod verdict_words;
 
-pub use answer::answer_plain;
+pub use answer::{answer_from, answer_plain};
+pub use answer_source::AnswerSource;
 pub use ask_fault::AskFault;
 pub use check::check_text;
+pub use finding::Finding;
+pub use load::Load;
 pub use question::Question;

@@ -5,6 +5,7 @@ ghost use Rattle.desk_model.specs.declared.limits.TheConstants.{CONTENT_LIMIT};
 ghost use Rattle.desk_scratch.specs.Material.{material_text};
 
 use crate::assessment::{Assessment, terms_of};
+use crate::blank_text::BlankText;
 use crate::facts::Facts;
 use crate::material_block::push_material_block;
 use crate::shared_lines::{push_compliance_line, push_version_line};
@@ -23,6 +24,7 @@ pub(crate) fn material_text(
     tables: &Tables,
     asked: &KindOnDay,
     material: &MaterialRow,
+    blank: BlankText,
 ) -> Result<Bytes, OutOfMemory>
     requires sound { Sound tables.now.lists }
     requires askable { is_askable asked.now.day ≡ true }
@@ -31,7 +33,7 @@ pub(crate) fn material_text(
 {
     let terms = terms_of(alloc, tables)?;
     let by = Assessment::new(tables, terms.as_slice(), *asked);
-    let mut text = String::new(alloc);
+    let mut text = blank.into_string();
     push_version_line(&mut text, tables)?;
     let breach = push_material_block(alloc, &mut text, &by, &Facts::from(material))?;
     push_compliance_line(&mut text, !breach)?;

@@ -1,21 +1,16 @@
-ghost use Rattle.std.specs.Prelude.{◌≡◌, ◌++◌, ◌&&◌, ◌*◌, ◌<◌, ◌^◌, ℕ, List, [], length, map, nat_lt, sum_by, true};
-ghost use Rattle.std.specs.Prelude.{string_bytes, if◌then◌else◌, IfOk, OnOk};
-ghost use Rattle.std.specs.List.{AllByRecursion, flat_map};
+ghost use Rattle.std.specs.Prelude.{◌≡◌, ◌++◌, ◌&&◌, ℕ, [], length, map, nat_lt, string_bytes, if◌then◌else◌, IfOk, OnOk};
+ghost use Rattle.std.specs.List.{flat_map};
 ghost use Rattle.desk_text.specs.Day.{is_not_after};
-ghost use Rattle.desk_history.specs.Sound.{Sound};
 ghost use Rattle.desk_model.specs.declared.limits.TheConstants.{TONNE};
-ghost use Rattle.desk_model.specs.Lists.{Lists, is_part};
-ghost use Rattle.desk_findings.specs.Carried.{carried};
+ghost use Rattle.desk_model.specs.Lists.{Lists};
 ghost use Rattle.desk_findings.specs.Tonnage.{due_day, first_due, notices, tonnage};
-ghost use Rattle.desk_totals.specs.Fit.{fit};
-ghost use Rattle.desk_model.specs.Lists.{nodes_of};
 ghost use Rattle.desk_scratch.specs.Reach7.{asked_year_line, due_text, notice_count_line, notice_line, reach7_text};
 
-use crate::bill::Bill;
+use crate::answer_source::AnswerSource;
+use crate::blank_text::BlankText;
 use crate::shared_lines::push_version_line;
+use desk_model::CandidateRow;
 use desk_model::limits::TONNE;
-use desk_model::{CandidateRow, ShipmentRow};
-use desk_rows::run_of;
 use desk_tables::Tables;
 use desk_text::{Bytes, Day, OutOfMemory};
 use std::alloc::{AllocError, Global};
@@ -23,23 +18,22 @@ use std::fmt::Write;
 
 /// The answer on notifications: the notices of the year on the day.
 ///
-/// It takes the bill once, and for each candidate that was included by the day a look at each article, a few passes
-/// over nodes and lines, and a binary search for each shipment of the year. The text has at most a line for each
-/// candidate, and three more.
-pub(crate) fn reach7_text(
+/// It takes the tonnages of the year. The text has at most a line for each candidate, and three more.
+pub(crate) fn reach7_text<S: AnswerSource>(
     alloc: Global,
-    tables: &Tables,
+    source: &S,
     year: u16,
     day: Day,
+    blank: BlankText,
 ) -> Result<Bytes, OutOfMemory>
-    requires { Sound tables.now.lists }
-    ensures { IfOk result (λ text. text ≡ reach7_text tables.now.lists year day) }
+    ensures { IfOk result (λ text. text ≡ reach7_text (S.lists source.now) year day) }
 {
-    let bill = Bill::new(alloc, tables)?;
-    let mut text = String::new(alloc);
+    let tables = source.tables();
+    let sums = source.tonnages(alloc, year)?;
+    let mut text = blank.into_string();
     push_version_line(&mut text, tables)?;
     push_asked_year_line(&mut text, year, day)?;
-    let count = push_notices(alloc, &mut text, &bill, year, day)?;
+    let count = push_notices(&mut text, tables, sums.as_slice(), year, day)?;
     push_notice_count_line(&mut text, count)?;
     Ok(Bytes::from(text.into_bytes()))
 }
@@ -60,43 +54,44 @@ fn push_notice_count_line(out: &mut String, count: usize) -> Result<(), AllocErr
     writeln!(out, "notices {count}")
 }
 
-/// Appends a line for each notice, in order of substance. Tells how many there are.
+/// Appends a line for each notice of the year, in order of substance, by the tonnage of each candidate in the year. Tells
+/// how many there are.
 fn push_notices(
-    alloc: Global,
     out: &mut String,
-    bill: &Bill<'_>,
+    tables: &Tables,
+    sums: &[u128],
     year: u16,
     day: Day,
-) -> Result<usize, OutOfMemory>
-    ensures lines { OnOk result (string_bytes out.new ≡ string_bytes out.old ++ flat_map (notice_line bill.now year) (notices bill.now year day)) }
-    ensures count { IfOk result (λ count. count ≡ length (notices bill.now year day)) }
+) -> Result<usize, AllocError>
+    requires { sums.now ≡ map (λ candidate. tonnage tables.now.lists year candidate.substance) tables.now.lists.candidates }
+    ensures lines { OnOk result (string_bytes out.new ≡ string_bytes out.old
+        ++ flat_map (notice_line tables.now.lists year) (notices tables.now.lists year day)) }
+    ensures count { IfOk result (λ count. count ≡ length (notices tables.now.lists year day)) }
 {
     let mut count: usize = 0;
-    for candidate in bill.tables().candidates() {
-        count += usize::from(push_if_due(alloc, out, bill, year, day, candidate)?);
+    let mut place: usize = 0;
+    for candidate in tables.candidates() {
+        count += usize::from(push_if_due(out, day, candidate, sums[place])?);
+        place += 1;
     }
     Ok(count)
 }
 
-/// Appends the line on a candidate, where a notice is due of it. Tells whether one is.
+/// Appends the line on a candidate of this tonnage in a year, where a notice is due of it. Tells whether one is.
 fn push_if_due(
-    alloc: Global,
     out: &mut String,
-    bill: &Bill<'_>,
-    year: u16,
     day: Day,
     candidate: &CandidateRow,
-) -> Result<bool, OutOfMemory>
-    ensures line { OnOk result (string_bytes out.new ≡ string_bytes out.old
-        ++ (if is_not_after candidate.now.day day && nat_lt TONNE (tonnage bill.now year candidate.now.substance)
-        then notice_line bill.now year candidate.now else [])) }
-    ensures due { IfOk result (λ due. due ≡ (is_not_after candidate.now.day day && nat_lt TONNE (tonnage bill.now year candidate.now.substance))) }
+    sum: u128,
+) -> Result<bool, AllocError>
+    ensures line { OnOk result ((t : Lists) (year : ℕ) → sum ≡ tonnage t year candidate.now.substance
+        → string_bytes out.new ≡ string_bytes out.old
+        ++ (if is_not_after candidate.now.day day && nat_lt TONNE sum then notice_line t year candidate.now else [])) }
+    ensures due { IfOk result (λ due. due ≡ (is_not_after candidate.now.day day && nat_lt TONNE sum)) }
 {
     if !(candidate.day <= day) {
         return Ok(false);
     }
-    let loads = bill.loads(alloc, &candidate.substance)?;
-    let sum = bill.tonnage(loads.as_slice(), year);
     if sum <= TONNE as u128 {
         return Ok(false);
     }
@@ -150,33 +145,5 @@ fn push_due(out: &mut String, due: Option<Day>) -> Result<(), AllocError>
     match due {
         Some(day) => write!(out, "{day}"),
         None => out.push_str("none"),
-    }
-}
-
-impl<'a> Bill<'a> {
-    /// The sum over the year's shipments of units times what the product carries, in micrograms, by what each material
-    /// and then each part carries. It takes a binary search for each shipment of the year.
-    #[tactic(auto, unfolding(desk_findings::specs::Tonnage::tonnage))]
-    fn tonnage(&self, loads: &[Option<u128>], year: u16) -> u128
-        requires { (substance : List ℕ) × (loads.now ≡ map (λ code. fit (carried self.now substance code)) (nodes_of self.now)) }
-        ensures { (substance : List ℕ) → loads.now ≡ map (λ code. fit (carried self.now substance code)) (nodes_of self.now)
-            → result ≡ tonnage self.now year substance }
-    {
-        self.tonnage_of(loads, run_of(self.tables().shipments(), &year))
-    }
-
-    /// The sum over these shipments of units times what the product carries, in micrograms.
-    fn tonnage_of(&self, loads: &[Option<u128>], shipments: &[ShipmentRow]) -> u128
-        requires loads { (substance : List ℕ) × (loads.now ≡ map (λ code. fit (carried self.now substance code)) (nodes_of self.now))
-            × (sum_by (λ shipment. shipment.units * carried self.now substance shipment.product) shipments.now < 2 ^ 128) }
-        requires products { AllByRecursion (λ shipment. is_part self.now shipment.product ≡ true) shipments.now }
-        ensures { (substance : List ℕ) → loads.now ≡ map (λ code. fit (carried self.now substance code)) (nodes_of self.now)
-            → result ≡ sum_by (λ shipment. shipment.units * carried self.now substance shipment.product) shipments.now }
-    {
-        let mut sum = 0u128;
-        for shipment in shipments {
-            sum += u128::from(shipment.units) * self.load(loads, &shipment.product);
-        }
-        sum
     }
 }

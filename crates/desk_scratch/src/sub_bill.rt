@@ -1,14 +1,16 @@
-ghost use Rattle.std.specs.Prelude.{◌≡◌, ◌+◌, ◌*◌, ◌<◌, ℕ, List, length, sum_by, true, IfOk, IfSome, if◌then◌else◌};
+ghost use Rattle.std.specs.Prelude.{◌≡◌, ◌+◌, ◌*◌, ◌<◌, ◌==◌, ◌++◌, ◌∷◌, ℕ, List, [], length, not, sum_by, true, IfOk, IfSome, OnOk, if◌then◌else◌};
 ghost use Rattle.desk_history.specs.Sound.{Sound};
 ghost use Rattle.desk_model.specs.Lists.{is_part};
 ghost use Rattle.desk_findings.specs.Above.{content, is_above};
 ghost use Rattle.desk_findings.specs.Carried.{carried, own_load};
 ghost use Rattle.desk_findings.specs.Mass.{mass};
 ghost use Rattle.desk_findings.specs.Reaches.{lines_of};
+ghost use Rattle.desk_scratch.specs.LookUps.{loads_of};
 ghost use Rattle.desk_scratch.specs.SubBill.{AreOf};
 ghost use Rattle.desk_totals.specs.Places.{node_at};
 
 use crate::bill::Bill;
+use crate::load::Load;
 use desk_model::{LineRow, PartSort};
 use desk_rows::{place_of_key, run_of};
 use desk_tables::Tables;
@@ -101,14 +103,24 @@ impl<'a> SubBill<'a> {
         Ok(bill.mass(part))
     }
 
+    /// What the part carries of each candidate that it carries, in order of substance. It takes for each candidate a few binary
+    /// searches for each part and each line at and below the part.
+    pub(crate) fn loads_of(&self, alloc: Global, part: &Code) -> Result<Vec<Load>, OutOfMemory>
+        requires { is_part self.now.lists part.now ≡ true }
+        ensures { IfOk result (λ loads. loads.items ≡ loads_of self.now.lists part.now) }
+    {
+        let mut list = Vec::new(alloc);
+        for candidate in self.tables.candidates() {
+            let substance = candidate.substance;
+            let amount = self.load(alloc, &substance, part)?;
+            push_if_some(&mut list, Load { substance, amount })?;
+        }
+        Ok(list)
+    }
+
     /// What the part carries of the substance, in micrograms. It takes a few binary searches for each part and each line at and
     /// below the part.
-    pub(crate) fn load(
-        &self,
-        alloc: Global,
-        substance: &Code,
-        part: &Code,
-    ) -> Result<u128, OutOfMemory>
+    fn load(&self, alloc: Global, substance: &Code, part: &Code) -> Result<u128, OutOfMemory>
         requires { is_part self.now.lists part.now ≡ true }
         ensures { IfOk result (λ load. load ≡ carried self.now.lists substance.now part.now) }
     {
@@ -281,6 +293,16 @@ impl<'a> SubBill<'a> {
             0
         }
     }
+}
+
+/// Appends the load, where there is any.
+fn push_if_some(list: &mut Vec<Load>, load: Load) -> Result<(), OutOfMemory>
+    ensures { OnOk result (list.new.items ≡ list.old.items ++ (if not (load.amount == 0) then load ∷ [] else [])) }
+{
+    if load.amount != 0 {
+        list.push(load)?;
+    }
+    Ok(())
 }
 
 /// A sum with count times an amount, where that is below 2^128.

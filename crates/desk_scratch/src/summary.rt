@@ -1,47 +1,54 @@
 ghost use Rattle.std.specs.Prelude.{◌≡◌, ◌++◌, ◌≤◌, ◌==◌, codes, count_by, decimal, length, true};
-ghost use Rattle.std.specs.Prelude.{string_bytes, if◌then◌else◌, IfOk, OnOk};
+ghost use Rattle.std.specs.Prelude.{string_bytes, IfOk, OnOk};
 ghost use Rattle.std.specs.List.{flat_map};
 ghost use Rattle.desk_text.specs.Day.{is_askable};
-ghost use Rattle.desk_history.specs.Sound.{Sound};
-ghost use Rattle.desk_law.specs.Rule.{all_rules};
 ghost use Rattle.desk_model.specs.declared.limits.TheConstants.{CONTENT_LIMIT};
 ghost use Rattle.desk_model.specs.Lists.{is_part};
-ghost use Rattle.desk_findings.specs.Share.{share};
 ghost use Rattle.desk_findings.specs.Verdicts.{terms_of};
 ghost use Rattle.desk_law.specs.Kind.{kind_code};
-ghost use Rattle.desk_scratch.specs.Judgement.{breach_count, is_breached};
+ghost use Rattle.desk_scratch.specs.Judgement.{is_breached};
+ghost use Rattle.desk_scratch.specs.LookUps.{finding_of, is_finding_breached, is_finding_due};
 ghost use Rattle.desk_scratch.specs.SharedLines.{compliance_word};
 ghost use Rattle.desk_scratch.specs.Summary.{asked_day_line, count_line, count_lines, standing_line, summary_text};
 
+use crate::answer_source::AnswerSource;
 use crate::assessment::{Assessment, terms_of};
-use crate::bill::Bill;
+use crate::blank_text::BlankText;
 use crate::facts::Facts;
+use crate::finding::Finding;
 use crate::material_block::is_breach;
+use crate::reach33::is_due;
 use crate::shared_lines::push_version_line;
+use desk_graph::Steps;
 use desk_law::{KindOnDay, Rule, Terms};
 use desk_model::{MaterialRow, ProductRow};
 use desk_tables::Tables;
-use desk_text::{Bytes, Code, Day, OutOfMemory};
+use desk_text::{Bytes, Day, OutOfMemory};
 use std::alloc::{AllocError, Global};
 use std::fmt::Write;
+use std::sync::ledger::Ledger;
 
 /// The answer on the whole desk: how much is kept, and how each product stands on a day, which is askable.
 ///
-/// It takes the bill once, and for each product a few passes over nodes and lines for each 64 of them, two binary
-/// searches for each reached material and substance, and the search for its duties. The text has a line for each
-/// product, and eleven more.
-pub(crate) fn summary_text(alloc: Global, tables: &Tables, day: Day) -> Result<Bytes, OutOfMemory>
-    requires sound { Sound tables.now.lists }
-    requires askable { is_askable day ≡ true }
-    ensures { IfOk result (λ text. text ≡ summary_text tables.now.lists day) }
+/// It takes the findings of each product, for each of them on a material a binary search for each substance and one more, and
+/// for each on an article one. The text has a line for each product, and eleven more.
+pub(crate) fn summary_text<S: AnswerSource, L: Ledger>(
+    alloc: Global,
+    source: &S,
+    day: Day,
+    steps: &mut Steps<L>,
+    blank: BlankText,
+) -> Result<Bytes, OutOfMemory>
+    requires { is_askable day ≡ true }
+    ensures { IfOk result (λ text. text ≡ summary_text (S.lists source.now) day) }
 {
-    let bill = Bill::new(alloc, tables)?;
+    let tables = source.tables();
     let terms = terms_of(alloc, tables)?;
-    let mut text = String::new(alloc);
+    let mut text = blank.into_string();
     push_version_line(&mut text, tables)?;
     push_asked_day_line(&mut text, day)?;
     push_count_lines(&mut text, tables)?;
-    push_standings(alloc, &mut text, &bill, terms.as_slice(), day)?;
+    push_standings(alloc, &mut text, source, terms.as_slice(), day, steps)?;
     Ok(Bytes::from(text.into_bytes()))
 }
 
@@ -78,45 +85,50 @@ fn push_count_line(out: &mut String, table: &str, count: usize) -> Result<(), Al
 }
 
 /// Appends how each product stands, in order of code.
-fn push_standings(
+fn push_standings<S: AnswerSource, L: Ledger>(
     alloc: Global,
     out: &mut String,
-    bill: &Bill<'_>,
+    source: &S,
     terms: &[Terms],
     day: Day,
+    steps: &mut Steps<L>,
 ) -> Result<(), OutOfMemory>
-    requires terms { terms.now ≡ terms_of bill.now }
+    requires terms { terms.now ≡ terms_of (S.lists source.now) }
     requires askable { is_askable day ≡ true }
-    ensures { OnOk result (string_bytes out.new ≡ string_bytes out.old ++ flat_map (standing_line bill.now day) bill.now.products) }
+    ensures { OnOk result (string_bytes out.new ≡ string_bytes out.old
+        ++ flat_map (standing_line (S.lists source.now) day) (S.lists source.now).products) }
 {
-    for product in bill.tables().products() {
-        push_standing(alloc, out, bill, terms, day, product)?;
+    for product in source.tables().products() {
+        push_standing(alloc, out, source, terms, day, product, steps)?;
     }
     Ok(())
 }
 
 /// Appends how a product stands.
-fn push_standing(
+fn push_standing<S: AnswerSource, L: Ledger>(
     alloc: Global,
     out: &mut String,
-    bill: &Bill<'_>,
+    source: &S,
     terms: &[Terms],
     day: Day,
     product: &ProductRow,
+    steps: &mut Steps<L>,
 ) -> Result<(), OutOfMemory>
-    requires terms { terms.now ≡ terms_of bill.now }
+    requires terms { terms.now ≡ terms_of (S.lists source.now) }
     requires askable { is_askable day ≡ true }
-    requires kept { is_part bill.now product.now.part ≡ true }
-    ensures { OnOk result (string_bytes out.new ≡ string_bytes out.old ++ standing_line bill.now day product.now) }
+    requires kept { is_part (S.lists source.now) product.now.part ≡ true }
+    ensures { OnOk result (string_bytes out.new ≡ string_bytes out.old ++ standing_line (S.lists source.now) day product.now) }
 {
     let asked = KindOnDay {
         kind: product.kind,
         day,
     };
-    let by = Assessment::new(bill.tables(), terms, asked);
-    let breaches = breach_count(alloc, &by, bill, &product.part)?;
-    let duties = bill.duties(alloc, &product.part, day)?;
-    push_standing_line(out, product, breaches, duties.as_slice().len())?;
+    let tables = source.tables();
+    let by = Assessment::new(tables, terms, asked);
+    let list = source.findings(alloc, &product.part, steps)?;
+    let findings = list.as_slice();
+    let breaches = breach_count(&by, findings);
+    push_standing_line(out, product, breaches, duty_count(tables, findings, day))?;
     Ok(())
 }
 
@@ -124,7 +136,7 @@ fn push_standing(
 fn push_standing_line(
     out: &mut String,
     product: &ProductRow,
-    breaches: u128,
+    breaches: usize,
     duties: usize,
 ) -> Result<(), AllocError>
     ensures { OnOk result (string_bytes out.new ≡ string_bytes out.old
@@ -146,7 +158,7 @@ fn push_product_words(out: &mut String, product: &ProductRow, word: &str) -> Res
 }
 
 /// Appends how many breaches and duties there are, and the end of the line.
-fn push_numbers(out: &mut String, breaches: u128, duties: usize) -> Result<(), AllocError>
+fn push_numbers(out: &mut String, breaches: usize, duties: usize) -> Result<(), AllocError>
     ensures { OnOk result (string_bytes out.new ≡ string_bytes out.old
         ++ (codes " breaches " ++ decimal breaches ++ codes " duties " ++ decimal duties ++ codes "\n")) }
 {
@@ -164,67 +176,48 @@ fn compliance_word(is_compliant: bool) -> &'static str
     }
 }
 
-/// How often a rule is breached by a material that the part reaches.
-fn breach_count(
-    alloc: Global,
-    by: &Assessment<'_>,
-    bill: &Bill<'_>,
-    part: &Code,
-) -> Result<u128, OutOfMemory>
-    requires lists { by.now.lists ≡ bill.now }
-    requires kept { is_part bill.now part.now ≡ true }
-    ensures { IfOk result (λ count. count ≡ breach_count bill.now by.now.kind by.now.day part.now) }
+/// How many of these findings are breaches.
+fn breach_count(by: &Assessment<'_>, findings: &[Finding]) -> usize
+    ensures { result ≡ count_by (λ finding. is_finding_breached by.now.lists by.now.kind by.now.day (finding_of finding)) findings.now }
 {
-    let reached = bill.reached_materials(alloc, part)?;
-    let mut count = 0u128;
-    let mut place: usize = 0;
-    for material in bill.tables().materials() {
-        count += breaches_if_reached(alloc, by, material, reached[place])?;
-        place += 1;
+    let mut count: usize = 0;
+    for finding in findings {
+        count += usize::from(is_breached(by, finding));
     }
-    Ok(count)
+    count
 }
 
-/// How many rules a material breaches, 0 where it isn't reached.
-fn breaches_if_reached(
-    alloc: Global,
-    by: &Assessment<'_>,
-    material: &MaterialRow,
-    is_reached: bool,
-) -> Result<u128, OutOfMemory>
+/// Whether the finding is on a material that breaches the rule.
+#[tactic(auto, unfolding(crate::specs::LookUps::is_finding_breached))]
+fn is_breached(by: &Assessment<'_>, finding: &Finding) -> bool
+    ensures { result ≡ is_finding_breached by.now.lists by.now.kind by.now.day (finding_of finding.now) }
+{
+    match *finding {
+        Finding::Over { material, rule } => match by.material(&material) {
+            Some(row) => breaches(by, row, rule),
+            // A finding on a material is on a kept one.
+            None => false,
+        },
+        Finding::Above { .. } => false,
+    }
+}
+
+/// Whether a material breaches the rule.
+fn breaches(by: &Assessment<'_>, material: &MaterialRow, rule: Rule) -> bool
     requires { length material.now.substances ≤ CONTENT_LIMIT }
-    ensures count { IfOk result (λ count. count ≡ (if is_reached then count_by (is_breached by.now.lists by.now.kind by.now.day material.now) all_rules else 0)) }
-    ensures bound { IfOk result (λ count. count ≤ 10) }
-{
-    if is_reached {
-        breaches_of(alloc, by, material)
-    } else {
-        Ok(0)
-    }
-}
-
-/// How many rules a material breaches.
-fn breaches_of(
-    alloc: Global,
-    by: &Assessment<'_>,
-    material: &MaterialRow,
-) -> Result<u128, OutOfMemory>
-    requires { length material.now.substances ≤ CONTENT_LIMIT }
-    ensures count { IfOk result (λ count. count ≡ count_by (is_breached by.now.lists by.now.kind by.now.day material.now) all_rules) }
-    ensures bound { IfOk result (λ count. count ≤ 10) }
-{
-    let holdings = by.holdings(alloc, material.substances.as_slice())?;
-    let mut count = 0u128;
-    for rule in Rule::ALL {
-        count += u128::from(breaches(by, material, rule, holdings.share(rule)));
-    }
-    Ok(count)
-}
-
-/// Whether a material breaches the rule, whose share in it is given.
-fn breaches(by: &Assessment<'_>, material: &MaterialRow, rule: Rule, its_share: u128) -> bool
-    requires { its_share ≡ share by.now.lists rule material.now }
     ensures { result ≡ is_breached by.now.lists by.now.kind by.now.day material.now rule }
 {
-    is_breach(by.verdict(rule, its_share, &Facts::from(material)))
+    let share = by.share(rule, material);
+    is_breach(by.verdict(rule, share, &Facts::from(material)))
+}
+
+/// Of how many of these findings one has to inform on the day.
+fn duty_count(tables: &Tables, findings: &[Finding], day: Day) -> usize
+    ensures { result ≡ count_by (λ finding. is_finding_due tables.now.lists day (finding_of finding)) findings.now }
+{
+    let mut count: usize = 0;
+    for finding in findings {
+        count += usize::from(is_due(tables, finding, day));
+    }
+    count
 }

@@ -6,7 +6,7 @@ use Rattle.desk_tonnage.specs.Masses.{with_masses}
 use Rattle.desk_bridge.specs.Bridge.{IsBillOf}
 use Rattle.desk_engine.specs.Masses.{AreAllWeighed, AreWeights}
 use Rattle.desk_engine.specs.Years.{IsYearsFault, LeavesEntries}
-use Rattle.desk_engine.proofs.Planned.{planned_codes}
+use Rattle.desk_engine.proofs.Planned.{planned_codes, planned_labels}
 use Rattle.desk_engine.proofs.Shipped.{adds_change, adds_units, leaves_shipments, takes_units}
 use Rattle.desk_engine.proofs.Weights.{reweighed, stored_masses}
 use Rattle.desk_engine.proofs.shipping.plan_years.Goals as goal
@@ -29,6 +29,9 @@ plan_adding-requires-clause-fits g c = (adds_units c.args.tables.now.lists c.req
 
 pub plan_taking-requires : goal.plan_taking-requires
 plan_taking-requires g c = (takes_units c.args.tables.now.lists c.requires.sound c.args.edit.now c.in-Takes.year c.in-Takes.product c.in-Takes.units (sym c.shipping_of.ensures ∙ c.in-Takes.is) c.requires.passes c.args.stored.now.years.entries c.requires.stored.of.years).enough
+
+pub masses_of-requires-clause-grows : goal.masses_of-requires-clause-grows
+masses_of-requires-clause-grows g c = (c.args.plan.now.labels, ap (λ bill. bill.labels) c.new-after.ensures ∙ planned_labels c.args.plan.now c.args.stored.now.bill)
 
 pub masses_of-requires-clause-codes : goal.masses_of-requires-clause-codes
 masses_of-requires-clause-codes g c =

@@ -7,4 +7,4 @@ pub returns : goal.returns
 unfolding material_text
 returns c =
     c.from-2.ensures ∙ rw c.into_bytes.ensures.value refl ∙ c.in_ok-push_compliance_line.ensures
-    ∙ rw (c.in_ok-breach.ensures.block c.args.material.now c.from.ensures, c.in_ok-breach.ensures.breach c.args.material.now c.from.ensures, c.in_ok-push_version_line.ensures, c.new-text.ensures.bytes, c.new-by.ensures) refl
+    ∙ rw (c.in_ok-breach.ensures.block c.args.material.now c.from.ensures, c.in_ok-breach.ensures.breach c.args.material.now c.from.ensures, c.in_ok-push_version_line.ensures, c.into_string-text.ensures, c.new-by.ensures) refl

@@ -7,8 +7,8 @@ use Rattle.desk_scratch.proofs.reach33.push_duty_line.Goals as goal
 
 pub returns : goal.returns
 unfolding duty_line
-returns c =
-    let t = c.args.bill.now in
+returns g c =
+    let t = (g.S.AnswerSource.lists c.args.source.now) in
     let article = c.args.article.now in
     let substance = c.args.substance.now in
     let old = string_bytes c.args.out.now in

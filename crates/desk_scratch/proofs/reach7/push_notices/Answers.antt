@@ -14,7 +14,7 @@ use Rattle.desk_scratch.proofs.reach7.push_notices.Goals as goal
 pub returns-clause-lines : goal.returns-clause-lines
 unfolding notices
 returns-clause-lines c =
-    let t = c.args.bill.now in
+    let t = c.args.tables.now.lists in
     let due = λ (candidate : CandidateRow). is_not_after candidate.day c.args.day && nat_lt TONNE (tonnage t c.args.year candidate.substance) in
     let old = string_bytes c.args.out.now in
     c.loop-candidate.invariant.lines
@@ -25,7 +25,7 @@ returns-clause-lines c =
 pub returns-clause-count : goal.returns-clause-count
 unfolding notices
 returns-clause-count c =
-    let t = c.args.bill.now in
+    let t = c.args.tables.now.lists in
     let due = λ (candidate : CandidateRow). is_not_after candidate.day c.args.day && nat_lt TONNE (tonnage t c.args.year candidate.substance) in
     c.loop-candidate.invariant.count
     ∙ ap (count_by due) (take_whole _ c.loop-candidate.candidate-index c.loop-candidate-test.false ∙ c.loop-candidate.invariant.same)

@@ -10,11 +10,12 @@ use Rattle.desk_scratch.proofs.reach7.push_notices.Given as goal
 
 abbrev pub invariant-loop-candidate : goal.invariant-loop-candidate
 invariant-loop-candidate l = record {
-  same : l.candidate-items ≡ l.bill.candidates;
+  place : l.place ≡ l.candidate-index;
+  same : l.candidate-items ≡ l.tables.lists.candidates;
   lines : string_bytes l.out
       ≡ string_bytes l.fn.out
-      ++ flat_map (λ candidate. if is_not_after candidate.day l.day && nat_lt TONNE (tonnage l.bill l.year candidate.substance) then notice_line l.bill l.year candidate else [])
+      ++ flat_map (λ candidate. if is_not_after candidate.day l.day && nat_lt TONNE (tonnage l.tables.lists l.year candidate.substance) then notice_line l.tables.lists l.year candidate else [])
       (take l.candidate-index l.candidate-items);
   bound : l.count ≤ l.candidate-index;
-  count : l.count ≡ count_by (λ candidate. is_not_after candidate.day l.day && nat_lt TONNE (tonnage l.bill l.year candidate.substance)) (take l.candidate-index l.candidate-items);
+  count : l.count ≡ count_by (λ candidate. is_not_after candidate.day l.day && nat_lt TONNE (tonnage l.tables.lists l.year candidate.substance)) (take l.candidate-index l.candidate-items);
 }

@@ -5,6 +5,6 @@ use Rattle.desk_scratch.proofs.reach7.reach7_text.Goals as goal
 
 pub returns : goal.returns
 unfolding reach7_text
-returns c =
+returns g c =
     c.from.ensures ∙ rw c.into_bytes.ensures.value refl ∙ c.in_ok-push_notice_count_line.ensures
-    ∙ rw (c.in_ok-count.ensures.lines, c.in_ok-count.ensures.count, c.in_ok-push_asked_year_line.ensures, c.in_ok-push_version_line.ensures, c.new-text.ensures.bytes, c.in_ok-bill.ensures) refl
+    ∙ rw (c.in_ok-count.ensures.lines, c.in_ok-count.ensures.count, c.in_ok-push_asked_year_line.ensures, c.in_ok-push_version_line.ensures, c.tables-tables.ensures.lists, c.into_string-text.ensures) refl

@@ -7,8 +7,8 @@ use Rattle.desk_tables.proofs.HeavyYears.{at_each}
 use Rattle.desk_scratch.proofs.summary.push_standings.Goals as goal
 
 pub push_standing-requires-clause-kept : goal.push_standing-requires-clause-kept
-push_standing-requires-clause-kept c =
-    let t = c.args.bill.now in
+push_standing-requires-clause-kept g c =
+    let t = g.S.AnswerSource.lists c.args.source.now in
     let names = names_of t c.tables.ensures.sound.consistent.names_kept in
     subst (λ row. is_part t row.part ≡ true) (sym c.product-item.is)
     (at_each (λ row. is_part t row.part ≡ true) c.products-product-items.result.now c.loop-product.product-index c.product-item.result

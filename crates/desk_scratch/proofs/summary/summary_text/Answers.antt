@@ -5,6 +5,6 @@ use Rattle.desk_scratch.proofs.summary.summary_text.Goals as goal
 
 pub returns : goal.returns
 unfolding summary_text
-returns c =
+returns g c =
     c.from.ensures ∙ rw c.into_bytes.ensures.value refl ∙ c.in_ok-push_standings.ensures
-    ∙ rw (c.in_ok-push_count_lines.ensures, c.in_ok-push_asked_day_line.ensures, c.in_ok-push_version_line.ensures, c.new-text.ensures.bytes, c.in_ok-bill.ensures) refl
+    ∙ rw (c.in_ok-push_count_lines.ensures, c.in_ok-push_asked_day_line.ensures, c.in_ok-push_version_line.ensures, c.tables-tables.ensures.lists, c.into_string-text.ensures) refl

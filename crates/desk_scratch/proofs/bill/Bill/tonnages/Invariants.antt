@@ -1,0 +1,10 @@
+-- The sums so far are those of the first candidates.
+use Rattle.std.proofs.Common.{◌≡◌, map, take}
+use Rattle.desk_findings.specs.Tonnage.{tonnage}
+use Rattle.desk_scratch.proofs.bill.Bill.tonnages.Given as goal
+
+abbrev pub invariant-loop-candidate : goal.invariant-loop-candidate
+invariant-loop-candidate l = record {
+  same : l.candidate-items ≡ l.self.candidates;
+  sums : l.sums.items ≡ map (λ candidate. tonnage l.self l.year candidate.substance) (take l.candidate-index l.candidate-items);
+}

@@ -1,0 +1,14 @@
+-- The loads so far are those of the first candidates that are carried.
+use Rattle.std.proofs.Common.{◌≡◌, ◌==◌, ◌∷◌, [], not, take}
+use Rattle.std.specs.Prelude.{if◌then◌else◌}
+use Rattle.std.specs.List.{flat_map}
+use Rattle.desk_findings.specs.Carried.{carried}
+use Rattle.desk_scratch.specs.LookUps.{load_of}
+use Rattle.desk_scratch.proofs.sub_bill.SubBill.loads_of.Given as goal
+
+abbrev pub invariant-loop-candidate : goal.invariant-loop-candidate
+invariant-loop-candidate l = record {
+  same : l.candidate-items ≡ l.self.lists.candidates;
+  list : l.list.items
+      ≡ flat_map (λ candidate. if not (carried l.self.lists candidate.substance l.part == 0) then load_of l.self.lists l.part candidate ∷ [] else []) (take l.candidate-index l.candidate-items);
+}
