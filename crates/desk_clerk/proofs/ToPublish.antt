@@ -1,4 +1,4 @@
--- What a press may be given, from the lists of a clerk.
+-- What a publication may be given, from the lists of a clerk.
 use Rattle.std.proofs.Common.{◌≡◌, ◌≢◌, ◌⊎◌, ℕ, ◌+◌, ◌<◌, ◌≤◌, ◌^◌, List, [], ◌∷◌, ◌++◌, Option, None, Some, refl, sym, ap, ◌∙◌, subst, inl, inr, arith, true, length, append-nil, append_assoc, length-append}
 use Rattle.std.specs.Prelude.{fold, is_some, not, Bool, false, OnErr, OnOk, Result, Ok, Err}
 use mathlib.Core.List.{IsPrefix}
@@ -67,7 +67,7 @@ added_by t made None None form a b =
 pub is_added_by : (t : Lists) (made : Edit) → is_edit_in_form made ≡ true → IsAddedBy t made
 is_added_by t made form = added_by t made (kept_number t made) (refused t made) form refl refl
 
--- where all that is accepted is published, and the published list begins what the press has, no edit is kept
+-- where all that is accepted is published, and the published list begins what the publication has, no edit is kept
 pub nothing_kept : (published whole : List Edit) (kept : Option Edit) → IsPrefix published whole → published ≡ whole ++ listed kept → kept ≡ None
 nothing_kept published whole None begins same = refl
 nothing_kept published whole (Some edit) begins same =

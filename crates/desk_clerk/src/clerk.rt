@@ -23,13 +23,13 @@ use crate::submit_fault::SubmitFault;
 use desk_edge::Keeper;
 use desk_engine::Engine;
 use desk_model::Edit;
-use desk_publish::{BlankBook, Naming, Press};
+use desk_publish::{BlankBook, Naming, Publication};
 use desk_text::OutOfMemory;
 use std::alloc::Global;
 use std::marker::Model;
 use std::sync::Wait;
 
-/// The one writer of a desk that others read meanwhile. An edit is kept in the store before it is published, and published before it is
+/// The one writer of a desk, which others may read meanwhile. An edit is kept in the store before it is published, and published before it is
 /// answered.
 ///
 /// Contracts see it as its desk with the store, and as two lists of the edits since it was opened: those that are published, and all
@@ -37,8 +37,8 @@ use std::sync::Wait;
 /// and which no memory was left to publish. It isn't `Drop`, since its end may wait: end it by `close`.
 pub struct Clerk<K: Keeper, J: Naming<DeskBoard>> {
     desk: StoredDesk<K>,
-    press: Press<DeskBoard, J>,
-    /// The edit that the store keeps and the press has yet to take.
+    publication: Publication<DeskBoard, J>,
+    /// The edit that the store keeps and the publication has yet to take.
     kept: Option<Edit>,
     /// Whether nothing waits to be published.
     is_published: bool,
@@ -54,12 +54,12 @@ impl<K: Keeper, J: Naming<DeskBoard>> Model for Clerk<K, J> {
 
     ghost Value = { Clerked K };
 
-    ghost view = { λ c. record { desk = c.desk; published = c.press.published; accepted = c.press.whole ++ listed c.kept } };
+    ghost view = { λ c. record { desk = c.desk; published = c.publication.published; accepted = c.publication.whole ++ listed c.kept } };
 
-    ghost invariant = { λ c. IsHistory (list_from (lists_of J.opening.engine) (c.press.whole ++ listed c.kept))
-        × (tables_of c.desk ≡ after (list_from (lists_of J.opening.engine) (c.press.whole ++ listed c.kept)))
-        × IsPrefix c.press.published c.press.whole
-        × (c.is_published ≡ true → c.press.published ≡ c.press.whole ++ listed c.kept) };
+    ghost invariant = { λ c. IsHistory (list_from (lists_of J.opening.engine) (c.publication.whole ++ listed c.kept))
+        × (tables_of c.desk ≡ after (list_from (lists_of J.opening.engine) (c.publication.whole ++ listed c.kept)))
+        × IsPrefix c.publication.published c.publication.whole
+        × (c.is_published ≡ true → c.publication.published ≡ c.publication.whole ++ listed c.kept) };
 }
 
 impl<K: Keeper, J: Naming<DeskBoard>> Clerk<K, J> {
@@ -87,10 +87,10 @@ impl<K: Keeper, J: Naming<DeskBoard>> Clerk<K, J> {
     {
         desk.tables();
         match open_press(rt, alloc, blank, desk.engine(), seats) {
-            Ok((press, seats)) => Ok(Opened {
+            Ok((publication, seats)) => Ok(Opened {
                 clerk: Clerk {
                     desk,
-                    press,
+                    publication,
                     kept: None,
                     is_published: true,
                 },
@@ -100,6 +100,26 @@ impl<K: Keeper, J: Naming<DeskBoard>> Clerk<K, J> {
                 fault: OpenFault::OutOfMemory,
                 keeper: desk.close(),
             }),
+        }
+    }
+
+    /// Opens a desk to one writer beside whom nobody reads. The list begins with no edit. No board is made, and no memory is taken.
+    ///
+    /// The book is a new one, and the name is picked for it and for the tables of the desk.
+    pub fn open_alone(blank: BlankBook<DeskBoard>, desk: StoredDesk<K>) -> Clerk<K, J>
+        requires book { blank ≡ J.book }
+        requires opening { lists_of J.opening.engine ≡ tables_of desk }
+        ensures desk { result.desk ≡ desk }
+        ensures list { (result.published ≡ []) × (result.accepted ≡ []) }
+    {
+        // The call says that the tables are sound.
+        desk.tables();
+        let publication = Publication::to_nobody(blank, desk.number());
+        Clerk {
+            desk,
+            publication,
+            kept: None,
+            is_published: true,
         }
     }
 
@@ -185,7 +205,7 @@ impl<K: Keeper, J: Naming<DeskBoard>> Clerk<K, J> {
         if self.is_published {
             return Ok(());
         }
-        publish_kept(rt, &mut self.press, &mut self.kept)?;
+        publish_kept(rt, &mut self.publication, &mut self.kept)?;
         self.is_published = true;
         Ok(())
     }
@@ -195,7 +215,7 @@ impl<K: Keeper, J: Naming<DeskBoard>> Clerk<K, J> {
         ensures told { result.list ≡ self.old.published }
         ensures kept { self.new ≡ self.old }
     {
-        self.press.tell()
+        self.publication.tell()
     }
 
     /// The engine, whose tables are those after the whole list. It takes no memory.
@@ -222,11 +242,11 @@ impl<K: Keeper, J: Naming<DeskBoard>> Clerk<K, J> {
     {
         let Clerk {
             desk,
-            press,
+            publication,
             kept: _,
             is_published: _,
         } = self;
-        press.close(rt);
+        publication.close(rt);
         desk.close()
     }
 }

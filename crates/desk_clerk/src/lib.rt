@@ -19,11 +19,12 @@ mod stored_desk;
 mod submit_fault;
 
 pub use accepted::Accepted;
-pub use board::{DeskBoard, DeskState};
+pub use board::{DeskBoard, DeskState, absorb_into};
 pub use clerk::Clerk;
 pub use desk_seat::{DeskNews, DeskSeat};
 pub use open_fault::OpenFault;
 pub use open_refused::OpenRefused;
 pub use opened::Opened;
+pub use opening::start_engine;
 pub use stored_desk::StoredDesk;
 pub use submit_fault::SubmitFault;

@@ -77,7 +77,7 @@ fn put_start<K: Keeper>(alloc: Global, keeper: &mut K) -> Result<Engine, OpenFau
 }
 
 /// An engine of the start tables, which are sound.
-fn start_engine(alloc: Global) -> Result<Engine, OutOfMemory>
+pub fn start_engine(alloc: Global) -> Result<Engine, OutOfMemory>
     ensures start { IfOk result (λ engine. lists_of engine ≡ start) }
     ensures sound { IfOk result (λ engine. Sound (lists_of engine)) }
 {

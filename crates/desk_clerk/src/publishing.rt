@@ -1,4 +1,4 @@
-//! What a clerk does with its press and its desk, over these alone.
+//! What a clerk does with its publication and its desk, over these alone.
 ghost use Rattle.std.specs.Prelude.{◌≡◌, ◌≢◌, ◌≤◌, ◌++◌, ℕ, [], All, Ok, Err, None, Some, is_ok, true, length, IfOk, IsErrOf, OnOk, OnErr};
 ghost use mathlib.Core.List.{IsPrefix};
 ghost use Rattle.desk_clerk.specs.Clerk.{list_from, tables_of};
@@ -19,31 +19,31 @@ use crate::submit_fault::SubmitFault;
 use desk_edge::Keeper;
 use desk_engine::Engine;
 use desk_model::Edit;
-use desk_publish::{BlankBook, Naming, Press, open_board};
+use desk_publish::{BlankBook, Naming, Publication, open_board};
 use desk_text::OutOfMemory;
 use std::alloc::Global;
 use std::mem::{drop, replace};
 use std::sync::Wait;
 
-/// A press and seats at two boards of the engine's tables, with no entry yet.
+/// A publication to seats at two boards of the engine's tables, with no entry yet.
 pub(crate) fn open_press<J: Naming<DeskBoard>, R: Wait>(
     rt: &R,
     alloc: Global,
     blank: BlankBook<DeskBoard>,
     engine: &Engine,
     seats: usize,
-) -> Result<(Press<DeskBoard, J>, Vec<DeskSeat<J>>), OutOfMemory>
+) -> Result<(Publication<DeskBoard, J>, Vec<DeskSeat<J>>), OutOfMemory>
     requires book { blank ≡ J.book }
     requires opening { lists_of J.opening.engine ≡ lists_of engine.now }
     requires seats { (1 ≤ seats) × (seats ≤ 8) }
-    ensures press { IfOk result (λ t. t.0 ≡ record { published = []; whole = [] }) }
+    ensures lists { IfOk result (λ t. t.0 ≡ record { published = []; whole = [] }) }
     ensures count { IfOk result (λ t. length t.1.items ≡ seats) }
     ensures seats { IfOk result (λ t. All (λ seat. seat ≡ record { list = []; is_sure = true }) t.1.items) }
 {
     let first = DeskBoard::new(engine.copied(alloc)?);
     let second = DeskBoard::new(engine.copied(alloc)?);
     match open_board::<DeskBoard, J, R>(rt, alloc, blank, first, second, seats) {
-        Ok(opened) => Ok(opened),
+        Ok((press, seats)) => Ok((Publication::to_seats(press), seats)),
         Err(_) => Err(OutOfMemory),
     }
 }
@@ -51,35 +51,35 @@ pub(crate) fn open_press<J: Naming<DeskBoard>, R: Wait>(
 /// Puts the edit that is kept, if there is one, and publishes all that is put. Where there is no memory for that, it still waits.
 pub(crate) fn publish_kept<J: Naming<DeskBoard>, R: Wait>(
     rt: &R,
-    press: &mut Press<DeskBoard, J>,
+    publication: &mut Publication<DeskBoard, J>,
     kept: &mut Option<Edit>,
 ) -> Result<(), OutOfMemory>
-    requires { IsHistory (list_from (lists_of J.opening.engine) (press.old.whole ++ listed kept.old)) }
-    ensures list { press.new.whole ++ listed kept.new ≡ press.old.whole ++ listed kept.old }
-    ensures begins { IsPrefix press.new.published press.new.whole }
-    ensures published { OnOk result (press.new.published ≡ press.new.whole ++ listed kept.new) }
-    ensures stays { OnErr result (press.new.published ≡ press.old.published) }
+    requires { IsHistory (list_from (lists_of J.opening.engine) (publication.old.whole ++ listed kept.old)) }
+    ensures list { publication.new.whole ++ listed kept.new ≡ publication.old.whole ++ listed kept.old }
+    ensures begins { IsPrefix publication.new.published publication.new.whole }
+    ensures published { OnOk result (publication.new.published ≡ publication.new.whole ++ listed kept.new) }
+    ensures stays { OnErr result (publication.new.published ≡ publication.old.published) }
 {
-    let is_done = put_kept(press, kept).is_ok() && press.settle(rt).is_ok();
+    let is_done = put_kept(publication, kept).is_ok() && publication.settle(rt).is_ok();
     // The call says that what is published begins the whole list.
-    press.number();
+    publication.number();
     if is_done { Ok(()) } else { Err(OutOfMemory) }
 }
 
 /// Puts the edit that is kept, if there is one. Where there is no memory for that, it is still kept.
 fn put_kept<J: Naming<DeskBoard>>(
-    press: &mut Press<DeskBoard, J>,
+    publication: &mut Publication<DeskBoard, J>,
     kept: &mut Option<Edit>,
 ) -> Result<(), OutOfMemory>
-    requires { IsHistory (list_from (lists_of J.opening.engine) (press.old.whole ++ listed kept.old)) }
-    ensures list { press.new.whole ++ listed kept.new ≡ press.old.whole ++ listed kept.old }
-    ensures published { press.new.published ≡ press.old.published }
+    requires { IsHistory (list_from (lists_of J.opening.engine) (publication.old.whole ++ listed kept.old)) }
+    ensures list { publication.new.whole ++ listed kept.new ≡ publication.old.whole ++ listed kept.old }
+    ensures published { publication.new.published ≡ publication.old.published }
     ensures ok { OnOk result (kept.new ≡ None) }
 {
     let Some(edit) = kept.take() else {
         return Ok(());
     };
-    match press.put(edit) {
+    match publication.put(edit) {
         Ok(()) => Ok(()),
         Err(refused) => {
             *kept = Some(refused.entry);
@@ -88,7 +88,7 @@ fn put_kept<J: Naming<DeskBoard>>(
     }
 }
 
-/// Judges an edit where none is kept, has the store keep it and makes it in the tables. It is kept for the press where it is new.
+/// Judges an edit where none is kept, has the store keep it and makes it in the tables. It is kept to be published where it is new.
 pub(crate) fn take_into<K: Keeper>(
     alloc: Global,
     desk: &mut StoredDesk<K>,

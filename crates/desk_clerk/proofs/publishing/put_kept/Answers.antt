@@ -9,10 +9,10 @@ use Rattle.desk_clerk.proofs.publishing.put_kept.Goals as goal
 
 pub put-requires-clause-one : goal.put-requires-clause-one
 put-requires-clause-one g c =
-    adds_one (lists_of g.J.Naming.opening.engine) c.args.press.now.whole c.in-Some.edit
-    (subst (λ kept. IsHistory (list_from (lists_of g.J.Naming.opening.engine) (c.args.press.now.whole ++ listed kept))) (sym c.take.ensures.value ∙ c.in-Some.is) c.requires)
+    adds_one (lists_of g.J.Naming.opening.engine) c.args.publication.now.whole c.in-Some.edit
+    (subst (λ kept. IsHistory (list_from (lists_of g.J.Naming.opening.engine) (c.args.publication.now.whole ++ listed kept))) (sym c.take.ensures.value ∙ c.in-Some.is) c.requires)
 
 pub put-requires-clause-fits : goal.put-requires-clause-fits
 put-requires-clause-fits g c =
-    stays_small (lists_of g.J.Naming.opening.engine) c.args.press.now.whole c.in-Some.edit
-    (subst (λ kept. IsHistory (list_from (lists_of g.J.Naming.opening.engine) (c.args.press.now.whole ++ listed kept))) (sym c.take.ensures.value ∙ c.in-Some.is) c.requires)
+    stays_small (lists_of g.J.Naming.opening.engine) c.args.publication.now.whole c.in-Some.edit
+    (subst (λ kept. IsHistory (list_from (lists_of g.J.Naming.opening.engine) (c.args.publication.now.whole ++ listed kept))) (sym c.take.ensures.value ∙ c.in-Some.is) c.requires)

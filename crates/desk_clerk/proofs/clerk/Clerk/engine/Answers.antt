@@ -1,4 +1,4 @@
--- What is published begins the press's list, and that begins all that is accepted.
+-- What is published begins the publication's list, and that begins all that is accepted.
 use Rattle.std.proofs.Common.{refl, subst, ◌++◌}
 use mathlib.Core.List.{IsPrefix}
 use Rattle.desk_clerk.specs.Published.{listed}
@@ -7,6 +7,6 @@ use Rattle.desk_clerk.proofs.clerk.Clerk.engine.Goals as goal
 
 pub returns-clause-begins : goal.returns-clause-begins
 returns-clause-begins g c =
-    let press = c.self.inside.press in
+    let publication = c.self.inside.publication in
     subst (λ clerk. IsPrefix clerk.published clerk.accepted) c.self.view_is
-    (prefix_trans press.published press.whole (press.whole ++ listed c.self.inside.kept) c.self.invariant.2 (listed c.self.inside.kept, refl))
+    (prefix_trans publication.published publication.whole (publication.whole ++ listed c.self.inside.kept) c.self.invariant.2 (listed c.self.inside.kept, refl))
