@@ -1,6 +1,6 @@
-mod Blank
 mod Imports
 mod Input
+mod KeptBodies
 mod Memory
 mod Numbered
 mod ServedOver

@@ -3,6 +3,7 @@ pub mod Check
 pub mod Console
 pub mod Faults
 pub mod Import
+pub mod KeptBodies
 pub mod Reports
 pub mod Run
 pub mod Sample

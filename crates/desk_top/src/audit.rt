@@ -40,7 +40,7 @@ pub fn answer_audit<L: Link, S: Shelf>(
         Ok(desk) => desk,
         Err(status) => return status,
     };
-    let status = answer_summary(alloc, desk.tables(), asked.day, console);
+    let status = answer_summary(alloc, desk.engine(), asked.day, console);
     shelf.close_store(name, desk.close());
     status
 }

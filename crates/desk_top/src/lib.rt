@@ -5,6 +5,7 @@ mod audit;
 mod check;
 mod export;
 mod import;
+mod kept_bodies;
 mod limited_doors;
 mod opened_store;
 mod program;

@@ -1,7 +1,8 @@
-ghost use Rattle.std.specs.Prelude.{◌≡◌, ◌⊎◌, ◌≤◌, [], ◌∷◌, IfOk, OnOk};
+ghost use Rattle.std.specs.Prelude.{◌≡◌, ◌⊎◌, ◌≤◌, IfOk, OnOk};
 ghost use Rattle.desk_edge.specs.Faults.{Rose};
+ghost use Rattle.desk_engine.specs.Engine.{lists_of};
 ghost use Rattle.desk_history.specs.History.{tables_after};
-ghost use Rattle.desk_history.specs.Sound.{Sound};
+ghost use Rattle.desk_history.specs.Step.{step};
 ghost use Rattle.desk_model.specs.Start.{start};
 ghost use Rattle.desk_sample.specs.Sample.{sample_edits};
 ghost use Rattle.desk_top.specs.Answer.{Answers, status_code};
@@ -11,9 +12,11 @@ ghost use Rattle.desk_words.specs.Commands.{sample_limit};
 use crate::status::Status;
 use crate::summary::answer_summary;
 use crate::tell::answer_no_memory;
+use desk_clerk::{absorb_into, start_engine};
 use desk_edge::Link;
+use desk_engine::Engine;
+use desk_model::Edit;
 use desk_sample::sample;
-use desk_tables::{Edit, EditFault, Tables};
 use desk_text::{Day, OutOfMemory};
 use desk_words::Sample;
 use std::alloc::Global;
@@ -32,35 +35,31 @@ pub fn answer_sample<L: Link>(alloc: Global, asked: &Sample, console: &mut L) ->
     ensures no_fault { result ≡ Status.Done → L.faults console.new ≡ L.faults console.old }
     ensures never_falls { L.faults console.old ≤ L.faults console.new }
 {
-    match sample_tables(alloc, asked.size) {
-        Ok(tables) => answer_summary(alloc, &tables, Day::new(2024, 7, 22), console),
+    match sample_engine(alloc, asked.size) {
+        Ok(engine) => answer_summary(alloc, &engine, Day::new(2024, 7, 22), console),
         Err(_) => answer_no_memory(console),
     }
 }
 
-/// The start tables after the edits of a sample of this size, each tried in turn.
-fn sample_tables(alloc: Global, size: u32) -> Result<Tables, OutOfMemory>
+/// An engine of the start tables after the edits of a sample of this size, each tried in turn.
+fn sample_engine(alloc: Global, size: u32) -> Result<Engine, OutOfMemory>
     requires least { 1 ≤ size }
     requires greatest { size ≤ sample_limit }
-    ensures lists { IfOk result (λ tables. tables.lists ≡ tables_after start (sample_edits size)) }
-    ensures sound { IfOk result (λ tables. Sound tables.lists) }
+    ensures { IfOk result (λ engine. lists_of engine ≡ tables_after start (sample_edits size)) }
 {
-    let mut tables = Tables::start(alloc)?;
+    let mut engine = start_engine(alloc)?;
     for edit in sample(alloc, u64::from(size))? {
-        try_edit(alloc, &mut tables, edit)?;
+        try_edit(alloc, &mut engine, edit)?;
     }
-    Ok(tables)
+    Ok(engine)
 }
 
 /// Takes an edit, unless a rule refuses it.
-fn try_edit(alloc: Global, tables: &mut Tables, edit: Edit) -> Result<(), OutOfMemory>
-    requires { Sound tables.old.lists }
-    ensures lists { OnOk result (tables.new.lists ≡ tables_after tables.old.lists (edit ∷ [])) }
-    ensures sound { Sound tables.new.lists }
+fn try_edit(alloc: Global, engine: &mut Engine, edit: Edit) -> Result<(), OutOfMemory>
+    ensures { OnOk result (lists_of engine.new ≡ (step (lists_of engine.old) edit).1) }
 {
-    match tables.accept(alloc, edit) {
-        Ok(_) => Ok(()),
-        Err(EditFault::Rule(_)) => Ok(()),
-        Err(EditFault::OutOfMemory) => Err(OutOfMemory),
+    match absorb_into(engine, alloc, &edit) {
+        Ok(()) => Ok(()),
+        Err(_) => Err(OutOfMemory),
     }
 }

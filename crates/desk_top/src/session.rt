@@ -15,7 +15,7 @@ use crate::status::Status;
 use crate::store::{open_desk, open_keeper};
 use crate::sure_keeper::SureKeeper;
 use crate::tell::answer_no_memory;
-use desk_clerk::{Clerk, DeskBoard, Opened, StoredDesk};
+use desk_clerk::{Clerk, DeskBoard, StoredDesk};
 use desk_edge::{Keeper, Link, Shelf};
 use desk_front::{Served, serve_alone};
 use desk_publish::{BlankBook, Naming};
@@ -143,23 +143,14 @@ fn serve_named<R: Wait + Sync, L: Link, K: Keeper, J: Naming<DeskBoard>>(
 {
     // The call says that the tables are sound.
     desk.tables();
-    match Clerk::<K, J>::open(rt, alloc, blank, desk, 1) {
-        Ok(
-            Opened {
-                mut clerk,
-                seats: _,
-            },
-        ) => {
-            let served = serve_alone(rt, alloc, &mut clerk, link);
-            let keeper = clerk.close(rt);
-            match served {
-                Served::Ended => (Status::Done, keeper),
-                Served::Cut => (Status::Refused, keeper),
-                Served::TooLong => (Status::Refused, keeper),
-                Served::LinkFault => (Status::ConsoleFault, keeper),
-                Served::OutOfMemory => (answer_no_memory(link), keeper),
-            }
-        }
-        Err(refused) => (answer_no_memory(link), refused.keeper),
+    let mut clerk = Clerk::<K, J>::open_alone(blank, desk);
+    let served = serve_alone(rt, alloc, &mut clerk, link);
+    let keeper = clerk.close(rt);
+    match served {
+        Served::Ended => (Status::Done, keeper),
+        Served::Cut => (Status::Refused, keeper),
+        Served::TooLong => (Status::Refused, keeper),
+        Served::LinkFault => (Status::ConsoleFault, keeper),
+        Served::OutOfMemory => (answer_no_memory(link), keeper),
     }
 }

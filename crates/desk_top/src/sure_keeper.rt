@@ -1,34 +1,40 @@
 ghost use Rattle.std.specs.Prelude.{◌≡◌, []};
-ghost use Rattle.desk_edge.specs.Stores.{blank, content_of};
+ghost use Rattle.desk_top.specs.KeptBodies.{kept_in};
 
-use desk_edge::{Change, KeepFault, Keeper, Key, MapKeeper, Record};
+use crate::kept_bodies::{
+    clear_all, first_past, keys_of, make_room, put_all, ready_all, record_of,
+};
+use desk_edge::{Change, KeepFault, Keeper, Key, Record};
+use desk_text::Bytes;
 use std::alloc::Global;
+use std::collections::BTreeMap;
 use std::marker::Model;
 
 /// A keeper in memory that never fails: what a session keeps its records in that is given no store.
+///
+/// It keeps them in a tree, in which a call takes a few searches for each change.
 #[derive(Debug, Drop)]
 pub struct SureKeeper {
-    keeper: MapKeeper,
+    bodies: BTreeMap<Key, Option<Bytes>>,
 }
 
 impl Model for SureKeeper {
-    ghost use Rattle.std.specs.Prelude.{◌≡◌, []};
-    ghost use Rattle.desk_edge.specs.Stores.{Kept};
+    ghost use Rattle.desk_top.specs.KeptBodies.{Bodies, IsClear};
 
-    ghost Value = { Kept };
+    ghost Value = { Bodies };
 
-    ghost view = { λ k. k.keeper };
+    ghost view = { λ k. k.bodies.entries };
 
-    ghost invariant = { λ k. (k.keeper.failing ≡ []) × (k.keeper.faults ≡ 0) };
+    ghost invariant = { λ k. IsClear k.bodies.entries };
 }
 
 impl SureKeeper {
     /// A keeper of nothing. It takes no memory.
     pub fn new(alloc: Global) -> SureKeeper
-        ensures { result ≡ blank }
+        ensures { result ≡ [] }
     {
         SureKeeper {
-            keeper: MapKeeper::new(Vec::new(alloc), Vec::new(alloc)),
+            bodies: BTreeMap::new(alloc),
         }
     }
 }
@@ -41,17 +47,28 @@ impl Keeper for SureKeeper {
 
     ghost Tells = { λ _. Unit {0} };
 
-    ghost content = { content_of };
+    ghost content = { kept_in };
 
     fn next_record(
         &mut self,
         alloc: Global,
         after: Option<&Key>,
     ) -> Result<Option<Record>, KeepFault> {
-        self.keeper.next_record(alloc, after)
+        match first_past(&self.bodies, after) {
+            Some((key, body)) => Ok(Some(record_of(alloc, key, body)?)),
+            None => Ok(None),
+        }
     }
 
     fn commit(&mut self, alloc: Global, batch: &[Change]) -> Result<(), KeepFault> {
-        self.keeper.commit(alloc, batch)
+        let changes = ready_all(alloc, batch)?;
+        let keys = keys_of(alloc, changes.as_slice())?;
+        if let Err(fault) = make_room(alloc, &mut self.bodies, keys.as_slice()) {
+            clear_all(&mut self.bodies, keys.as_slice());
+            return Err(fault.into());
+        }
+        put_all(&mut self.bodies, changes);
+        clear_all(&mut self.bodies, keys.as_slice());
+        Ok(())
     }
 }

@@ -12,13 +12,13 @@ returns-clause-stored g c = rw (← c.as_slice-name.ensures) (
     tables_of c.in-Ok.desk,
     (λ tells. c.in-Ok.ensures.opened (rw c.close.ensures.keeper at (c.close_store.ensures.kept tells).0)),
     record {
-      sound = c.tables.ensures.sound;
+      sound = c.engine.ensures.sound;
       unread = keeps_of _ _ (c.answer_summary-status.ensures.input_stays ∙ ap g.L.Link.unread c.in-Ok.ensures.untouched);
       closed = λ tells. same_trans (tables_content (tables_of c.in-Ok.desk)) (g.S.Store.Keeper.content c.close.result)
           (g.S.Shelf.content c.close_store.new.self c.as_slice-name.result.now)
           (c.close.ensures.kept (c.close_store.ensures.kept tells).0) (c.close_store.ensures.kept tells).1;
     },
-    rw c.in-Ok.ensures.untouched at (rw c.tables.ensures.lists at c.answer_summary-status.ensures.answer),
+    rw c.in-Ok.ensures.untouched at (rw c.engine.ensures.engine at c.answer_summary-status.ensures.answer),
   ),
   (λ tells. c.in-Ok.ensures.told (rw c.close.ensures.keeper at (c.close_store.ensures.kept tells).0)),
   (λ some. rw (← c.in-Ok.ensures.counted) (c.close_store.ensures.rises some)),

@@ -39,8 +39,8 @@ returns-in-Ended-clause-served g c =
     inl (
       served.Ended,
       refl,
-      was_served g.K.Keeper.Tells g.K.Keeper.content g.K.Keeper.faults c.args.desk c.in-Ok.field-0.clerk c.serve_alone-served.new.clerk c.close-keeper.result served.Ended _
-          c.tables.ensures.sound c.requires.fresh c.in-Ok.ensures.desk c.close-keeper.ensures.keeper c.close-keeper.ensures.kept (c.in-Ended.ensures.served (search rules)),
+      was_served g.K.Keeper.Tells g.K.Keeper.content g.K.Keeper.faults c.args.desk c.open_alone-clerk.result c.serve_alone-served.new.clerk c.close-keeper.result served.Ended _
+          c.tables.ensures.sound c.requires.fresh c.open_alone-clerk.ensures.desk c.close-keeper.ensures.keeper c.close-keeper.ensures.kept (c.in-Ended.ensures.served (search rules)),
     )
 
 pub returns-in-Cut-clause-served : goal.returns-in-Cut-clause-served
@@ -48,8 +48,8 @@ returns-in-Cut-clause-served g c =
     inl (
       served.Cut,
       refl,
-      was_served g.K.Keeper.Tells g.K.Keeper.content g.K.Keeper.faults c.args.desk c.in-Ok.field-0.clerk c.serve_alone-served.new.clerk c.close-keeper.result served.Cut _
-          c.tables.ensures.sound c.requires.fresh c.in-Ok.ensures.desk c.close-keeper.ensures.keeper c.close-keeper.ensures.kept (c.in-Cut.ensures.served (search rules)),
+      was_served g.K.Keeper.Tells g.K.Keeper.content g.K.Keeper.faults c.args.desk c.open_alone-clerk.result c.serve_alone-served.new.clerk c.close-keeper.result served.Cut _
+          c.tables.ensures.sound c.requires.fresh c.open_alone-clerk.ensures.desk c.close-keeper.ensures.keeper c.close-keeper.ensures.kept (c.in-Cut.ensures.served (search rules)),
     )
 
 pub returns-in-TooLong-clause-served : goal.returns-in-TooLong-clause-served
@@ -57,8 +57,8 @@ returns-in-TooLong-clause-served g c =
     inl (
       served.TooLong,
       refl,
-      was_served g.K.Keeper.Tells g.K.Keeper.content g.K.Keeper.faults c.args.desk c.in-Ok.field-0.clerk c.serve_alone-served.new.clerk c.close-keeper.result served.TooLong _
-          c.tables.ensures.sound c.requires.fresh c.in-Ok.ensures.desk c.close-keeper.ensures.keeper c.close-keeper.ensures.kept (c.in-TooLong.ensures.served (search rules)),
+      was_served g.K.Keeper.Tells g.K.Keeper.content g.K.Keeper.faults c.args.desk c.open_alone-clerk.result c.serve_alone-served.new.clerk c.close-keeper.result served.TooLong _
+          c.tables.ensures.sound c.requires.fresh c.open_alone-clerk.ensures.desk c.close-keeper.ensures.keeper c.close-keeper.ensures.kept (c.in-TooLong.ensures.served (search rules)),
     )
 
 pub returns-in-LinkFault-clause-served : goal.returns-in-LinkFault-clause-served
@@ -66,26 +66,17 @@ returns-in-LinkFault-clause-served g c =
     inl (
       served.LinkFault,
       refl,
-      was_served g.K.Keeper.Tells g.K.Keeper.content g.K.Keeper.faults c.args.desk c.in-Ok.field-0.clerk c.serve_alone-served.new.clerk c.close-keeper.result served.LinkFault _
-          c.tables.ensures.sound c.requires.fresh c.in-Ok.ensures.desk c.close-keeper.ensures.keeper c.close-keeper.ensures.kept (c.in-LinkFault.ensures.served (search rules)),
+      was_served g.K.Keeper.Tells g.K.Keeper.content g.K.Keeper.faults c.args.desk c.open_alone-clerk.result c.serve_alone-served.new.clerk c.close-keeper.result served.LinkFault _
+          c.tables.ensures.sound c.requires.fresh c.open_alone-clerk.ensures.desk c.close-keeper.ensures.keeper c.close-keeper.ensures.kept (c.in-LinkFault.ensures.served (search rules)),
     )
 
 pub returns-in-OutOfMemory-clause-served : goal.returns-in-OutOfMemory-clause-served
 returns-in-OutOfMemory-clause-served g c =
     let nothing = c.serve_alone-served.ensures.nothing c.in-OutOfMemory.is in
-    let same : c.serve_alone-served.new.clerk.desk ≡ c.args.desk = ap (λ clerk. clerk.desk) nothing.0 ∙ c.in-Ok.ensures.desk in
+    let same : c.serve_alone-served.new.clerk.desk ≡ c.args.desk = ap (λ clerk. clerk.desk) nothing.0 ∙ c.open_alone-clerk.ensures.desk in
     inr (
       c.answer_no_memory.ensures.status,
       (λ tells. rw same at (c.close-keeper.ensures.kept tells)),
       keeps_of _ _ (c.answer_no_memory.ensures.input_stays ∙ ap g.L.Link.unread nothing.1),
       rw nothing.1 at c.answer_no_memory.ensures.answer,
-    )
-
-pub returns-in-Err-clause-served : goal.returns-in-Err-clause-served
-returns-in-Err-clause-served g c =
-    inr (
-      c.answer_no_memory-in-Err.ensures.status,
-      c.in-Err.ensures.kept,
-      keeps_of _ _ c.answer_no_memory-in-Err.ensures.input_stays,
-      c.answer_no_memory-in-Err.ensures.answer,
     )
