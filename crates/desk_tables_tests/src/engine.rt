@@ -1,5 +1,6 @@
 //! The engine beside plain tables: each edit is answered alike, whatever the edits before it.
 
+use crate::answers::are_answered_alike;
 use crate::helpers::edit_of;
 use desk_engine::Engine;
 use desk_model::Edit;
@@ -61,13 +62,15 @@ fn is_answered_alike(twice: &mut Twice, alloc: Global, edit: Edit) -> Result<boo
     Ok(is_taken)
 }
 
-/// Fails unless an engine that is made anew of the tables answers the edit as the one that took all edits before it.
+/// Fails unless an engine that is made anew of the tables answers the edit as the one that took all edits before it, and this one answers
+/// each question as the tables do.
 fn is_answered_anew(twice: &Twice, alloc: Global, edit: &Edit) -> Result<(), Fail> {
     let mut anew = Engine::from_tables(alloc, twice.tables.copied(alloc)?)?;
     let mut copy = twice.engine.copied(alloc)?;
     let by_anew = told(alloc, enter(&mut anew, alloc, edit))?;
     let by_copy = told(alloc, enter(&mut copy, alloc, edit))?;
-    expect_eq(&by_copy.as_str(), &by_anew.as_str())
+    expect_eq(&by_copy.as_str(), &by_anew.as_str())?;
+    are_answered_alike(alloc, &twice.engine, &twice.tables)
 }
 
 /// Enters the edits, and tells how many were taken.
@@ -87,7 +90,8 @@ fn a_sample_is_answered_as_plain_tables_answer_it(rt: HostRuntime) -> Result<(),
     let mut twice = start(alloc)?;
     let edits = sample(alloc, 30)?;
     let count = edits.len();
-    expect_eq(&enter_all(&mut twice, alloc, edits)?, &count)
+    expect_eq(&enter_all(&mut twice, alloc, edits)?, &count)?;
+    are_answered_alike(alloc, &twice.engine, &twice.tables)
 }
 
 /// The number behind a number, as a simple generator goes.
@@ -145,7 +149,8 @@ fn random_edit(alloc: Global, place: u64, number: u64) -> Result<Edit, Fail> {
     edit_of(alloc, code.as_str(), fields.as_str())
 }
 
-/// Enters random edits, so many, and tells how many were taken. After each hundredth an engine that is made anew answers as this one.
+/// Enters random edits, so many, and tells how many were taken. After each hundredth an engine that is made anew answers as this one,
+/// and each question is answered as by the tables.
 fn enter_random(twice: &mut Twice, alloc: Global, count: u64) -> Result<usize, Fail> {
     let mut number = 1;
     let mut taken = 0usize;
