@@ -5,7 +5,7 @@ use Rattle.std.proofs.lemmas.Bool.{cases_Bool, cases_lt, eqb-true, or_cases, tru
 use Rattle.desk_graph.specs.declared.line.BillLine.{BillLine}
 use Rattle.desk_graph.specs.Graph.{Graph, label_of, lines_of as node_lines}
 use Rattle.desk_graph.specs.Reaches.{has_node, is_affected as is_affected_node, is_or_reaches as node_is_or_reaches, reaches as node_reaches}
-use Rattle.desk_graph.proofs.Reached.{affected-seed, any_node-out, same_test}
+use Rattle.desk_graph.proofs.Reached.{any_node-out, same_test}
 use Rattle.desk_rollup.proofs.Lists.{each_line, is_found}
 use Rattle.desk_rollup.proofs.OneNode.{step_stays}
 use Rattle.desk_rollup.specs.Plan.{CanPrepare, nodes_of}
@@ -20,18 +20,17 @@ use Rattle.desk_findings.specs.Mass.{own_mass}
 use Rattle.desk_findings.specs.Reaches.{lines_of}
 use Rattle.desk_findings.proofs.Loads.{carried-le}
 use Rattle.desk_history.specs.Affected.{is_affected}
-use Rattle.desk_history.specs.Laws.{Stays}
 use Rattle.desk_history.specs.Sound.{IsConsistent}
 use Rattle.desk_history.proofs.SoundSteps.{IsConsistent-entered}
 use Rattle.desk_history.proofs.AffectedAbove.{rises}
-use Rattle.desk_history.proofs.Unaffected.{stays}
 use Rattle.desk_findings.specs.Bill.{IsRight}
 use Rattle.desk_findings.specs.Numbering.{has_numbered}
 use Rattle.desk_bridge.specs.Bridge.{IsBridge}
 use Rattle.desk_bridge.proofs.Bridges.{ends_alike, ends_at, ends_of, labels_of, right_tables}
-use Rattle.desk_bridge.specs.AfterEdit.{AreOwnOf, IsEdited, IsOwnOf}
+use Rattle.desk_bridge.specs.AfterEdit.{AreOwnOf, IsEdited, IsOwnOf, KeepsOwn}
 use Rattle.desk_bridge.proofs.RolledAlike.{reached_agree, rolled_agree}
 use Rattle.desk_bridge.proofs.Hops.{label_kept}
+use Rattle.desk_bridge.proofs.SeedNodes.{into_nodes}
 use Rattle.desk_findings.proofs.Numbering.{label_place}
 
 none_of : {X : Type 0} (o : Option X) → is_some o ≡ false → o ≡ None
@@ -93,23 +92,20 @@ module _ (t : Lists) (edit : Edit) (g new : Graph) (kept : Kept) (owns : List Ow
       same_test (is_affected_node new.lines (nodes_of owns) node) (is_affected t edit (label_of new.labels node))
       (λ e.
       let found = any_node-out (λ seed. node_is_or_reaches new.lines node seed) (nodes_of owns) e in
-      let at = edited.inside found.0 found.1 in
-      let seed : is_affected t edit (label_of new.labels found.0) ≡ true = sym (edited.affected found.0 at) ∙ found.1 in
+      let at = edited.renewed.inside found.0 found.1 in
+      let seed : is_affected t edit (label_of new.labels found.0) ≡ true = edited.renewed.affected found.0 found.1 in
       elim (or_cases (node == found.0) (node_reaches new.lines node found.0) found.2) [
         | inl here ↦ subst (λ n. is_affected t edit (label_of new.labels n) ≡ true) (sym (eqb-true node found.0 here)) seed
         | inr there ↦
             rises t edit after_consistent (label_of new.labels node) (label_of new.labels found.0)
             (sym (reached_agree (entered t edit) after_right new edited.after found.0 at node inside) ∙ there) seed
       ])
-      (λ e. affected-seed new.lines edited.after.bill.ranked.0 edited.after.bill.ranked.1 (nodes_of owns) node (edited.affected node inside ∙ e))
+      (into_nodes t edit after_consistent new edited.after edited.passes.is_new (nodes_of owns) edited.renewed.seeds node inside)
 
   -- what stays at a node that gets no own values
   module _ (node : ℕ) (inside : node < length new.labels) (other : has_node (nodes_of owns) node ≡ false) where
-    unaffected : is_affected t edit (label_of new.labels node) ≡ false
-    unaffected = sym (edited.affected node inside) ∙ other
-
-    stay : Stays t edit (label_of new.labels node)
-    stay = stays t edited.consistent edit edited.passes (label_of new.labels node) unaffected
+    stay : KeepsOwn t edit (label_of new.labels node)
+    stay = edited.renewed.others node inside other
 
     -- its code was kept before, and so it was a node
     old : node < length g.labels
@@ -140,9 +136,9 @@ module _ (t : Lists) (edit : Edit) (g new : Graph) (kept : Kept) (owns : List Ow
         let here : IsOwnOf t number name (label_of new.labels node) (own_at kept.owns node) = subst (λ code. IsOwnOf t number name code (own_at kept.owns node)) (sym (edited.labels node old)) was in
         subst (IsOwnOf (entered t edit) number name (label_of new.labels node)) (sym (own_kept owns kept.owns node other))
         (record {
-          weight = here.weight ∙ sym stay.own_masses;
-          marks = λ n. here.marks n ∙ ap (λ found. has_numbered number found n) (sym stay.own_found);
-          loads = λ n. here.loads n ∙ sym (stay.own_loads (name n));
+          weight = here.weight ∙ sym stay.masses;
+          marks = λ n. here.marks n ∙ ap (λ found. has_numbered number found n) (sym stay.found);
+          loads = λ n. here.loads n ∙ sym (stay.loads (name n));
         })
 
   pub owns_after : (number : Finding → ℕ) (name : ℕ → List ℕ) → AreOwnOf t g number name (own_at kept.owns) →
@@ -156,8 +152,8 @@ module _ (t : Lists) (edit : Edit) (g new : Graph) (kept : Kept) (owns : List Ow
 
   pub can_prepare : (number : Finding → ℕ) (name : ℕ → List ℕ) → AreOwnOf (entered t edit) new number name (own_with owns kept.owns) → CanPrepare new owns kept
   can_prepare number name own = record {
-    distinct = edited.distinct;
-    nodes = edited.inside;
+    distinct = edited.renewed.distinct;
+    nodes = edited.renewed.inside;
     kept_nodes = omega (arith, edited.rolled.rolled_size, edited.nodes);
     new_nodes = λ node past inside.
         elim (cases_Bool (has_node (nodes_of owns) node)) [

@@ -36,6 +36,7 @@ pub mod SeedNodes
 pub mod SeedSteps
 pub mod Sorted
 pub mod Stays
+pub mod StaysAssembly
 pub mod Takes
 pub mod Values
 pub mod Years

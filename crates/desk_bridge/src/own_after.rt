@@ -1,4 +1,4 @@
-ghost use Rattle.std.specs.Prelude.{◌≡◌, ◌≤◌, ◌<◌, ◌++◌, ℕ, List, true, Ok, IfOk, length};
+ghost use Rattle.std.specs.Prelude.{◌≡◌, ◌≤◌, ◌<◌, ◌++◌, ℕ, List, true, not, Ok, IfOk, filter, length};
 ghost use Rattle.desk_text.specs.Code.{code_of};
 ghost use Rattle.desk_graph.specs.Bill.{IsBill};
 ghost use Rattle.desk_graph.specs.Graph.{label_of};
@@ -6,7 +6,7 @@ ghost use Rattle.desk_graph.specs.Reaches.{AreAffected, has_node};
 ghost use Rattle.desk_bridge.specs.Bridge.{IsBillOf};
 ghost use Rattle.desk_bridge.specs.Index.{IsIndex};
 ghost use Rattle.desk_bridge.specs.Numbers.{AreNames};
-ghost use Rattle.desk_bridge.specs.OwnAfter.{AreOwnAfter, AreOwnAt};
+ghost use Rattle.desk_bridge.specs.OwnAfter.{AreOwnAfter, AreOwnAt, changes_lines, stays_assembly};
 ghost use Rattle.desk_model.specs.Effect.{entered, made};
 ghost use Rattle.desk_history.specs.History.{PassesRows};
 ghost use Rattle.desk_history.specs.Sound.{IsConsistent, Sound};
@@ -16,6 +16,7 @@ ghost use Rattle.desk_tables.specs.Sums.{is_of_sums, may_raise_sums};
 use crate::judging::code_at;
 use crate::node_index::NodeIndex;
 use crate::own::own_of;
+use crate::pushing::push_if;
 use crate::seed_nodes::nodes_of;
 use crate::seeds::seed_codes;
 use crate::tables_after::TablesAfter;
@@ -26,8 +27,11 @@ use desk_tables::{RowChange, Tables};
 use desk_text::{Code, OutOfMemory};
 use std::alloc::Global;
 
-/// The own values of just the nodes that the edit affects, by the tables after it. `bill` is the bill after it, and `before` with its
-/// `index` the bill as it stands.
+/// The own values that the edit may change, by the tables after it. `bill` is the bill after it, and `before` with its `index` the bill as
+/// it stands.
+///
+/// Of the nodes that the edit affects these are all but the assemblies whose lines stay: those have nothing of their own, and what is kept
+/// of them can be rolled up anew from what changes below.
 pub fn owns_after<'a>(
     alloc: Global,
     tables: &Tables,
@@ -53,8 +57,9 @@ pub fn owns_after<'a>(
     let codes = seed_codes(alloc, tables, edit)?;
     let seeds = nodes_of(alloc, before, index, bill, codes.as_slice())?;
     let nodes = affected(alloc, bill, seeds.as_slice())?;
+    let renewed = renewed_among(alloc, tables, bill, edit, nodes.as_slice())?;
     let lists = TablesAfter::new(tables, change);
-    owns_at(alloc, &lists, bill, names, nodes.as_slice())
+    owns_at(alloc, &lists, bill, names, renewed.as_slice())
 }
 
 /// The own values of these nodes of the tables' bill.
@@ -89,6 +94,44 @@ fn affected<'a>(
     match bill.affected(alloc, seeds) {
         Ok(nodes) => Ok(nodes),
         Err(_) => Err(OutOfMemory),
+    }
+}
+
+/// Those of these nodes that get new own values. It takes a binary search for each node.
+fn renewed_among<'a>(
+    alloc: Global,
+    tables: &Tables,
+    bill: &PlannedBill<'a>,
+    edit: &Edit,
+    nodes: &[NodeId],
+) -> Result<Vec<NodeId>, OutOfMemory>
+    requires codes { (node : ℕ) → node < length bill.now.labels → code_of (label_of bill.now.labels node) ≡ Ok (label_of bill.now.labels node) }
+    requires inside { (node : ℕ) → has_node nodes.now node ≡ true → node < length bill.now.labels }
+    ensures { IfOk result (λ renewed. renewed.items ≡ filter (λ node. not (stays_assembly tables.now.lists edit.now (label_of bill.now.labels node))) nodes.now) }
+{
+    let mut renewed = Vec::new(alloc);
+    for node in nodes {
+        let is_renewed = !stays_assembly(tables, edit, &code_at(bill, *node));
+        push_if(&mut renewed, is_renewed, *node)?;
+    }
+    Ok(renewed)
+}
+
+/// Whether the code is that of an assembly whose lines the edit leaves.
+fn stays_assembly(tables: &Tables, edit: &Edit, code: &Code) -> bool
+    ensures { result ≡ stays_assembly tables.now.lists edit.now code.now }
+{
+    tables.is_assembly(code) && !changes_lines(edit, code)
+}
+
+/// Whether the edit enters or takes out a line of the part.
+fn changes_lines(edit: &Edit, part: &Code) -> bool
+    ensures { result ≡ changes_lines edit.now part.now }
+{
+    match edit {
+        Edit::Line { parent, .. } => parent.cmp(part).is_eq(),
+        Edit::Unline { parent, .. } => parent.cmp(part).is_eq(),
+        _ => false,
     }
 }
 

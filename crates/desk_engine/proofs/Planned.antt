@@ -91,9 +91,7 @@ module _ (t : Lists) (edit : Edit) (s : Sound t) (passes : PassesRows t edit) (s
     nodes = omega (arith, ap length labels_are, length-append stored.bill.labels plan.labels);
     labels = λ node inside. ap (λ ls. label_of ls node) labels_are ∙ get_or_append_left stored.bill.labels plan.labels [] node inside;
     rolled = is.rolled;
-    distinct = after.distinct;
-    inside = after.inside;
-    affected = after.affected;
+    renewed = after.renewed;
   }
 
   both : CanPrepare new owns stored.rollups × HasOwnValues (entered t edit) new (finding_number new.labels names) (label_of names) (own_with owns stored.rollups.owns)
@@ -131,7 +129,7 @@ module _ (t : Lists) (edit : Edit) (s : Sound t) (passes : PassesRows t edit) (s
             ∙ ap (λ b. cond b 1 0) (sym (affected_agree t edit stored.bill new stored.rollups owns edited node inside))
         | inr past ↦
             above (λ n. is_affected t edit (label_of new.labels n)) 0 (length new.labels) node (omega (arith, past))
-            ∙ ap (λ b. cond b 1 0) (sym (none_beyond new new_bill (nodes_of owns) after.inside node past))
+            ∙ ap (λ b. cond b 1 0) (sym (none_beyond new new_bill (nodes_of owns) after.renewed.inside node past))
       ]
 
   pub few_steps : (start now : ℕ) → ((nodes : List ℕ) → AreAffected new.lines (nodes_of owns) nodes → now ≤ start + length nodes) → now ≤ start + length (affected t edit)

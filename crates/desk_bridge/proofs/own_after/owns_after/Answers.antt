@@ -2,7 +2,7 @@ use Rattle.std.proofs.Common.{◌∙◌}
 use Rattle.desk_model.specs.Effect.{entered}
 use Rattle.desk_history.proofs.SoundSteps.{IsConsistent-entered}
 use Rattle.desk_bridge.proofs.Chains.{labels_are_codes}
-use Rattle.desk_bridge.proofs.OwnsAfter.{consistent_after, few_after, named_after, nodes_inside, own_after, own_at_after, seeds_inside}
+use Rattle.desk_bridge.proofs.OwnsAfter.{consistent_after, few_after, named_after, nodes_inside, own_after, own_at_after, renewed_inside, seeds_inside}
 use Rattle.desk_bridge.proofs.OwnsAt.{if_ok}
 use Rattle.desk_bridge.proofs.own_after.owns_after.Goals as goal
 
@@ -26,6 +26,16 @@ owns_at-requires-clause-codes c =
 
 pub owns_at-requires-clause-inside : goal.owns_at-requires-clause-inside
 owns_at-requires-clause-inside c =
+    renewed_inside c.args.tables.now.lists c.args.edit.now c.requires.sound c.requires.passes c.args.bill.now c.node_count.ensures.bill c.requires.of c.as_slice.result.now (c.as_slice.ensures.value ∙ c.in_ok-codes.ensures)
+    c.in_ok-seeds.seeds.items c.as_slice-2.result.now c.as_slice-2.ensures.value c.in_ok-seeds.ensures c.in_ok-nodes.nodes.items c.as_slice-3.result.now c.as_slice-3.ensures.value c.in_ok-nodes.ensures
+    c.in_ok-renewed.renewed.items c.as_slice-4.result.now c.as_slice-4.ensures.value c.in_ok-renewed.ensures
+
+pub renewed_among-requires-clause-codes : goal.renewed_among-requires-clause-codes
+renewed_among-requires-clause-codes c =
+    labels_are_codes (entered c.args.tables.now.lists c.args.edit.now) (IsConsistent-entered c.args.tables.now.lists c.args.edit.now c.requires.sound.consistent c.requires.passes) c.args.bill.now c.requires.of
+
+pub renewed_among-requires-clause-inside : goal.renewed_among-requires-clause-inside
+renewed_among-requires-clause-inside c =
     nodes_inside c.args.tables.now.lists c.args.edit.now c.requires.sound c.requires.passes c.args.bill.now c.node_count.ensures.bill c.requires.of c.as_slice.result.now (c.as_slice.ensures.value ∙ c.in_ok-codes.ensures)
     c.in_ok-seeds.seeds.items c.as_slice-2.result.now c.as_slice-2.ensures.value c.in_ok-seeds.ensures c.in_ok-nodes.nodes.items c.as_slice-3.result.now c.as_slice-3.ensures.value c.in_ok-nodes.ensures
 
@@ -34,5 +44,6 @@ returns c =
     if_ok _ _ c.owns_at.result c.owns_at.ensures
     (λ owns at.
     own_after c.args.tables.now.lists c.args.edit.now c.requires.sound c.requires.passes c.args.bill.now c.node_count.ensures.bill c.requires.of c.as_slice.result.now (c.as_slice.ensures.value ∙ c.in_ok-codes.ensures)
-    c.in_ok-seeds.seeds.items c.as_slice-2.result.now c.as_slice-2.ensures.value c.in_ok-seeds.ensures c.in_ok-nodes.nodes.items c.as_slice-3.result.now c.as_slice-3.ensures.value c.in_ok-nodes.ensures c.args.names.now owns.items
-    (own_at_after c.args.tables.now.lists c.args.edit.now c.requires.sound c.requires.passes c.args.change.now c.requires.made _ c.new-lists.ensures c.args.bill.now.labels c.args.names.now c.as_slice-3.result.now owns.items at))
+    c.in_ok-seeds.seeds.items c.as_slice-2.result.now c.as_slice-2.ensures.value c.in_ok-seeds.ensures c.in_ok-nodes.nodes.items c.as_slice-3.result.now c.as_slice-3.ensures.value c.in_ok-nodes.ensures
+    c.in_ok-renewed.renewed.items c.as_slice-4.result.now c.as_slice-4.ensures.value c.in_ok-renewed.ensures c.args.names.now owns.items
+    (own_at_after c.args.tables.now.lists c.args.edit.now c.requires.sound c.requires.passes c.args.change.now c.requires.made _ c.new-lists.ensures c.args.bill.now.labels c.args.names.now c.as_slice-4.result.now owns.items at))
