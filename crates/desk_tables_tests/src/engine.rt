@@ -88,7 +88,7 @@ fn enter_all(twice: &mut Twice, alloc: Global, edits: Vec<Edit>) -> Result<usize
 fn a_sample_is_answered_as_plain_tables_answer_it(rt: HostRuntime) -> Result<(), Fail> {
     let alloc = rt.alloc();
     let mut twice = start(alloc)?;
-    let edits = sample(alloc, 30)?;
+    let edits = sample(alloc, 200)?;
     let count = edits.len();
     expect_eq(&enter_all(&mut twice, alloc, edits)?, &count)?;
     are_answered_alike(alloc, &twice.engine, &twice.tables)
