@@ -49,8 +49,23 @@ fn own_of(alloc: Global, node: NodeId, weight: u128, marks: &[Mark]) -> Result<O
 /// How many of the nodes below a number a plan replaces.
 fn replaced(plan: &RollPlan, nodes: NodeId) -> usize {
     (0..nodes)
-        .filter(|node| plan.weight(*node).is_some())
+        .filter(|node| plan.rolled(*node).is_some())
         .count()
+}
+
+/// What a plan tells of the first node, if it replaces its values: its weight and how many marks it has.
+fn told_of_top(plan: &RollPlan) -> Option<(u128, usize)> {
+    let values = plan.rolled(0)?;
+    Some((values.weight, values.hops.as_slice().len()))
+}
+
+/// Fails unless the first node is kept as a plan told, if it told of it.
+fn is_kept_as_told(desk: &Desk, told: Option<(u128, usize)>) -> Result<(), Fail> {
+    let Some(told) = told else {
+        return Ok(());
+    };
+    let kept = values_of(desk, 0)?;
+    expect_eq(&(kept.weight, kept.hops.as_slice().len()), &told)
 }
 
 /// Does what was planned on the bill, with new own values of one node, and tells how many nodes were replaced and how many steps that
@@ -86,11 +101,13 @@ fn enter<L: Ledger>(
     if rolled.nodes().len() != count {
         return Err(Fail::new("a plan tells other nodes than it replaces"));
     }
+    let told = told_of_top(&rolled);
     desk.rollups.commit(rolled);
     desk.bill.commit(plan);
     if desk.bill.node_count() < before {
         return Err(Fail::new("a node is lost"));
     }
+    is_kept_as_told(desk, told)?;
     Ok(Ok(count))
 }
 
@@ -325,6 +342,61 @@ fn a_copy_keeps_its_values(rt: HostRuntime) -> Result<(), Fail> {
     is_copied(&mut desk, rt.alloc())
 }
 
+/// P has A and C, A has B, and B and C have M.
+const TWO_LEVELS: [(NodeId, NodeId, u32); 5] = [
+    (0, 1, 1),
+    (0, 4, 1),
+    (1, 2, 1),
+    (2, 3, 1),
+    (4, 3, 1),
+];
+
+/// So many marks of a node.
+fn marks_of(alloc: Global, node: NodeId, count: u32) -> Result<Vec<Mark>, Fail> {
+    let mut marks = Vec::new(alloc);
+    for what in 0..count {
+        marks.push(Mark { node, what })?;
+    }
+    Ok(marks)
+}
+
+/// Fails unless so many marks of M, which come in the place of all that it had, are those of the first node.
+fn come_to_top(desk: &mut Desk, alloc: Global, count: u32) -> Result<(), Fail> {
+    let marks = marks_of(alloc, 3, count)?;
+    expect_eq(&give(desk, alloc, 3, 1, marks.as_slice())?, &Ok(5))?;
+    expect_eq(
+        &values_of(desk, 0)?.hops.as_slice().len(),
+        &(count as usize),
+    )?;
+    if count > 0 {
+        leads_to(
+            desk,
+            alloc,
+            Mark {
+                node: 3,
+                what: count - 1,
+            },
+            &[0, 1, 2, 3],
+        )?;
+    }
+    Ok(())
+}
+
+/// Fails unless marks come and go at the first node as they do two levels below it, be they few or many.
+fn come_and_go(desk: &mut Desk, alloc: Global) -> Result<(), Fail> {
+    build(desk, alloc, "PABMC", &TWO_LEVELS)?;
+    for count in [1, 0, 3, 2, 40, 38, 1, 0] {
+        come_to_top(desk, alloc, count)?;
+    }
+    Ok(())
+}
+
+#[test]
+fn marks_come_and_go_above_as_they_do_below(rt: HostRuntime) -> Result<(), Fail> {
+    let mut desk = start(rt.alloc())?;
+    come_and_go(&mut desk, rt.alloc())
+}
+
 /// Adds forty layers of two nodes and two nodes below them, each of which has both nodes of the next layer but for the last.
 fn add_layers(desk: &mut Desk, alloc: Global) -> Result<(), Fail> {
     for node in 0..82_u8 {
@@ -419,7 +491,7 @@ fn plain_hop(nodes: &[PlainNode; COUNT], node: usize, mark: usize) -> Option<Hop
 
 /// Whether the hops that are kept of a node are those that come out from scratch.
 fn has_plain_hops(desk: &Desk, nodes: &[PlainNode; COUNT], node: usize) -> Result<bool, Fail> {
-    let mut hops = values_of(desk, node)?.hops.iter();
+    let mut hops = values_of(desk, node)?.hops.as_slice().iter();
     for mark in 0..COUNT {
         if let Some(hop) = plain_hop(nodes, node, mark)
             && hops.next() != Some(&hop)

@@ -1,5 +1,5 @@
 -- What a sweep over the affected nodes finds at each of them.
-use Rattle.std.proofs.Common.{◌≡◌, ℕ, zero, suc, ◌+◌, ◌*◌, ◌^◌, ◌<◌, ◌≤◌, Bool, true, false, cond, ◌==◌, List, [], ◌∷◌, drop, map, take, fold, length, nat_lt, slice_index, slice_index_or, sum_by, Option, Some, None, unwrap_or, refl, sym, ap, ◌∙◌, subst, inl, inr, arith}
+use Rattle.std.proofs.Common.{◌≡◌, ℕ, zero, suc, ◌+◌, ◌*◌, ◌^◌, ◌<◌, ◌≤◌, Bool, true, false, cond, ◌==◌, List, [], ◌∷◌, drop, map, take, fold, length, nat_lt, slice_index, slice_index_or, sum_by, Option, Some, None, refl, sym, ap, ◌∙◌, subst, inl, inr, arith}
 use Rattle.std.specs.List.{AllByRecursion}
 use Rattle.std.proofs.lemmas.Bool.{both_ways, cases_Bool, cases_lt, eq-eqb, eqb-true, false_from_ne_true, le-ltb, lt-ltb, ltb-true, ne_eqb, or_cases, or_parts}
 use Rattle.std.proofs.lemmas.List.{length-map, length-take-le, get_or-map, get_or-take}
@@ -12,20 +12,22 @@ use Rattle.desk_graph.specs.Graph.{Graph, is_line, lines_of}
 use Rattle.desk_graph.specs.Reaches.{AreAffected, enough, has_node, is_affected, is_or_reaches, reaches}
 use Rattle.desk_graph.proofs.Reached.{affected-seed, affected-up, any_node-out, up}
 use Rattle.desk_graph.proofs.Ends.{has_node_there}
-use Rattle.desk_rollup.specs.Gathered.{AreNewHops, KeepHops, all_hops, all_loads}
-use Rattle.desk_rollup.specs.Numbers.{Rises, hop_numbers, substances}
-use Rattle.desk_rollup.specs.Places.{IsKnown, IsTold, Placed, known, place_at}
-use Rattle.desk_rollup.specs.Plan.{AreDistinct, nodes_of}
+use Rattle.desk_rollup.specs.declared.hop.Hop.{Hop}
+use Rattle.desk_rollup.specs.Changed.{AreNewHops, ChangedValues, DoFollow, IsMended}
+use Rattle.desk_rollup.specs.Gathered.{all_hops, all_loads}
+use Rattle.desk_rollup.specs.Numbers.{Rises, has, hop_numbers, mark_numbers, load_numbers}
+use Rattle.desk_rollup.specs.Places.{IsKnown, IsPlaceOf, Placed, known, place_at}
+use Rattle.desk_rollup.specs.Plan.{AreDistinct, nodes_of_owns}
 use Rattle.desk_rollup.specs.Rolled.{IsRolled, amount, hop, weight}
 use Rattle.desk_rollup.specs.Step.{IsStepOver, step_hop}
 use Rattle.desk_rollup.specs.Sweep.{IsSweep}
-use Rattle.desk_rollup.specs.Values.{Kept, NewRolled, OwnValues, RolledValues, amount_of, carried, filled, filled_at, hop_of, load_of, new_at, own_at, own_with, rolled_at}
+use Rattle.desk_rollup.specs.Values.{KeptValues, OwnValues, RolledValues, amount_of, carried_in, hop_of, load_in, own_at, own_with, rolled_at}
 use Rattle.desk_rollup.specs.Weights.{IsKnownWeight, fitting, known_weight, weighed, with_child}
 use Rattle.desk_rollup.proofs.Counts.{has_at, none_times, one_if, some_times}
 use Rattle.desk_rollup.proofs.Gathers.{gathered_step}
 use Rattle.desk_rollup.proofs.Lists.{each_as, each_line, sum_same}
 use Rattle.desk_rollup.proofs.Ranked.{goes_up, rolled-step}
-use Rattle.desk_rollup.proofs.Rolls.{carried_is, hop_by, same_hops, step_rolled}
+use Rattle.desk_rollup.proofs.Rolls.{carried_is, hop_by, same_hop, step_rolled}
 
 -- the list has just the affected nodes
 pub affected_had : (lines : List (List BillLine)) (seeds nodes : List ℕ) → AreAffected lines seeds nodes → (node : ℕ) → has_node nodes node ≡ is_affected lines seeds node
@@ -58,19 +60,19 @@ affected_inside g bill seeds nodes low affected node e =
     ]
 
 -- a node without new own values has those that are kept
-pub own_other : (new kept : List OwnValues) (node : ℕ) → has_node (nodes_of new) node ≡ false → own_with new kept node ≡ own_at kept node
+pub own_other : (new kept : List OwnValues) (node : ℕ) → has_node (nodes_of_owns new) node ≡ false → own_with new kept node ≡ own_at kept node
 own_other [] kept node e = refl
 own_other (own ∷ new) kept node e =
-    let parts = or_parts (own.node == node) (has_node (nodes_of new) node) e in
+    let parts = or_parts (own.node == node) (has_node (nodes_of_owns new) node) e in
     rw parts.0 (own_other new kept node parts.1)
 
 -- a node with new own values has those
-pub own_found : (new : List OwnValues) (kept : List OwnValues) (node place : ℕ) → AreDistinct (nodes_of new) → place < length (nodes_of new) → slice_index (nodes_of new) place ≡ node → own_with new kept node ≡ own_at new place
+pub own_found : (new : List OwnValues) (kept : List OwnValues) (node place : ℕ) → AreDistinct (nodes_of_owns new) → place < length (nodes_of_owns new) → slice_index (nodes_of_owns new) place ≡ node → own_with new kept node ≡ own_at new place
 own_found [] kept node place distinct low is = absurd (omega arith)
 own_found (own ∷ new) kept node zero distinct low is = rw (eq-eqb own.node node is) refl
 own_found (own ∷ new) kept node (suc place) distinct low is =
-    let there : has_node (nodes_of new) node ≡ true = subst (λ n. has_node (nodes_of new) n ≡ true) is (has_at (nodes_of new) place (omega arith)) in
-    let other : (own.node == node) ≡ false = ne_eqb own.node node (λ e. both_ways (has_node (nodes_of new) node) (subst (λ n. has_node (nodes_of new) n ≡ false) e distinct.0) there) in
+    let there : has_node (nodes_of_owns new) node ≡ true = subst (λ n. has_node (nodes_of_owns new) n ≡ true) is (has_at (nodes_of_owns new) place (omega arith)) in
+    let other : (own.node == node) ≡ false = ne_eqb own.node node (λ e. both_ways (has_node (nodes_of_owns new) node) (subst (λ n. has_node (nodes_of_owns new) n ≡ false) e distinct.0) there) in
     rw other (own_found new kept node place distinct.1 (omega arith) is)
 
 -- sums of weights that fit
@@ -151,11 +153,11 @@ too_large_at below own of_node at none low sum is large =
     ∙ none_stays below rest
 
 -- what is known of a place or of a node without one
-pub by_place : (nodes : List ℕ) (node : ℕ) (place : Option ℕ) → IsTold nodes node place → (P : Option ℕ → Type 0) → (has_node nodes node ≡ false → P None) → ((at : ℕ) → at < length nodes → slice_index nodes at ≡ node → P (Some at)) → P place
+pub by_place : (nodes : List ℕ) (node : ℕ) (place : Option ℕ) → IsPlaceOf nodes node place → (P : Option ℕ → Type 0) → (has_node nodes node ≡ false → P None) → ((at : ℕ) → at < length nodes → slice_index nodes at ≡ node → P (Some at)) → P place
 by_place nodes node None told P none some = none told
 by_place nodes node (Some at) told P none some = some at told.0 told.1
 
-module _ (g : Graph) (owns : List OwnValues) (kept : Kept) (of_owns placed : Placed) (lists : List (List BillLine)) (sweep : IsSweep g owns kept of_owns placed lists) where
+module _ (g : Graph) (owns : List OwnValues) (kept : KeptValues) (of_owns placed : Placed) (lists : List (List BillLine)) (sweep : IsSweep g owns kept of_owns placed lists) where
   abbrev rank : ℕ → ℕ
   rank = sweep.bill.ranked.0
 
@@ -163,7 +165,7 @@ module _ (g : Graph) (owns : List OwnValues) (kept : Kept) (of_owns placed : Pla
   own = own_with owns kept.owns
 
   abbrev seeds : List ℕ
-  seeds = nodes_of owns
+  seeds = nodes_of_owns owns
 
   had : (node : ℕ) → has_node placed.nodes node ≡ is_affected g.lines seeds node
   had node = affected_had g.lines seeds placed.nodes sweep.affected node
@@ -236,7 +238,7 @@ module _ (g : Graph) (owns : List OwnValues) (kept : Kept) (of_owns placed : Pla
         by_place placed.nodes child (place_at placed child) (sweep.places child) (λ o. IsKnownWeight o kept.rolled new child)
         (λ away. has_kept child (sweep.bill.children node child line) away) (λ at h is. let before = child_before child at line h is in omega arith)
 
-    pub knows : (new : List NewRolled) → length new ≡ place → (child : ℕ) → is_line g.lines node child ≡ true → IsKnown (place_at placed child) kept.rolled new child
+    pub knows : (new : List RolledValues) → length new ≡ place → (child : ℕ) → is_line g.lines node child ≡ true → IsKnown (place_at placed child) kept.rolled new child
     knows new size child line =
         by_place placed.nodes child (place_at placed child) (sweep.places child) (λ o. IsKnown o kept.rolled new child)
         (λ away. has_kept child (sweep.bill.children node child line) away) (λ at h is. let before = child_before child at line h is in omega arith)
@@ -263,19 +265,23 @@ module _ (g : Graph) (owns : List OwnValues) (kept : Kept) (of_owns placed : Pla
         ∙ ap fitting (sym (rolled-step g.lines rank sweep.bill.ranked.1 (λ n. (own n).weight) node))
 
     -- with the new values the nodes that stand before have those that are right
-    abbrev AreBefore : List NewRolled → Type 0
-    AreBefore new = (at : ℕ) → at < place → IsRolled g.lines own (slice_index placed.nodes at) (filled_at kept.rolled placed.nodes new at)
+    abbrev AreBefore : List RolledValues → Type 0
+    AreBefore new = (at : ℕ) → at < place → IsRolled g.lines own (slice_index placed.nodes at) (rolled_at new at)
 
     -- what the new values and those that are kept tell of the children
-    rolled_below : (new : List NewRolled) → AreBefore new →
+    rolled_below : (new : List RolledValues) → AreBefore new →
         (child : ℕ) → is_line g.lines node child ≡ true → IsRolled g.lines own child (known (place_at placed child) kept.rolled new child)
     rolled_below new before child line =
         by_place placed.nodes child (place_at placed child) (sweep.places child) (λ o. IsRolled g.lines own child (known o kept.rolled new child))
         (λ away. stays child away (sweep.bill.children node child line))
-        (λ spot h spot_is. subst (λ c. IsRolled g.lines own c (filled (rolled_at kept.rolled c) (new_at new spot))) spot_is (before spot (child_before child spot line h spot_is)))
+        (λ spot h spot_is. subst (λ c. IsRolled g.lines own c (rolled_at new spot)) spot_is (before spot (child_before child spot line h spot_is)))
+
+    -- the hops of the children stand in order
+    pub below_order : (new : List RolledValues) → AreBefore new → (child : ℕ) → is_line g.lines node child ≡ true → Rises (hop_numbers (known (place_at placed child) kept.rolled new child).hops)
+    below_order new before child line = (rolled_below new before child line).hops_rise
 
     -- the weight that is found at the place by values
-    pub weighs_values : (new : List NewRolled) → AreBefore new →
+    pub weighs_values : (new : List RolledValues) → AreBefore new →
         ((at : ℕ) → at < place → weight g.lines own (slice_index placed.nodes at) < 2 ^ 128) → (own node).weight < 2 ^ 128 →
         weighed (λ child. Some (known (place_at placed child) kept.rolled new child).weight) (own node).weight (lines_of g.lines node) ≡ fitting (weight g.lines own node)
     weighs_values new before light small =
@@ -291,13 +297,13 @@ module _ (g : Graph) (owns : List OwnValues) (kept : Kept) (of_owns placed : Pla
         (own node).weight
         ∙ ap fitting (sym (rolled-step g.lines rank sweep.bill.ranked.1 (λ n. (own n).weight) node))
 
-    abbrev made : List NewRolled → ℕ → RolledValues
+    abbrev made : List RolledValues → ℕ → RolledValues
     made new found =
         let below = λ (child : ℕ). known (place_at placed child) kept.rolled new child in
         record { weight = found; hops = all_hops below (own node).marks (lines_of g.lines node); loads = all_loads below (own node).loads (lines_of g.lines node) }
 
     -- the values that are found at the place
-    rolls : weight g.lines own node < 2 ^ 128 → (new : List NewRolled) → AreBefore new →
+    rolls : weight g.lines own node < 2 ^ 128 → (new : List RolledValues) → AreBefore new →
         IsRolled g.lines own node (made new (weight g.lines own node))
     rolls fit new before =
         let below : ℕ → RolledValues = λ child. known (place_at placed child) kept.rolled new child in
@@ -306,58 +312,85 @@ module _ (g : Graph) (owns : List OwnValues) (kept : Kept) (of_owns placed : Pla
         let each = each_line (λ child. IsRolled g.lines own child (below child)) of_node right in
         let step = gathered_step below (own node) of_node
         (each_as (λ line. IsRolled g.lines own line.node (below line.node)) (λ line. Rises (hop_numbers (below line.node).hops)) (λ line r. r.hops_rise) of_node each)
-        (each_as (λ line. IsRolled g.lines own line.node (below line.node)) (λ line. Rises (substances (below line.node).loads)) (λ line r. r.loads_rise) of_node each)
+        (each_as (λ line. IsRolled g.lines own line.node (below line.node)) (λ line. Rises (load_numbers (below line.node).loads)) (λ line r. r.loads_rise) of_node each)
         (λ what.
-        let same = sum_same (λ line. line.count * carried (below line.node).loads what) (λ line. line.count * amount g.lines own line.node what) of_node
-        (each_as (λ line. IsRolled g.lines own line.node (below line.node)) (λ line. line.count * carried (below line.node).loads what ≡ line.count * amount g.lines own line.node what)
+        let same = sum_same (λ line. line.count * carried_in (below line.node).loads what) (λ line. line.count * amount g.lines own line.node what) of_node
+        (each_as (λ line. IsRolled g.lines own line.node (below line.node)) (λ line. line.count * carried_in (below line.node).loads what ≡ line.count * amount g.lines own line.node what)
         (λ line r. ap (λ v. line.count * v) (carried_is g.lines rank sweep.bill.ranked.1 own line.node (below line.node) r what)) of_node each) in
         let there = inside node (has_at placed.nodes place low) in
         omega (arith, same, rolled-step g.lines rank sweep.bill.ranked.1 (λ n. amount_of (own n).loads what) node, sweep.can.lighter node what there, fit)) in
         let rolled = step_rolled g.lines rank sweep.bill.ranked.1 own below node _ right step in
         subst (λ w. IsRolled g.lines own node (made new w)) rolled.weight rolled
 
-    -- where the node isn't given own values and its children keep their hops, the hops that are kept of it are right
-    kept_hops : (new : List NewRolled) → AreBefore new → has_node seeds node ≡ false → KeepHops (λ child. known (place_at placed child) kept.rolled new child) kept.rolled (lines_of g.lines node) →
-        Rises (hop_numbers (rolled_at kept.rolled node).hops) × ((mark : ℕ) → hop_of (rolled_at kept.rolled node).hops mark ≡ hop g.lines own node mark)
-    kept_hops new before none keeps =
+    -- the new values that stand before have of the steady marks those that are kept
+    abbrev AreFollowed : ChangedValues → List RolledValues → Type 0
+    AreFollowed changed new = (at : ℕ) → at < place → DoFollow changed (rolled_at kept.rolled (slice_index placed.nodes at)).hops (rolled_at new at).hops
+
+    -- the hops stand in order and are those of the node
+    abbrev AreRight : List Hop → Type 0
+    AreRight hops = Rises (hop_numbers hops) × ((mark : ℕ) → hop_of hops mark ≡ hop g.lines own node mark)
+
+    -- where the node isn't given own values, the kept hops are right once they are mended
+    mended_hops : (new : List RolledValues) → AreBefore new → has_node seeds node ≡ false → (changed : ChangedValues) → changed.are_followed ≡ true → AreFollowed changed new → (hops : List Hop) →
+        IsMended (λ child. known (place_at placed child) kept.rolled new child) (own node) (lines_of g.lines node) changed.marks (rolled_at kept.rolled node).hops hops → AreRight hops
+    mended_hops new before none changed still followed hops mended =
         let below : ℕ → RolledValues = λ child. known (place_at placed child) kept.rolled new child in
         let of_node = lines_of g.lines node in
         let there = inside node (has_at placed.nodes place low) in
-        let step = sweep.can.steps node (own_there node there none) none in (
-          step.hops_rise,
+        let step = sweep.can.steps node (own_there node there none) none in
+        let right = hop_by g.lines rank sweep.bill.ranked.1 own below node (rolled_below new before) in
+        let steady : (mark : ℕ) → has (mark_numbers changed.marks) mark ≡ false → step_hop (rolled_at kept.rolled) (own node) of_node mark ≡ step_hop below (own node) of_node mark = λ mark e.
+        sym
+        (same_hop below (rolled_at kept.rolled) (own node) of_node mark
+        (each_line (λ child. has (hop_numbers (below child).hops) mark ≡ has (hop_numbers (rolled_at kept.rolled child).hops) mark) of_node
+        (λ child line.
+        by_place placed.nodes child (place_at placed child) (sweep.places child) (λ o. has (hop_numbers (known o kept.rolled new child).hops) mark ≡ has (hop_numbers (rolled_at kept.rolled child).hops) mark)
+        (λ away. refl)
+        (λ spot h is.
+        subst (λ c. has (hop_numbers (rolled_at new spot).hops) mark ≡ has (hop_numbers (rolled_at kept.rolled c).hops) mark) is
+        (followed spot (child_before child spot line h is) mark (still, e)))))) in (
+          mended.rises,
           λ mark.
-              step.hops mark
-              ∙ ap (λ o. step_hop (rolled_at kept.rolled) o of_node mark) (sym (own_other owns kept.owns node none))
-              ∙ sym (same_hops below (rolled_at kept.rolled) (own node) of_node keeps mark)
-              ∙ hop_by g.lines rank sweep.bill.ranked.1 own below node (rolled_below new before) mark,
+              elim (cases_Bool (has (mark_numbers changed.marks) mark)) [
+                | inl is ↦ mended.changes mark is ∙ right mark
+                | inr is_not ↦
+                    mended.others mark is_not
+                    ∙ step.hops mark
+                    ∙ ap (λ o. step_hop (rolled_at kept.rolled) o of_node mark) (sym (own_other owns kept.owns node none))
+                    ∙ steady mark is_not
+                    ∙ right mark
+              ],
         )
 
-    -- where new values are found at the place, the node has with them those that are right, and the weight isn't too large
-    pub found_values : (new : List NewRolled) → AreBefore new → ((at : ℕ) → at < place → weight g.lines own (slice_index placed.nodes at) < 2 ^ 128) → (own node).weight < 2 ^ 128 →
-        (values : NewRolled) (is_given : Bool) → (is_given ≡ false → has_node seeds node ≡ false) →
+    -- new hops are right
+    right_hops : (new : List RolledValues) → AreBefore new → (changed : ChangedValues) → AreFollowed changed new → (is_given : Bool) → (is_given ≡ false → has_node seeds node ≡ false) →
+        (hops : List Hop) → AreRight (all_hops (λ child. known (place_at placed child) kept.rolled new child) (own node).marks (lines_of g.lines node)) →
+        AreNewHops (λ child. known (place_at placed child) kept.rolled new child) (own node) (lines_of g.lines node) is_given changed (rolled_at kept.rolled node).hops hops → AreRight hops
+    right_hops new before changed followed is_given none hops right (inl all) = subst AreRight (sym all) right
+    right_hops new before changed followed is_given none hops right (inr mended) = mended_hops new before (none mended.0) changed mended.1 followed hops mended.2
+
+    -- where new values are found at the place, they are right, and the weight isn't too large
+    pub found_values : (new : List RolledValues) → AreBefore new → ((at : ℕ) → at < place → weight g.lines own (slice_index placed.nodes at) < 2 ^ 128) → (own node).weight < 2 ^ 128 →
+        (changed : ChangedValues) → AreFollowed changed new → (values : RolledValues) (is_given : Bool) → (is_given ≡ false → has_node seeds node ≡ false) →
         Some values.weight ≡ weighed (λ child. Some (known (place_at placed child) kept.rolled new child).weight) (own node).weight (lines_of g.lines node) →
-        AreNewHops (λ child. known (place_at placed child) kept.rolled new child) kept.rolled (own node).marks (lines_of g.lines node) node is_given values.hops →
+        AreNewHops (λ child. known (place_at placed child) kept.rolled new child) (own node) (lines_of g.lines node) is_given changed (rolled_at kept.rolled node).hops values.hops →
         values.loads ≡ all_loads (λ child. known (place_at placed child) kept.rolled new child) (own node).loads (lines_of g.lines node) →
-        (weight g.lines own node < 2 ^ 128) × IsRolled g.lines own node (filled (rolled_at kept.rolled node) values)
-    found_values new before light small values is_given none weighs_so hops loads =
+        (weight g.lines own node < 2 ^ 128) × IsRolled g.lines own node values
+    found_values new before light small changed followed values is_given none weighs_so hops loads =
         let found = fitted (weight g.lines own node) values.weight (sym (weighs_so ∙ weighs_values new before light small)) in
         let right = rolls found.0 new before in
-        let hops_right : Rises (hop_numbers (unwrap_or values.hops (rolled_at kept.rolled node).hops)) × ((mark : ℕ) → hop_of (unwrap_or values.hops (rolled_at kept.rolled node).hops) mark ≡ hop g.lines own node mark) =
-        elim hops [
-          | inl all ↦ (subst (λ h. Rises (hop_numbers h)) (sym all) right.hops_rise, λ mark. ap (λ h. hop_of h mark) all ∙ right.hops mark)
-          | inr keeps ↦ rw keeps.0 (kept_hops new before (none keeps.1) keeps.2)
-        ] in (
+        let hops_right = right_hops new before changed followed is_given none values.hops (right.hops_rise, right.hops) hops in (
           found.0,
           record {
             weight = found.1;
             hops_rise = hops_right.0;
             hops = hops_right.1;
-            loads_rise = subst (λ l. Rises (substances l)) (sym loads) right.loads_rise;
-            loads = λ what. ap (λ l. load_of l what) loads ∙ right.loads what;
+            loads_rise = subst (λ l. Rises (load_numbers l)) (sym loads) right.loads_rise;
+            loads = λ what. ap (λ l. load_in l what) loads ∙ right.loads what;
           },
         )
 
     -- where none are found, the weight is too large
-    pub found_none : (new : List NewRolled) → AreBefore new → ((at : ℕ) → at < place → weight g.lines own (slice_index placed.nodes at) < 2 ^ 128) → (own node).weight < 2 ^ 128 →
+    pub found_none : (new : List RolledValues) → AreBefore new → ((at : ℕ) → at < place → weight g.lines own (slice_index placed.nodes at) < 2 ^ 128) → (own node).weight < 2 ^ 128 →
         None ≡ weighed (λ child. Some (known (place_at placed child) kept.rolled new child).weight) (own node).weight (lines_of g.lines node) → 2 ^ 128 ≤ weight g.lines own node
     found_none new before light small e = unfitted (weight g.lines own node) (sym (e ∙ weighs_values new before light small))

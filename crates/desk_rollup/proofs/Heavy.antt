@@ -11,7 +11,7 @@ use Rattle.desk_graph.specs.Reaches.{has_node}
 use Rattle.desk_rollup.specs.Places.{Placed, place_at}
 use Rattle.desk_rollup.specs.Rolled.{weight}
 use Rattle.desk_rollup.specs.Sweep.{IsSweep, IsTooLargeOr, lesser_of}
-use Rattle.desk_rollup.specs.Values.{Kept, OwnValues, own_with}
+use Rattle.desk_rollup.specs.Values.{KeptValues, OwnValues, own_with}
 use Rattle.desk_rollup.specs.Weights.{fitting}
 use Rattle.desk_rollup.proofs.Frame.{by_place, fits_no, fits_yes, stays}
 
@@ -109,7 +109,7 @@ module _ (g : Graph) (weights : ℕ → ℕ) (nodes : List ℕ) (place : ℕ) (t
         | inr large ↦ subst (λ o. IsFirstAmong g weights nodes (place + 1) (lesser_of g.labels first node o)) (sym (fits_no (weights node) large)) (heavy first large so)
       ]
 
-module _ (g : Graph) (owns : List OwnValues) (kept : Kept) (of_owns placed : Placed) (lists : List (List BillLine)) (sweep : IsSweep g owns kept of_owns placed lists) where
+module _ (g : Graph) (owns : List OwnValues) (kept : KeptValues) (of_owns placed : Placed) (lists : List (List BillLine)) (sweep : IsSweep g owns kept of_owns placed lists) where
   abbrev weights : ℕ → ℕ
   weights = weight g.lines (own_with owns kept.owns)
 

@@ -16,3 +16,4 @@ pub mod Ways
 pub mod OneNode
 pub mod ExampleProofs
 pub mod Halves
+pub mod Mends

@@ -8,7 +8,7 @@ use Rattle.std.proofs.lemmas.List.Sums.{sum_by-cons}
 use Rattle.desk_graph.specs.declared.line.BillLine.{BillLine}
 use Rattle.desk_graph.specs.Graph.{has_line}
 use Rattle.desk_rollup.specs.declared.load.Load.{Load}
-use Rattle.desk_rollup.specs.Numbers.{has, once, substances}
+use Rattle.desk_rollup.specs.Numbers.{has, once, load_numbers}
 use Rattle.desk_rollup.specs.Values.{amount_of}
 
 -- what holds of the children of lines
@@ -94,8 +94,8 @@ has_once (first ∷ ns) n =
     ]
 
 -- a substance that isn't there has no amount
-pub amount_none : (loads : List Load) (what : ℕ) → has (substances loads) what ≡ false → amount_of loads what ≡ 0
+pub amount_none : (loads : List Load) (what : ℕ) → has (load_numbers loads) what ≡ false → amount_of loads what ≡ 0
 amount_none [] what e = refl
 amount_none (load ∷ loads) what e =
-    let parts = or_parts (load.what == what) (has (substances loads) what) e in
+    let parts = or_parts (load.what == what) (has (load_numbers loads) what) e in
     sum_by-cons (λ l. cond (l.what == what) l.amount 0) load loads ∙ rw parts.0 (omega (arith, amount_none loads what parts.1))

@@ -10,14 +10,14 @@ use Rattle.desk_graph.specs.Graph.{Graph, lines_of}
 use Rattle.desk_graph.specs.Reaches.{Falls, is_affected}
 use Rattle.desk_rollup.specs.Numbers.{RisesFrom, has, hop_numbers, mark_numbers, mark_number, once}
 use Rattle.desk_rollup.specs.Places.{IsKnown, Placed, known, place_at}
-use Rattle.desk_rollup.specs.Rolled.{IsRolled, gathered, mark_count, marks}
-use Rattle.desk_rollup.specs.Plan.{nodes_of}
+use Rattle.desk_rollup.specs.Rolled.{IsRolled, gathered, mark_count, mark_numbers_below}
+use Rattle.desk_rollup.specs.Plan.{nodes_of_owns}
 use Rattle.desk_rollup.specs.Sweep.{AreRolledOf, IsSweep}
-use Rattle.desk_rollup.specs.Values.{Kept, NewRolled, OwnValues, RolledValues, filled, hop_total, new_at, new_hop_total, own_with, rolled_at}
+use Rattle.desk_rollup.specs.Values.{KeptValues, OwnValues, RolledValues, hop_total, own_with, rolled_at}
 use Rattle.desk_rollup.proofs.Counts.{none_times, one_if, same_length, some_times, sum_few, times, times-cons}
 use Rattle.desk_rollup.proofs.Frame.{by_place, has_kept, inside, stays}
 use Rattle.desk_rollup.proofs.Lists.{has_once}
-use Rattle.desk_rollup.proofs.MostHops.{hops_of, kept_sum, or_within, put_at, put_sum, put_there, sum_within}
+use Rattle.desk_rollup.proofs.MostHops.{hops_of, kept_sum, put_at, put_sum, put_there, sum_within}
 use Rattle.desk_rollup.proofs.Ranked.{gathered-step}
 use Rattle.desk_rollup.proofs.Rolls.{has_marks}
 
@@ -67,24 +67,24 @@ equally_long xs ys x_once y_once same =
 
 module _ (lines : List (List BillLine)) (rank : ℕ → ℕ) (ranked : Falls lines rank) (own : ℕ → OwnValues) where
   -- a node has as many hops as marks
-  pub hop_count : (node : ℕ) (values : RolledValues) → IsRolled lines own node values → length values.hops ≡ length (marks lines own node)
+  pub hop_count : (node : ℕ) (values : RolledValues) → IsRolled lines own node values → length values.hops ≡ length (mark_numbers_below lines own node)
   hop_count node values right =
       let all = mark_numbers (own node).marks in
       sym (length-map values.hops (λ hop. mark_number hop.mark))
-      ∙ equally_long (hop_numbers values.hops) (marks lines own node) (λ n. rising_once 0 n (hop_numbers values.hops) right.hops_rise)
+      ∙ equally_long (hop_numbers values.hops) (mark_numbers_below lines own node) (λ n. rising_once 0 n (hop_numbers values.hops) right.hops_rise)
       (λ n. subst (λ ns. times n ns ≤ 1) (sym (gathered-step lines rank ranked (λ m. mark_numbers (own m).marks) node)) (once_once n (all ++ flat_map (λ line. gathered lines (λ m. mark_numbers (own m).marks) line.node) (lines_of lines node))))
       (has_marks lines rank ranked own node values right)
 
 -- the marks of a node that has lines
 abbrev pub marks_at : List (List BillLine) → (ℕ → OwnValues) → ℕ → ℕ
-marks_at lines own node = cond (length (lines_of lines node) == 0) 0 (length (marks lines own node))
+marks_at lines own node = cond (length (lines_of lines node) == 0) 0 (length (mark_numbers_below lines own node))
 
 one_at_most : (b : Bool) (n : ℕ) → n ≡ cond b 1 0 → n ≤ 1
 one_at_most true n e = omega (arith, e)
 one_at_most false n e = omega (arith, e)
 
 -- the marks of some of the affected nodes
-module _ (g : Graph) (owns : List OwnValues) (kept : Kept) (of_owns placed : Placed) (lists : List (List BillLine)) (sweep : IsSweep g owns kept of_owns placed lists) where
+module _ (g : Graph) (owns : List OwnValues) (kept : KeptValues) (of_owns placed : Placed) (lists : List (List BillLine)) (sweep : IsSweep g owns kept of_owns placed lists) where
   pub some_marks : (place : ℕ) → sum_by (marks_at g.lines (own_with owns kept.owns)) (take place placed.nodes) ≤ mark_count g.lines (own_with owns kept.owns)
   some_marks place =
       let counted = marks_at g.lines (own_with owns kept.owns) in
@@ -92,7 +92,7 @@ module _ (g : Graph) (owns : List OwnValues) (kept : Kept) (of_owns placed : Pla
       omega (
         arith,
         sum_by-take-le counted placed.nodes place,
-        sum_few counted n n (omega arith) placed.nodes (λ node. one_at_most (is_affected g.lines (nodes_of owns) node) (times node placed.nodes) (sweep.affected node))
+        sum_few counted n n (omega arith) placed.nodes (λ node. one_at_most (is_affected g.lines (nodes_of_owns owns) node) (times node placed.nodes) (sweep.affected node))
             (λ node there. omega (arith, inside g owns kept of_owns placed lists sweep node there, sweep.bill.sizes)),
         sum_by-take-le counted (range_with_len 0 n) n,
       )
@@ -104,8 +104,8 @@ module _ (g : Graph) (owns : List OwnValues) (kept : Kept) (of_owns placed : Pla
       ∙ ap (λ n. sum_by (marks_at g.lines (own_with owns kept.owns)) (take place placed.nodes) + cond (length (lines_of g.lines (slice_index placed.nodes place)) == 0) 0 n)
       (sym (hop_count g.lines sweep.bill.ranked.0 sweep.bill.ranked.1 (own_with owns kept.owns) (slice_index placed.nodes place) values right))
 
-module _ (g : Graph) (owns : List OwnValues) (kept : Kept) (of_owns placed : Placed) (lists : List (List BillLine)) (sweep : IsSweep g owns kept of_owns placed lists)
-    (new : List NewRolled) (size : length new ≡ length placed.nodes) (right : AreRolledOf g owns kept placed.nodes new) where
+module _ (g : Graph) (owns : List OwnValues) (kept : KeptValues) (of_owns placed : Placed) (lists : List (List BillLine)) (sweep : IsSweep g owns kept of_owns placed lists)
+    (new : List RolledValues) (size : length new ≡ length placed.nodes) (right : AreRolledOf g owns kept placed.nodes new) where
   abbrev own : ℕ → OwnValues
   own = own_with owns kept.owns
 
@@ -118,10 +118,10 @@ module _ (g : Graph) (owns : List OwnValues) (kept : Kept) (of_owns placed : Pla
   pub all_right : (node : ℕ) → node < length g.labels → IsRolled g.lines own node (known (place_at placed node) kept.rolled new node)
   all_right node there =
       by_place placed.nodes node (place_at placed node) (sweep.places node) (λ o. IsRolled g.lines own node (known o kept.rolled new node))
-      (λ away. stays g owns kept of_owns placed lists sweep node away there) (λ spot h is. subst (λ n. IsRolled g.lines own n (filled (rolled_at kept.rolled n) (new_at new spot))) is (right spot h))
+      (λ away. stays g owns kept of_owns placed lists sweep node away there) (λ spot h is. subst (λ n. IsRolled g.lines own n (rolled_at new spot)) is (right spot h))
 
   abbrev counted : ℕ → ℕ
-  counted node = cond (length (lines_of g.lines node) == 0) 0 (length (marks g.lines own node))
+  counted node = cond (length (lines_of g.lines node) == 0) 0 (length (mark_numbers_below g.lines own node))
 
   abbrev pub so_far : ℕ → ℕ
   so_far node = sum_by counted (take node (range_with_len 0 (length g.lines)))
@@ -135,7 +135,7 @@ module _ (g : Graph) (owns : List OwnValues) (kept : Kept) (of_owns placed : Pla
       ∙ ap (λ n. so_far node + cond (length (lines_of g.lines node) == 0) 0 n) (sym (hop_count g.lines sweep.bill.ranked.0 sweep.bill.ranked.1 own node (known (place_at placed node) kept.rolled new node) (all_right node there)))
 
   -- there are no more marks than hops that are kept and new together
-  pub count_most : mark_count g.lines own ≤ hop_total kept.rolled + new_hop_total new
+  pub count_most : mark_count g.lines own ≤ hop_total kept.rolled + hop_total new
   count_most =
       let n = length g.lines in
       let kept_hops : ℕ → ℕ = λ node. hops_of (rolled_at kept.rolled node) in
@@ -149,13 +149,12 @@ module _ (g : Graph) (owns : List OwnValues) (kept : Kept) (of_owns placed : Pla
       most_at : (node : ℕ) → hops_of (known (place_at placed node) kept.rolled new node) ≤ hops_of (rolled_at kept.rolled node) + put_at placed.nodes new node
       most_at node =
           by_place placed.nodes node (place_at placed node) (sweep.places node) (λ o. hops_of (known o kept.rolled new node) ≤ hops_of (rolled_at kept.rolled node) + put_at placed.nodes new node)
-          (λ away. omega arith)
-          (λ spot h is. omega (arith, put_there placed.nodes new spot node h size is, or_within (new_at new spot).hops (rolled_at kept.rolled node).hops))
+          (λ away. omega arith) (λ spot h is. omega (arith, put_there placed.nodes new spot node h size is))
 
       counted_most : (node : ℕ) → node < length g.labels → counted node ≤ hops_of (rolled_at kept.rolled node) + put_at placed.nodes new node
       counted_most node there =
           let hops = hop_count g.lines sweep.bill.ranked.0 sweep.bill.ranked.1 own node (known (place_at placed node) kept.rolled new node) (all_right node there) in
-          elim (length (lines_of g.lines node) == 0) as (λ b. cond b 0 (length (marks g.lines own node)) ≤ hops_of (rolled_at kept.rolled node) + put_at placed.nodes new node) [
+          elim (length (lines_of g.lines node) == 0) as (λ b. cond b 0 (length (mark_numbers_below g.lines own node)) ≤ hops_of (rolled_at kept.rolled node) + put_at placed.nodes new node) [
             | true ↦ omega arith
             | false ↦ omega (arith, hops, most_at node)
           ]

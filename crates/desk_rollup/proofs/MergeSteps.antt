@@ -1,11 +1,11 @@
 -- What each step of merging two lists does.
 use Rattle.std.proofs.Common.{◌≡◌, ℕ, ◌+◌, ◌<◌, true, false, ◌==◌, List, [], ◌∷◌, ◌++◌, arith, drop, length, get_or, nat_lt, refl, sym, ap, ◌∙◌}
 use Rattle.std.proofs.lemmas.List.{append_assoc, drop_more}
-use Rattle.desk_rollup.specs.Merge.{entered, merged}
+use Rattle.desk_rollup.specs.Merge.{merged_in, merged}
 
 module _ {X : Type 0} (number : X → ℕ) (join : X → X → X) (go : List X → List X) (entry : X) where
   abbrev here : List X → List X
-  here = entered number join entry go
+  here = merged_in number join entry go
 
   entered_less : (held : X) (rest : List X) → nat_lt (number held) (number entry) ≡ true → here (held ∷ rest) ≡ held ∷ here rest
   entered_less held rest e = rw e refl

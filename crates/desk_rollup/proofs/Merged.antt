@@ -3,8 +3,8 @@ use Rattle.std.proofs.Common.{◌≡◌, ℕ, ◌+◌, ◌<◌, ◌≤◌, true,
 use Rattle.std.proofs.lemmas.Bool.{cases_eq, cases_lt, eq-eqb, le-ltb, lt-ltb, ne_eqb}
 use Rattle.std.specs.List.{AllByRecursion}
 use Rattle.desk_graph.specs.declared.line.BillLine.{BillLine}
-use Rattle.desk_rollup.specs.Gathered.{with_each, with_lines}
-use Rattle.desk_rollup.specs.Merge.{entered, merged}
+use Rattle.desk_rollup.specs.Gathered.{with_each, with_each_line}
+use Rattle.desk_rollup.specs.Merge.{merged_in, merged}
 use Rattle.desk_rollup.specs.Numbers.{RisesFrom}
 use Rattle.desk_rollup.specs.Values.{RolledValues}
 
@@ -38,7 +38,7 @@ module _ {X : Type 0} (number : X → ℕ) (join : X → X → X) (keeps : (held
 
   module _ (go : List X → List X) (entry : X) (more : List X) where
     up_entered : (low : ℕ) (held : List X) → Up low held → Up low (entry ∷ more) →
-        ((low : ℕ) (held : List X) → Up low held → Up low more → Up low (go held)) → Up low (entered number join entry go held)
+        ((low : ℕ) (held : List X) → Up low held → Up low more → Up low (go held)) → Up low (merged_in number join entry go held)
     up_entered low [] up_held up goes = (up.0, goes (number entry + 1) [] tt up.1)
     up_entered low (held ∷ rest) up_held up goes =
         elim (cases_lt (number held) (number entry)) [
@@ -59,7 +59,7 @@ module _ {X : Type 0} (number : X → ℕ) (join : X → X → X) (keeps : (held
 
     look_entered : (low n : ℕ) (held : List X) → Up low held → Up low (entry ∷ more) →
         ((low : ℕ) (held : List X) → Up low held → Up low more → look (go held) n ≡ both join (look held n) (look more n)) →
-        look (entered number join entry go held) n ≡ both join (look held n) (look (entry ∷ more) n)
+        look (merged_in number join entry go held) n ≡ both join (look held n) (look (entry ∷ more) n)
     look_entered low n [] up_held up goes = ap (cond (number entry == n) (Some entry)) (goes (number entry + 1) [] tt up.1)
     look_entered low n (held ∷ rest) up_held up goes =
         elim (cases_lt (number held) (number entry)) [
@@ -143,14 +143,14 @@ module _ {X : Type 0} (number : X → ℕ) (join : X → X → X) (keeps : (held
         ])
 
     -- with what the children of the lines have it still rises
-    pub up_lines : (of_node : List BillLine) (held : List X) → Up 0 held → AllByRecursion (λ line. Up 0 (listed (below line.node))) of_node → Up 0 (with_lines number join lift listed below of_node held)
+    pub up_lines : (of_node : List BillLine) (held : List X) → Up 0 held → AllByRecursion (λ line. Up 0 (listed (below line.node))) of_node → Up 0 (with_each_line number join lift listed below of_node held)
     up_lines [] held up each = up
     up_lines (line ∷ of_node) held up each =
         up_lines of_node (merged number join (map (lift line) (listed (below line.node))) held)
         (up_merged (map (lift line) (listed (below line.node))) 0 held up (up_lifted line 0 (listed (below line.node)) each.0)) each.1
 
     pub look_lines : (n : ℕ) (of_node : List BillLine) (held : List X) → Up 0 held → AllByRecursion (λ line. Up 0 (listed (below line.node))) of_node →
-        look (with_lines number join lift listed below of_node held) n ≡ fold (λ o line. both join o (option_map (lift line) (look (listed (below line.node)) n))) (look held n) of_node
+        look (with_each_line number join lift listed below of_node held) n ≡ fold (λ o line. both join o (option_map (lift line) (look (listed (below line.node)) n))) (look held n) of_node
     look_lines n [] held up each = refl
     look_lines n (line ∷ of_node) held up each =
         let more = map (lift line) (listed (below line.node)) in

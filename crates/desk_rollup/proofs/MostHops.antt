@@ -1,23 +1,13 @@
 -- Sums of hops: there are no more after values are put in than are kept and put in together.
-use Rattle.std.proofs.Common.{◌≡◌, ℕ, zero, suc, ◌+◌, ◌-◌, ◌<◌, ◌≤◌, cond, ◌==◌, List, [], ◌∷◌, length, slice_index, sum_by, Option, None, Some, unwrap_or, refl, ap, subst, inl, inr, arith}
+use Rattle.std.proofs.Common.{◌≡◌, ℕ, zero, suc, ◌+◌, ◌-◌, ◌<◌, ◌≤◌, cond, ◌==◌, List, [], ◌∷◌, length, slice_index, sum_by, refl, ap, subst, inl, inr, arith}
 use Rattle.std.specs.List.{range_with_len}
 use Rattle.std.proofs.lemmas.Bool.{cases_eq, eq-eqb, ne_eqb}
 use Rattle.std.proofs.lemmas.List.Sums.{sum_by-cons}
-use Rattle.desk_rollup.specs.declared.hop.Hop.{Hop}
-use Rattle.desk_rollup.specs.Values.{NewRolled, RolledValues, hop_total, new_at, new_hop_total, rolled_at}
+use Rattle.desk_rollup.specs.Values.{RolledValues, hop_total, rolled_at}
 
 -- how many hops a node has
 abbrev pub hops_of : RolledValues → ℕ
 hops_of values = length values.hops
-
--- how many new hops a node is to have
-abbrev pub new_hops_of : NewRolled → ℕ
-new_hops_of values = length (unwrap_or values.hops [])
-
--- there are no more hops than are kept and new together
-pub or_within : (new : Option (List Hop)) (kept : List Hop) → length (unwrap_or new kept) ≤ length kept + length (unwrap_or new [])
-or_within None kept = omega arith
-or_within (Some hops) kept = omega arith
 
 -- a sum is bounded by those of two functions that bound each part together
 pub sum_within : (f a b : ℕ → ℕ) (low n : ℕ) → ((i : ℕ) → i < low + n → f i ≤ a i + b i) →
@@ -56,29 +46,29 @@ one_at at amount low (suc n) =
     ]
 
 -- the hops that are put in at a node
-abbrev pub put_at : List ℕ → List NewRolled → ℕ → ℕ
+abbrev pub put_at : List ℕ → List RolledValues → ℕ → ℕ
 put_at [] new node = 0
 put_at (first ∷ nodes) [] node = 0
-put_at (first ∷ nodes) (values ∷ new) node = amount_at first (new_hops_of values) node + put_at nodes new node
+put_at (first ∷ nodes) (values ∷ new) node = amount_at first (hops_of values) node + put_at nodes new node
 
-pub put_sum : (nodes : List ℕ) (new : List NewRolled) (low n : ℕ) → sum_by (put_at nodes new) (range_with_len low n) ≤ new_hop_total new
+pub put_sum : (nodes : List ℕ) (new : List RolledValues) (low n : ℕ) → sum_by (put_at nodes new) (range_with_len low n) ≤ hop_total new
 put_sum [] new low n = omega (arith, sum_none (put_at [] new) low n (λ i. refl))
 put_sum (first ∷ nodes) [] low n = omega (arith, sum_none (put_at (first ∷ nodes) []) low n (λ i. refl))
 put_sum (first ∷ nodes) (values ∷ new) low n =
     omega (
       arith,
-      sum_within (put_at (first ∷ nodes) (values ∷ new)) (amount_at first (new_hops_of values)) (put_at nodes new) low n (λ i h. omega arith),
-      one_at first (new_hops_of values) low n,
+      sum_within (put_at (first ∷ nodes) (values ∷ new)) (amount_at first (hops_of values)) (put_at nodes new) low n (λ i h. omega arith),
+      one_at first (hops_of values) low n,
       put_sum nodes new low n,
-      sum_by-cons new_hops_of values new,
+      sum_by-cons hops_of values new,
     )
 
-pub put_there : (nodes : List ℕ) (new : List NewRolled) (place node : ℕ) → place < length nodes → length new ≡ length nodes → slice_index nodes place ≡ node →
-    new_hops_of (new_at new place) ≤ put_at nodes new node
+pub put_there : (nodes : List ℕ) (new : List RolledValues) (place node : ℕ) → place < length nodes → length new ≡ length nodes → slice_index nodes place ≡ node →
+    hops_of (rolled_at new place) ≤ put_at nodes new node
 put_there [] new place node low size is = absurd (omega (arith, low))
 put_there (first ∷ nodes) [] place node low size is = absurd (omega (arith, size))
 put_there (first ∷ nodes) (values ∷ new) zero node low size is =
-    let here = ap (λ b. cond b (new_hops_of values) 0) (eq-eqb first node is) in
+    let here = ap (λ b. cond b (hops_of values) 0) (eq-eqb first node is) in
     omega (arith, here)
 put_there (first ∷ nodes) (values ∷ new) (suc place) node low size is =
     omega (arith, put_there nodes new place node (omega (arith, low)) (omega (arith, size)) is)

@@ -8,11 +8,11 @@ use Rattle.desk_graph.specs.Graph.{Graph, lines_of}
 use Rattle.desk_rollup.specs.Laws.{AreLight, ChangesOne, IsLight}
 use Rattle.desk_rollup.specs.Plan.{AreRolledUp, CanPrepare}
 use Rattle.desk_rollup.specs.Step.{IsStep, IsStepOver}
-use Rattle.desk_rollup.specs.Values.{Kept, OwnValues, amount_of, no_own, own_at, own_with, rolled_at}
+use Rattle.desk_rollup.specs.Values.{KeptValues, OwnValues, amount_of, no_own, own_at, own_with, rolled_at}
 use Rattle.desk_rollup.proofs.Rolls.{no_heavier, to_step}
 
 -- values that are right for a bill are right by the children at a node whose lines stay as they are
-pub step_stays : (g : Graph) → IsBill g → (kept : Kept) → AreRolledUp g kept → (lines : List (List BillLine)) → (node : ℕ) → node < length kept.rolled →
+pub step_stays : (g : Graph) → IsBill g → (kept : KeptValues) → AreRolledUp g kept → (lines : List (List BillLine)) → (node : ℕ) → node < length kept.rolled →
     lines_of lines node ≡ lines_of g.lines node → IsStep lines kept node
 step_stays g bill kept up lines node there same =
     subst (λ of_node. IsStepOver (rolled_at kept.rolled) (own_at kept.owns node) of_node (rolled_at kept.rolled node)) (sym same)
@@ -27,7 +27,7 @@ module _ (own : OwnValues) (kept : List OwnValues) where
         | inr away ↦ rw away (light node what)
       ]
 
-pub may_prepare : (g new : Graph) → IsBill g → IsBill new → (kept : Kept) → AreRolledUp g kept → (own : OwnValues) → ChangesOne g new own.node → AreLight kept.owns → IsLight own → CanPrepare new (own ∷ []) kept
+pub may_prepare : (g new : Graph) → IsBill g → IsBill new → (kept : KeptValues) → AreRolledUp g kept → (own : OwnValues) → ChangesOne g new own.node → AreLight kept.owns → IsLight own → CanPrepare new (own ∷ []) kept
 may_prepare g new bill new_bill kept up own one light own_light = record {
   distinct = (refl, tt);
   nodes = λ node e.
@@ -45,7 +45,7 @@ may_prepare g new bill new_bill kept up own one light own_light = record {
 }
 
 -- after it all are light
-pub light_after : (g : Graph) (kept new : Kept) (own : OwnValues) → AreRolledUp g new → ((node : ℕ) → node < length g.labels → own_at new.owns node ≡ own_with (own ∷ []) kept.owns node) → AreLight kept.owns → IsLight own → AreLight new.owns
+pub light_after : (g : Graph) (kept new : KeptValues) (own : OwnValues) → AreRolledUp g new → ((node : ℕ) → node < length g.labels → own_at new.owns node ≡ own_with (own ∷ []) kept.owns node) → AreLight kept.owns → IsLight own → AreLight new.owns
 light_after g kept new own up is light own_light node what =
     let P : OwnValues → Type 0 = λ o. amount_of o.loads what ≤ o.weight in
     elim (cases_lt node (length g.labels)) [

@@ -7,9 +7,9 @@ use Rattle.desk_graph.specs.Bill.{IsBill}
 use Rattle.desk_graph.specs.Graph.{Graph, lines_of}
 use Rattle.desk_graph.specs.Reaches.{AreAffected, AreChildrenFirst, is_affected}
 use Rattle.desk_rollup.specs.Places.{ArePlaced, Placed}
-use Rattle.desk_rollup.specs.Plan.{AllFit, CanPrepare, IsRollPlan, nodes_of}
+use Rattle.desk_rollup.specs.Plan.{AllFit, CanPrepare, IsRollPlan, nodes_of_owns}
 use Rattle.desk_rollup.specs.Sweep.{AreRolledOf, IsSweep}
-use Rattle.desk_rollup.specs.Values.{DoFit, DoNewFit, Kept, NewRolled, OwnValues, no_new, own_with}
+use Rattle.desk_rollup.specs.Values.{DoFit, KeptValues, OwnValues, RolledValues, no_values, own_with}
 use Rattle.desk_rollup.proofs.Counts.{distinct_once, few, has_at, same_length, times}
 use Rattle.desk_rollup.proofs.Frame.{affected_inside, inside, stays}
 
@@ -25,17 +25,17 @@ affected_once lines seeds nodes affected n = omega (arith, affected n, at_most (
 pub affected_count : (lines : List (List BillLine)) (seeds a b : List ℕ) → AreAffected lines seeds a → AreAffected lines seeds b → length a ≡ length b
 affected_count lines seeds a b of_a of_b = same_length a b (λ n. of_a n ∙ sym (of_b n))
 
-module _ (g : Graph) (bill : IsBill g) (owns : List OwnValues) (kept : Kept) (can : CanPrepare g owns kept) where
-  pub few_owns : length (nodes_of owns) ≤ 24576
-  few_owns = omega (arith, few (length g.labels) (nodes_of owns) (distinct_once (nodes_of owns) can.distinct) can.nodes, bill.nodes)
+module _ (g : Graph) (bill : IsBill g) (owns : List OwnValues) (kept : KeptValues) (can : CanPrepare g owns kept) where
+  pub few_owns : length (nodes_of_owns owns) ≤ 24576
+  few_owns = omega (arith, few (length g.labels) (nodes_of_owns owns) (distinct_once (nodes_of_owns owns) can.distinct) can.nodes, bill.nodes)
 
-  pub few_nodes : (nodes : List ℕ) → AreAffected g.lines (nodes_of owns) nodes → length nodes ≤ 24576
+  pub few_nodes : (nodes : List ℕ) → AreAffected g.lines (nodes_of_owns owns) nodes → length nodes ≤ 24576
   few_nodes nodes affected =
-      omega (arith, few (length g.labels) nodes (affected_once g.lines (nodes_of owns) nodes affected) (affected_inside g bill (nodes_of owns) nodes can.nodes affected), bill.nodes)
+      omega (arith, few (length g.labels) nodes (affected_once g.lines (nodes_of_owns owns) nodes affected) (affected_inside g bill (nodes_of_owns owns) nodes can.nodes affected), bill.nodes)
 
 -- what a sweep goes by
-pub sweep_is : (g : Graph) (owns : List OwnValues) (kept : Kept) (of_owns placed : Placed) (lists : List (List BillLine)) → IsBill g → CanPrepare g owns kept → length kept.owns ≡ length kept.rolled → DoFit kept.rolled →
-    of_owns.nodes ≡ nodes_of owns → ArePlaced of_owns → ArePlaced placed → (nodes : List ℕ) → placed.nodes ≡ nodes → AreAffected g.lines (nodes_of owns) nodes → AreChildrenFirst g.lines nodes → lists ≡ map (lines_of g.lines) nodes →
+pub sweep_is : (g : Graph) (owns : List OwnValues) (kept : KeptValues) (of_owns placed : Placed) (lists : List (List BillLine)) → IsBill g → CanPrepare g owns kept → length kept.owns ≡ length kept.rolled → DoFit kept.rolled →
+    of_owns.nodes ≡ nodes_of_owns owns → ArePlaced of_owns → ArePlaced placed → (nodes : List ℕ) → placed.nodes ≡ nodes → AreAffected g.lines (nodes_of_owns owns) nodes → AreChildrenFirst g.lines nodes → lists ≡ map (lines_of g.lines) nodes →
     IsSweep g owns kept of_owns placed lists
 sweep_is g owns kept of_owns placed lists bill can size fit own_nodes own_places places nodes is affected first lines = record {
   bill = bill;
@@ -45,22 +45,22 @@ sweep_is g owns kept of_owns placed lists bill can size fit own_nodes own_places
   own_nodes = own_nodes;
   own_places = own_places;
   places = places;
-  affected = subst (AreAffected g.lines (nodes_of owns)) (sym is) affected;
+  affected = subst (AreAffected g.lines (nodes_of_owns owns)) (sym is) affected;
   children_first = subst (AreChildrenFirst g.lines) (sym is) first;
   lines_are = lines ∙ ap (map (lines_of g.lines)) (sym is);
 }
 
-module _ (g : Graph) (owns : List OwnValues) (kept : Kept) (of_owns placed : Placed) (lists : List (List BillLine)) (sweep : IsSweep g owns kept of_owns placed lists)
-    (new : List NewRolled) (size : length new ≡ length placed.nodes) (right : AreRolledOf g owns kept placed.nodes new) where
+module _ (g : Graph) (owns : List OwnValues) (kept : KeptValues) (of_owns placed : Placed) (lists : List (List BillLine)) (sweep : IsSweep g owns kept of_owns placed lists)
+    (new : List RolledValues) (size : length new ≡ length placed.nodes) (right : AreRolledOf g owns kept placed.nodes new) where
   -- no new weight is too large
-  pub new_fit : AllFit g (own_with owns kept.owns) → DoNewFit new
+  pub new_fit : AllFit g (own_with owns kept.owns) → DoFit new
   new_fit fit place =
       let P : ℕ → Type 0 = λ w. w < 2 ^ 128 in
       elim (cases_lt place (length new)) [
         | inl below ↦
             let low : place < length placed.nodes = omega (arith, below, size) in
             subst P (sym (right place low).weight) (fit (slice_index placed.nodes place) (inside g owns kept of_owns placed lists sweep (slice_index placed.nodes place) (has_at placed.nodes place low)))
-        | inr past ↦ subst P (sym (ap (λ v. v.weight) (get_or_past new place no_new past))) (omega arith)
+        | inr past ↦ subst P (sym (ap (λ v. v.weight) (get_or_past new place no_values past))) (omega arith)
       ]
 
   -- the plan is one of this bill

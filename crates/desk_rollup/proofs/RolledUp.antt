@@ -1,14 +1,13 @@
 -- What is kept once a plan is put in.
-use Rattle.std.proofs.Common.{◌≡◌, ℕ, zero, suc, ◌<◌, true, false, ◌==◌, List, [], ◌∷◌, length, slice_index, Option, Some, None, unwrap_or, sym, ap, ◌∙◌, subst, inl, inr, arith}
+use Rattle.std.proofs.Common.{◌≡◌, ℕ, zero, suc, ◌<◌, true, false, ◌==◌, List, [], ◌∷◌, length, slice_index, sym, ap, ◌∙◌, subst, inl, inr, arith}
 use Rattle.std.proofs.lemmas.Bool.{cases_Bool, cases_lt, eqb-true, false≢true, or_cases}
 use Rattle.std.proofs.lemmas.List.{get_or_past}
 use Rattle.desk_graph.specs.Graph.{Graph}
 use Rattle.desk_graph.specs.Reaches.{has_node}
-use Rattle.desk_rollup.specs.declared.hop.Hop.{Hop}
 use Rattle.desk_rollup.specs.Numbers.{Rises, hop_numbers}
-use Rattle.desk_rollup.specs.Plan.{AreDistinct, AreRolledUp, IsRollPlan, Planned}
+use Rattle.desk_rollup.specs.Plan.{AreDistinct, AreRolledUp, IsRollPlan, PlannedValues}
 use Rattle.desk_rollup.specs.Rolled.{IsRolled}
-use Rattle.desk_rollup.specs.Values.{AreNewInOrder, Kept, OwnValues, filled_at, new_at, no_new, own_at, own_with, rolled_at}
+use Rattle.desk_rollup.specs.Values.{AreHopsInOrder, KeptValues, OwnValues, no_values, own_at, own_with, rolled_at}
 use Rattle.desk_rollup.proofs.Counts.{once_distinct}
 use Rattle.desk_rollup.proofs.Prepared.{affected_once}
 
@@ -21,26 +20,22 @@ place_of_node (first ∷ nodes) node e =
       | inr there ↦ let found = place_of_node nodes node there in (suc found.0, omega (arith, found.1), found.2)
     ]
 
-module _ (g : Graph) (owns : List OwnValues) (kept : Kept) (plan : Planned) (is : IsRollPlan g owns kept plan) where
+module _ (g : Graph) (owns : List OwnValues) (kept : KeptValues) (plan : PlannedValues) (is : IsRollPlan g owns kept plan) where
   -- the nodes that are replaced differ
   pub nodes_distinct : AreDistinct plan.nodes
-  nodes_distinct = once_distinct plan.nodes (affected_once g.lines (Rattle.desk_rollup.specs.Plan.nodes_of owns) plan.nodes is.affected)
+  nodes_distinct = once_distinct plan.nodes (affected_once g.lines (Rattle.desk_rollup.specs.Plan.nodes_of_owns owns) plan.nodes is.affected)
 
-  -- new hops stand in order
-  pub new_order : AreNewInOrder plan.rolled
-  new_order place =
-      elim (cases_lt place (length plan.rolled)) [
-        | inl there ↦ new_rises (new_at plan.rolled place).hops (rolled_at kept.rolled (slice_index plan.nodes place)).hops (is.replaced place (omega (arith, there, is.sizes))).hops_rise
-        | inr past ↦ subst (λ values. Rises (hop_numbers (unwrap_or values.hops []))) (sym (get_or_past plan.rolled place no_new past)) tt
+  -- the hops of new values stand in order
+  pub new_order : AreHopsInOrder plan.rolled
+  new_order node =
+      elim (cases_lt node (length plan.rolled)) [
+        | inl there ↦ (is.replaced node (omega (arith, there, is.sizes))).hops_rise
+        | inr past ↦ subst (λ values. Rises (hop_numbers values.hops)) (sym (get_or_past plan.rolled node no_values past)) tt
       ]
-    where
-      new_rises : (new : Option (List Hop)) (hops : List Hop) → Rises (hop_numbers (unwrap_or new hops)) → Rises (hop_numbers (unwrap_or new []))
-      new_rises None hops rises = tt
-      new_rises (Some new) hops rises = rises
 
-  pub rolled_up : (new : Kept) → length new.owns ≡ plan.count → length new.rolled ≡ plan.count → ((node : ℕ) → own_at new.owns node ≡ own_with plan.owns kept.owns node) →
+  pub rolled_up : (new : KeptValues) → length new.owns ≡ plan.count → length new.rolled ≡ plan.count → ((node : ℕ) → own_at new.owns node ≡ own_with plan.owns kept.owns node) →
       ((node : ℕ) → has_node plan.nodes node ≡ false → rolled_at new.rolled node ≡ rolled_at kept.rolled node) →
-      ((place : ℕ) → place < length plan.nodes → rolled_at new.rolled (slice_index plan.nodes place) ≡ filled_at kept.rolled plan.nodes plan.rolled place) → AreRolledUp g new
+      ((place : ℕ) → place < length plan.nodes → rolled_at new.rolled (slice_index plan.nodes place) ≡ rolled_at plan.rolled place) → AreRolledUp g new
   rolled_up new owns_size rolled_size own stays put =
       let same : own_at new.owns ≡ own_with owns kept.owns = λ i. λ node. (own node ∙ ap (λ o. own_with o kept.owns node) is.given) i in record {
         owns_size = owns_size ∙ is.count;

@@ -7,38 +7,36 @@ use Rattle.std.proofs.lemmas.List.Sums.{sum_by-cons}
 use Rattle.desk_graph.specs.declared.line.BillLine.{BillLine}
 use Rattle.desk_graph.specs.Graph.{is_line, lines_of}
 use Rattle.desk_graph.specs.Reaches.{Falls}
-use Rattle.desk_rollup.specs.Numbers.{has, hop_numbers, mark_numbers, mark_number, substances}
-use Rattle.desk_rollup.specs.Rolled.{IsRolled, amount, gathered, hop, load, marks, weight}
+use Rattle.desk_rollup.specs.Numbers.{has, hop_numbers, mark_numbers, mark_number, load_numbers}
+use Rattle.desk_rollup.specs.Rolled.{IsRolled, amount, gathered, hop, load, mark_numbers_below, weight}
 use Rattle.desk_rollup.specs.Step.{IsStepOver, step_hop, step_load}
-use Rattle.desk_rollup.specs.Values.{OwnValues, RolledValues, amount_of, carried}
+use Rattle.desk_rollup.specs.Values.{OwnValues, RolledValues, amount_of, carried_in}
 use Rattle.desk_rollup.proofs.Lists.{amount_none, any_same, each_as, each_line, find_same, has_found, is_found, none_any, some_map, sum_none, sum_same}
 use Rattle.desk_rollup.proofs.Ranked.{gathered_has, goes_up, rolled-step}
 
--- hops go by the own values and by the hops of the children alone
-pub same_hops : (a b : ℕ → RolledValues) (own : OwnValues) (of_node : List BillLine) → AllByRecursion (λ line. (a line.node).hops ≡ (b line.node).hops) of_node →
-    (mark : ℕ) → step_hop a own of_node mark ≡ step_hop b own of_node mark
-same_hops a b own of_node each mark =
+-- the hop of a mark goes by the own values and by which children have the mark
+pub same_hop : (a b : ℕ → RolledValues) (own : OwnValues) (of_node : List BillLine) (mark : ℕ) →
+    AllByRecursion (λ line. has (hop_numbers (a line.node).hops) mark ≡ has (hop_numbers (b line.node).hops) mark) of_node → step_hop a own of_node mark ≡ step_hop b own of_node mark
+same_hop a b own of_node mark each =
     ap (λ o. cond (has (mark_numbers own.marks) mark) (Some None) (option_map (λ line. Some line.node) o))
-    (find_same (λ line. has (hop_numbers (a line.node).hops) mark) (λ line. has (hop_numbers (b line.node).hops) mark) of_node
-    (each_as (λ line. (a line.node).hops ≡ (b line.node).hops) (λ line. has (hop_numbers (a line.node).hops) mark ≡ has (hop_numbers (b line.node).hops) mark)
-    (λ line e. ap (λ h. has (hop_numbers h) mark) e) of_node each))
+    (find_same (λ line. has (hop_numbers (a line.node).hops) mark) (λ line. has (hop_numbers (b line.node).hops) mark) of_node each)
 
 module _ (lines : List (List BillLine)) (rank : ℕ → ℕ) (ranked : Falls lines rank) (own : ℕ → OwnValues) where
   abbrev own_marks : ℕ → List ℕ
   own_marks node = mark_numbers (own node).marks
 
   abbrev own_substances : ℕ → List ℕ
-  own_substances node = substances (own node).loads
+  own_substances node = load_numbers (own node).loads
 
   either_some : {X Y : Type 0} (b : Bool) (x : Y) (f : X → Y) (o : Option X) → is_some (cond b (Some x) (option_map f o)) ≡ (b || is_some o)
   either_some true x f o = refl
   either_some false x f o = some_map f o
 
   -- a node has a hop of just its marks
-  pub hop_there : (node mark : ℕ) → is_some (hop lines own node mark) ≡ has (marks lines own node) mark
+  pub hop_there : (node mark : ℕ) → is_some (hop lines own node mark) ≡ has (mark_numbers_below lines own node) mark
   hop_there node mark =
-      either_some (has (own_marks node) mark) None (λ line. Some line.node) (find (λ line. has (marks lines own line.node) mark) (lines_of lines node))
-      ∙ ap (λ b. has (own_marks node) mark || b) (is_found (λ line. has (marks lines own line.node) mark) (lines_of lines node))
+      either_some (has (own_marks node) mark) None (λ line. Some line.node) (find (λ line. has (mark_numbers_below lines own line.node) mark) (lines_of lines node))
+      ∙ ap (λ b. has (own_marks node) mark || b) (is_found (λ line. has (mark_numbers_below lines own line.node) mark) (lines_of lines node))
       ∙ sym (gathered_has lines rank ranked own_marks node mark)
 
   -- what isn't there weighs nothing
@@ -61,7 +59,7 @@ module _ (lines : List (List BillLine)) (rank : ℕ → ℕ) (ranked : Falls lin
 
   -- what the values of a node tell
   module _ (node : ℕ) (values : RolledValues) (right : IsRolled lines own node values) where
-    pub has_marks : (mark : ℕ) → has (hop_numbers values.hops) mark ≡ has (marks lines own node) mark
+    pub has_marks : (mark : ℕ) → has (hop_numbers values.hops) mark ≡ has (mark_numbers_below lines own node) mark
     has_marks mark =
         has_found (λ h. mark_number h.mark) values.hops mark ∙ sym (some_map (λ h. h.next) (find (λ h. mark_number h.mark == mark) values.hops))
         ∙ ap (λ o. is_some o) (right.hops mark) ∙ hop_there node mark
@@ -70,12 +68,12 @@ module _ (lines : List (List BillLine)) (rank : ℕ → ℕ) (ranked : Falls lin
     is_load true n = refl
     is_load false n = refl
 
-    pub has_substances : (what : ℕ) → has (substances values.loads) what ≡ has (gathered lines own_substances node) what
+    pub has_substances : (what : ℕ) → has (load_numbers values.loads) what ≡ has (gathered lines own_substances node) what
     has_substances what =
         has_found (λ l. l.what) values.loads what ∙ sym (some_map (λ l. l.amount) (find (λ l. l.what == what) values.loads))
         ∙ ap (λ o. is_some o) (right.loads what) ∙ is_load (has (gathered lines own_substances node) what) (amount lines own node what)
 
-    pub carried_is : (what : ℕ) → carried values.loads what ≡ amount lines own node what
+    pub carried_is : (what : ℕ) → carried_in values.loads what ≡ amount lines own node what
     carried_is what =
         ap (λ o. unwrap_or o 0) (right.loads what)
         ∙ elim (cases_Bool (has (gathered lines own_substances node) what)) [
@@ -101,21 +99,21 @@ module _ (lines : List (List BillLine)) (rank : ℕ → ℕ) (ranked : Falls lin
     pub hop_by : (mark : ℕ) → step_hop below (own node) of_node mark ≡ hop lines own node mark
     hop_by mark =
         ap (λ o. cond (has (own_marks node) mark) (Some None) (option_map (λ line. Some line.node) o))
-        (find_same (λ line. has (hop_numbers (below line.node).hops) mark) (λ line. has (marks lines own line.node) mark) of_node
-        (each_as (λ line. IsRolled lines own line.node (below line.node)) (λ line. has (hop_numbers (below line.node).hops) mark ≡ has (marks lines own line.node) mark)
+        (find_same (λ line. has (hop_numbers (below line.node).hops) mark) (λ line. has (mark_numbers_below lines own line.node) mark) of_node
+        (each_as (λ line. IsRolled lines own line.node (below line.node)) (λ line. has (hop_numbers (below line.node).hops) mark ≡ has (mark_numbers_below lines own line.node) mark)
         (λ line is. has_marks line.node (below line.node) is mark) of_node each_right))
 
     load_by : (what : ℕ) → step_load below (own node) of_node what ≡ load lines own node what
     load_by what =
-        ap (λ b. cond (has (own_substances node) what || b) (Some (amount_of (own node).loads what + sum_by (λ line. line.count * carried (below line.node).loads what) of_node)) None)
-        (any_same (λ line. has (substances (below line.node).loads) what) (λ line. has (gathered lines own_substances line.node) what) of_node
-        (each_as (λ line. IsRolled lines own line.node (below line.node)) (λ line. has (substances (below line.node).loads) what ≡ has (gathered lines own_substances line.node) what)
+        ap (λ b. cond (has (own_substances node) what || b) (Some (amount_of (own node).loads what + sum_by (λ line. line.count * carried_in (below line.node).loads what) of_node)) None)
+        (any_same (λ line. has (load_numbers (below line.node).loads) what) (λ line. has (gathered lines own_substances line.node) what) of_node
+        (each_as (λ line. IsRolled lines own line.node (below line.node)) (λ line. has (load_numbers (below line.node).loads) what ≡ has (gathered lines own_substances line.node) what)
         (λ line is. has_substances line.node (below line.node) is what) of_node each_right))
-        ∙ ap (λ b. cond b (Some (amount_of (own node).loads what + sum_by (λ line. line.count * carried (below line.node).loads what) of_node)) None) (sym (gathered_has lines rank ranked own_substances node what))
+        ∙ ap (λ b. cond b (Some (amount_of (own node).loads what + sum_by (λ line. line.count * carried_in (below line.node).loads what) of_node)) None) (sym (gathered_has lines rank ranked own_substances node what))
         ∙ ap (λ n. cond (has (gathered lines own_substances node) what) (Some n) None)
         (ap (λ s. amount_of (own node).loads what + s)
-        (sum_same (λ line. line.count * carried (below line.node).loads what) (λ line. line.count * amount lines own line.node what) of_node
-        (each_as (λ line. IsRolled lines own line.node (below line.node)) (λ line. line.count * carried (below line.node).loads what ≡ line.count * amount lines own line.node what)
+        (sum_same (λ line. line.count * carried_in (below line.node).loads what) (λ line. line.count * amount lines own line.node what) of_node
+        (each_as (λ line. IsRolled lines own line.node (below line.node)) (λ line. line.count * carried_in (below line.node).loads what ≡ line.count * amount lines own line.node what)
         (λ line is. ap (λ v. line.count * v) (carried_is line.node (below line.node) is what)) of_node each_right))
         ∙ sym (rolled-step lines rank ranked (λ n. amount_of (own n).loads what) node))
 

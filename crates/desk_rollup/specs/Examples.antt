@@ -1,7 +1,7 @@
 -- Small bills beside values that were worked out by hand.
 use Rattle.std.specs.Prelude.{◌≡◌, ℕ, List, [], ◌∷◌, Some, None}
 use Rattle.desk_graph.specs.declared.line.BillLine.{BillLine}
-use Rattle.desk_rollup.specs.Rolled.{hop, load, mark_count, marks, weight}
+use Rattle.desk_rollup.specs.Rolled.{hop, load, mark_count, mark_numbers_below, weight}
 use Rattle.desk_rollup.specs.Values.{OwnValues, no_own, own_at}
 
 -- so many of a node
@@ -25,7 +25,7 @@ of_material = own_at
 -- what node 0 has: each way counts for its weight and its load, a mark is there once, and its hop leads to the first child that has it
 pub record DiamondExamples : Type 0 where
   pub weighs : weight diamond of_material 0 ≡ 5000000
-  pub has_marks : marks diamond of_material 0 ≡ 17179869185 ∷ []
+  pub has_marks : mark_numbers_below diamond of_material 0 ≡ 17179869185 ∷ []
   pub first_hop : hop diamond of_material 0 17179869185 ≡ Some (Some 1)
   pub ends_here : hop diamond of_material 4 17179869185 ≡ Some None
   pub no_hop : hop diamond of_material 0 17179869186 ≡ None

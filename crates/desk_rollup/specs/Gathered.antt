@@ -1,22 +1,21 @@
 -- The lists of a node, gathered from its own entries and from those of its children.
-use Rattle.std.specs.Prelude.{◌≡◌, ◌⊎◌, ℕ, Bool, false, Option, ◌+◌, ◌*◌, ◌-◌, ◌^◌, List, [], ◌∷◌, Some, None, fold, map, min, unwrap_or}
-use Rattle.std.specs.List.{AllByRecursion}
+use Rattle.std.specs.Prelude.{◌≡◌, ℕ, ◌+◌, ◌*◌, ◌-◌, ◌^◌, List, [], ◌∷◌, Some, None, fold, map, min}
 use Rattle.desk_graph.specs.declared.line.BillLine.{BillLine}
 use Rattle.desk_rollup.specs.declared.mark.Mark.{Mark}
 use Rattle.desk_rollup.specs.declared.hop.Hop.{Hop}
 use Rattle.desk_rollup.specs.declared.load.Load.{Load}
 use Rattle.desk_rollup.specs.Merge.{merged}
 use Rattle.desk_rollup.specs.Numbers.{mark_number}
-use Rattle.desk_rollup.specs.Values.{RolledValues, rolled_at}
+use Rattle.desk_rollup.specs.Values.{RolledValues}
 
 -- the list with each of the entries
 abbrev pub with_each : {X : Type 0} → (X → ℕ) → (X → X → X) → List X → List X → List X
 with_each number join entries held = fold (λ list entry. merged number join (entry ∷ []) list) held entries
 
 -- the list with what the children of the lines have, lifted along the lines
-abbrev pub with_lines : {X : Type 0} → (X → ℕ) → (X → X → X) → (BillLine → X → X) → (RolledValues → List X) → (ℕ → RolledValues) →
+abbrev pub with_each_line : {X : Type 0} → (X → ℕ) → (X → X → X) → (BillLine → X → X) → (RolledValues → List X) → (ℕ → RolledValues) →
     List BillLine → List X → List X
-with_lines number join lift listed below of_node held =
+with_each_line number join lift listed below of_node held =
     fold (λ list line. merged number join (map (lift line) (listed (below line.node))) list) held of_node
 
 -- an own mark
@@ -26,7 +25,7 @@ own_hop mark = record { mark = mark; next = None }
 -- the hops of a node
 abbrev pub all_hops : (ℕ → RolledValues) → List Mark → List BillLine → List Hop
 all_hops below marks of_node =
-    with_lines (λ hop. mark_number hop.mark) (λ held more. held) (λ line hop. record { mark = hop.mark; next = Some line.node })
+    with_each_line (λ hop. mark_number hop.mark) (λ held more. held) (λ line hop. record { mark = hop.mark; next = Some line.node })
     (λ values. values.hops) below of_node
     (with_each (λ hop. mark_number hop.mark) (λ held more. held) (map own_hop marks) [])
 
@@ -41,18 +40,8 @@ lifted_load line load = record { what = load.what; amount = min (load.amount * l
 -- the loads of a node
 abbrev pub all_loads : (ℕ → RolledValues) → List Load → List BillLine → List Load
 all_loads below loads of_node =
-    with_lines (λ load. load.what) joined_loads lifted_load (λ values. values.loads) below of_node (with_each (λ load. load.what) joined_loads loads [])
+    with_each_line (λ load. load.what) joined_loads lifted_load (λ values. values.loads) below of_node (with_each (λ load. load.what) joined_loads loads [])
 
 -- where no child of the lines has a hop or a load, a node without any of its own has none
 abbrev pub HaveNone : (ℕ → RolledValues) → List BillLine → Type 0
 HaveNone below of_node = (all_hops below [] of_node ≡ []) × (all_loads below [] of_node ≡ [])
-
--- what the children of the lines have of hops is what is kept of them
-abbrev pub KeepHops : (ℕ → RolledValues) → List RolledValues → List BillLine → Type 0
-KeepHops below kept of_node = AllByRecursion (λ line. (below line.node).hops ≡ (rolled_at kept line.node).hops) of_node
-
--- with these new hops a node has those that it comes to; or there are none, it isn't given own values, and its children keep their hops
-abbrev pub AreNewHops : (ℕ → RolledValues) → List RolledValues → List Mark → List BillLine → ℕ → Bool → Option (List Hop) → Type 0
-AreNewHops below kept marks of_node node is_given hops =
-    (unwrap_or hops (rolled_at kept node).hops ≡ all_hops below marks of_node)
-    ⊎ ((hops ≡ None) × (is_given ≡ false) × KeepHops below kept of_node)

@@ -6,11 +6,11 @@ use Rattle.desk_graph.specs.Graph.{Graph, lines_of}
 use Rattle.desk_rollup.specs.Plan.{AreRolledUp, CanPrepare}
 use Rattle.desk_rollup.specs.Rolled.{amount, weight}
 use Rattle.desk_rollup.specs.Step.{IsStep}
-use Rattle.desk_rollup.specs.Values.{Kept, OwnValues, amount_of, own_at}
+use Rattle.desk_rollup.specs.Values.{KeptValues, OwnValues, amount_of, own_at}
 
 -- values that are right for a bill are right by the children at each node whose lines stay as they are
 abbrev pub StaysRight : Type 0
-StaysRight = (g : Graph) → IsBill g → (kept : Kept) → AreRolledUp g kept → (lines : List (List BillLine)) → (node : ℕ) → node < length kept.rolled →
+StaysRight = (g : Graph) → IsBill g → (kept : KeptValues) → AreRolledUp g kept → (lines : List (List BillLine)) → (node : ℕ) → node < length kept.rolled →
     lines_of lines node ≡ lines_of g.lines node → IsStep lines kept node
 
 -- where no node has more of a substance of its own than it weighs, none carries more of it than it weighs
@@ -35,5 +35,5 @@ pub record ChangesOne (g new : Graph) (node : ℕ) : Type 0 where
 
 -- where an edit changes one node, the roll-ups may be prepared with new own values of that node
 abbrev pub MayPrepareOne : Type 0
-MayPrepareOne = (g new : Graph) → IsBill g → IsBill new → (kept : Kept) → AreRolledUp g kept → (own : OwnValues) →
+MayPrepareOne = (g new : Graph) → IsBill g → IsBill new → (kept : KeptValues) → AreRolledUp g kept → (own : OwnValues) →
     ChangesOne g new own.node → AreLight kept.owns → IsLight own → CanPrepare new (own ∷ []) kept

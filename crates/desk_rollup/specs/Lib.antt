@@ -8,6 +8,7 @@ pub mod Faults
 pub mod Places
 pub mod Weights
 pub mod Gathered
+pub mod Changed
 pub mod Sweep
 pub mod Inside
 pub mod Chain

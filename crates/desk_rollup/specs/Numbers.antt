@@ -1,5 +1,6 @@
 -- Marks and substances by number.
-use Rattle.std.specs.Prelude.{ℕ, ◌+◌, ◌*◌, ◌≤◌, Bool, List, [], ◌∷◌, map, if◌then◌else◌}
+use Rattle.std.specs.Prelude.{◌≡◌, ℕ, ◌+◌, ◌*◌, ◌≤◌, Bool, List, [], ◌∷◌, map, nat_lt, true, false, if◌then◌else◌}
+use Rattle.std.specs.List.Sorted.{IsPartitionPoint}
 use Rattle.desk_graph.specs.Reaches.{has_node}
 use Rattle.desk_rollup.specs.declared.mark.Mark.{Mark}
 use Rattle.desk_rollup.specs.declared.hop.Hop.{Hop}
@@ -18,8 +19,8 @@ abbrev pub hop_numbers : List Hop → List ℕ
 hop_numbers hops = map (λ hop. mark_number hop.mark) hops
 
 -- the substances of loads
-abbrev pub substances : List Load → List ℕ
-substances loads = map (λ load. load.what) loads
+abbrev pub load_numbers : List Load → List ℕ
+load_numbers loads = map (λ load. load.what) loads
 
 -- one of the numbers is this one
 abbrev pub has : List ℕ → ℕ → Bool
@@ -38,3 +39,7 @@ Rises numbers = RisesFrom 0 numbers
 abbrev pub once : List ℕ → List ℕ
 once [] = []
 once (number ∷ numbers) = if has numbers number then once numbers else number ∷ once numbers
+
+-- the place behind all hops of lesser numbers
+abbrev pub IsPlaceOf : ℕ → List Hop → ℕ → Type 0
+IsPlaceOf number hops at = IsPartitionPoint (λ hop. nat_lt (mark_number hop.mark) number ≡ true) (λ hop. nat_lt (mark_number hop.mark) number ≡ false) hops at

@@ -7,18 +7,18 @@ use Rattle.desk_rollup.specs.declared.fault.RollFault.{RollFault}
 use Rattle.desk_rollup.specs.declared.fault.RollFault.TheVariants.{WeightTooLarge, MarksFull, OutOfMemory}
 use Rattle.desk_rollup.specs.Rolled.{IsRolled, amount, mark_count, weight}
 use Rattle.desk_rollup.specs.Step.{IsStep}
-use Rattle.desk_rollup.specs.Values.{Kept, NewRolled, OwnValues, filled_at, new_at, own_at, own_with, rolled_at}
+use Rattle.desk_rollup.specs.Values.{KeptValues, OwnValues, RolledValues, own_at, own_with, rolled_at}
 
 -- what is to be put in: new own values of nodes, and the values of the nodes that they replace, of so many nodes in all
-pub record Planned : Type 0 where
+pub record PlannedValues : Type 0 where
   pub count : ℕ
   pub owns : List OwnValues
   pub nodes : List ℕ
-  pub rolled : List NewRolled
+  pub rolled : List RolledValues
 
 -- the nodes of these own values
-abbrev pub nodes_of : List OwnValues → List ℕ
-nodes_of owns = map (λ own. own.node) owns
+abbrev pub nodes_of_owns : List OwnValues → List ℕ
+nodes_of_owns owns = map (λ own. own.node) owns
 
 -- no node stands there twice
 abbrev pub AreDistinct : List ℕ → Type 0
@@ -28,12 +28,12 @@ AreDistinct (node ∷ nodes) = (has_node nodes node ≡ false) × AreDistinct no
 -- the new own values go with the bill and with what is kept: they are of distinct nodes of the bill, every node that has values is one of
 -- it, a node that has none gets own values, the values of every other node are right by those of its children, and no node carries more
 -- than it weighs
-pub record CanPrepare (g : Graph) (owns : List OwnValues) (kept : Kept) : Type 0 where
-  pub distinct : AreDistinct (nodes_of owns)
-  pub nodes : (node : ℕ) → has_node (nodes_of owns) node ≡ true → node < length g.labels
+pub record CanPrepare (g : Graph) (owns : List OwnValues) (kept : KeptValues) : Type 0 where
+  pub distinct : AreDistinct (nodes_of_owns owns)
+  pub nodes : (node : ℕ) → has_node (nodes_of_owns owns) node ≡ true → node < length g.labels
   pub kept_nodes : length kept.rolled ≤ length g.labels
-  pub new_nodes : (node : ℕ) → length kept.rolled ≤ node → node < length g.labels → has_node (nodes_of owns) node ≡ true
-  pub steps : (node : ℕ) → node < length kept.rolled → has_node (nodes_of owns) node ≡ false → IsStep g.lines kept node
+  pub new_nodes : (node : ℕ) → length kept.rolled ≤ node → node < length g.labels → has_node (nodes_of_owns owns) node ≡ true
+  pub steps : (node : ℕ) → node < length kept.rolled → has_node (nodes_of_owns owns) node ≡ false → IsStep g.lines kept node
   pub lighter : (node what : ℕ) → node < length g.labels → amount g.lines (own_with owns kept.owns) node what ≤ weight g.lines (own_with owns kept.owns) node
 
 -- no node weighs 2^128 or more
@@ -48,7 +48,7 @@ pub record IsFirstTooLarge (g : Graph) (own : ℕ → OwnValues) (node : ℕ) : 
       is_lt (label_cmp (label_of g.labels other) (label_of g.labels node)) ≡ false
 
 -- nothing is too large, and the nodes that have lines have no more marks than there may be
-pub record IsAccepted (g : Graph) (own : ℕ → OwnValues) : Type 0 where
+pub record IsWithinLimits (g : Graph) (own : ℕ → OwnValues) : Type 0 where
   pub fit : AllFit g own
   pub count : mark_count g.lines own ≤ 4194304
 
@@ -60,28 +60,28 @@ IsRefused g own OutOfMemory = Unit {0}
 
 -- the plan is one of this bill and of what is kept: it has the values of just the nodes that are given own values or reach one that is,
 -- each once, these are nodes of the bill, as are all that have values, and the values of the others stay right
-pub record IsRollPlan (g : Graph) (owns : List OwnValues) (kept : Kept) (plan : Planned) : Type 0 where
+pub record IsRollPlan (g : Graph) (owns : List OwnValues) (kept : KeptValues) (plan : PlannedValues) : Type 0 where
   pub count : plan.count ≡ length g.labels
   pub given : plan.owns ≡ owns
-  pub affected : AreAffected g.lines (nodes_of owns) plan.nodes
+  pub affected : AreAffected g.lines (nodes_of_owns owns) plan.nodes
   pub inside : (node : ℕ) → has_node plan.nodes node ≡ true → node < plan.count
-  pub distinct : AreDistinct (nodes_of owns)
-  pub own_nodes : (node : ℕ) → has_node (nodes_of owns) node ≡ true → node < plan.count
+  pub distinct : AreDistinct (nodes_of_owns owns)
+  pub own_nodes : (node : ℕ) → has_node (nodes_of_owns owns) node ≡ true → node < plan.count
   pub kept_nodes : length kept.rolled ≤ plan.count
   pub sizes : length plan.rolled ≡ length plan.nodes
   pub replaced : (place : ℕ) → place < length plan.nodes →
-      IsRolled g.lines (own_with owns kept.owns) (slice_index plan.nodes place) (filled_at kept.rolled plan.nodes plan.rolled place)
+      IsRolled g.lines (own_with owns kept.owns) (slice_index plan.nodes place) (rolled_at plan.rolled place)
   pub stays : (node : ℕ) → node < length g.labels → has_node plan.nodes node ≡ false →
       IsRolled g.lines (own_with owns kept.owns) node (rolled_at kept.rolled node)
 
 -- the values of every node of the bill are kept, and are right
-pub record AreRolledUp (g : Graph) (kept : Kept) : Type 0 where
+pub record AreRolledUp (g : Graph) (kept : KeptValues) : Type 0 where
   pub owns_size : length kept.owns ≡ length g.labels
   pub rolled_size : length kept.rolled ≡ length g.labels
   pub rolled : (node : ℕ) → node < length g.labels → IsRolled g.lines (own_at kept.owns) node (rolled_at kept.rolled node)
 
--- the weight is the one that the plan has of the node, or there is none
-abbrev pub IsPlannedOf : Planned → ℕ → Option ℕ → Type 0
+-- the values are those that the plan has of the node, or there are none
+abbrev pub IsPlannedOf : PlannedValues → ℕ → Option RolledValues → Type 0
 IsPlannedOf plan node None = has_node plan.nodes node ≡ false
-IsPlannedOf plan node (Some weight) =
-    (place : ℕ) × (place < length plan.nodes) × (slice_index plan.nodes place ≡ node) × (weight ≡ (new_at plan.rolled place).weight)
+IsPlannedOf plan node (Some values) =
+    (place : ℕ) × (place < length plan.nodes) × (slice_index plan.nodes place ≡ node) × (values ≡ rolled_at plan.rolled place)

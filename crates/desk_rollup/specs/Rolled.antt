@@ -4,8 +4,8 @@ use Rattle.std.specs.List.{range_with_len}
 use Rattle.desk_graph.specs.declared.line.BillLine.{BillLine}
 use Rattle.desk_graph.specs.Graph.{lines_of}
 use Rattle.desk_graph.specs.Reaches.{enough}
-use Rattle.desk_rollup.specs.Numbers.{Rises, has, hop_numbers, mark_numbers, once, substances}
-use Rattle.desk_rollup.specs.Values.{OwnValues, RolledValues, amount_of, hop_of, load_of}
+use Rattle.desk_rollup.specs.Numbers.{Rises, has, hop_numbers, mark_numbers, once, load_numbers}
+use Rattle.desk_rollup.specs.Values.{OwnValues, RolledValues, amount_of, hop_of, load_in}
 
 -- what a node has of its own and, for each of its lines, count times what the child has, down to so many lines deep
 unfoldable pub rolled_within : List (List BillLine) → (ℕ → ℕ) → ℕ → ℕ → ℕ
@@ -30,15 +30,15 @@ abbrev pub weight : List (List BillLine) → (ℕ → OwnValues) → ℕ → ℕ
 weight lines own node = rolled lines (λ n. (own n).weight) node
 
 -- the marks of a node, by number
-abbrev pub marks : List (List BillLine) → (ℕ → OwnValues) → ℕ → List ℕ
-marks lines own node = gathered lines (λ n. mark_numbers (own n).marks) node
+abbrev pub mark_numbers_below : List (List BillLine) → (ℕ → OwnValues) → ℕ → List ℕ
+mark_numbers_below lines own node = gathered lines (λ n. mark_numbers (own n).marks) node
 
 -- the hop of a mark at a node: none of an own mark, else the child with the least label that has the mark. The lines of a node stand in
 -- the order of their labels
 abbrev pub hop : List (List BillLine) → (ℕ → OwnValues) → ℕ → ℕ → Option (Option ℕ)
 hop lines own node mark =
     if has (mark_numbers (own node).marks) mark then Some None
-    else option_map (λ line. Some line.node) (find (λ line. has (marks lines own line.node) mark) (lines_of lines node))
+    else option_map (λ line. Some line.node) (find (λ line. has (mark_numbers_below lines own line.node) mark) (lines_of lines node))
 
 -- what a node carries of a substance
 abbrev pub amount : List (List BillLine) → (ℕ → OwnValues) → ℕ → ℕ → ℕ
@@ -47,17 +47,17 @@ amount lines own node what = rolled lines (λ n. amount_of (own n).loads what) n
 -- the load of a substance at a node: there is one where the node or one that it is made of has one of its own
 abbrev pub load : List (List BillLine) → (ℕ → OwnValues) → ℕ → ℕ → Option ℕ
 load lines own node what =
-    if has (gathered lines (λ n. substances (own n).loads) node) what then Some (amount lines own node what) else None
+    if has (gathered lines (λ n. load_numbers (own n).loads) node) what then Some (amount lines own node what) else None
 
 -- these are the values of the node
 pub record IsRolled (lines : List (List BillLine)) (own : ℕ → OwnValues) (node : ℕ) (values : RolledValues) : Type 0 where
   pub weight : values.weight ≡ weight lines own node
   pub hops_rise : Rises (hop_numbers values.hops)
   pub hops : (mark : ℕ) → hop_of values.hops mark ≡ hop lines own node mark
-  pub loads_rise : Rises (substances values.loads)
-  pub loads : (what : ℕ) → load_of values.loads what ≡ load lines own node what
+  pub loads_rise : Rises (load_numbers values.loads)
+  pub loads : (what : ℕ) → load_in values.loads what ≡ load lines own node what
 
 -- how many marks the nodes have that have lines
 abbrev pub mark_count : List (List BillLine) → (ℕ → OwnValues) → ℕ
 mark_count lines own =
-    sum_by (λ node. if length (lines_of lines node) == 0 then 0 else length (marks lines own node)) (range_with_len 0 (length lines))
+    sum_by (λ node. if length (lines_of lines node) == 0 then 0 else length (mark_numbers_below lines own node)) (range_with_len 0 (length lines))

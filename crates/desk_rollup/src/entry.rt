@@ -2,7 +2,7 @@ ghost use Rattle.std.specs.Prelude.{◌≡◌, ℕ, List};
 ghost use Rattle.desk_graph.specs.declared.line.BillLine.{BillLine};
 ghost use Rattle.desk_rollup.specs.Values.{RolledValues};
 
-use crate::values::Found;
+use crate::rolled::Rolled;
 use desk_graph::BillLine;
 
 /// What a node has of one number: its hop of a mark, or its load of a substance.
@@ -32,8 +32,8 @@ pub trait Entry: Copy {
         ensures { result ≡ lifted line self };
 
     /// The entries of a node.
-    fn listed<'v>(found: &Found<'v>) -> &'v [Self]
+    fn listed(rolled: &Rolled) -> &[Self]
     where
         Self: Sized,
-        ensures { result.now ≡ listed found.now };
+        ensures { result.now ≡ listed rolled.now };
 }

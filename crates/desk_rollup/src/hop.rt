@@ -3,7 +3,7 @@ ghost use Rattle.desk_rollup.specs.Numbers.{mark_number};
 
 use crate::entry::Entry;
 use crate::mark::Mark;
-use crate::values::Found;
+use crate::rolled::Rolled;
 use desk_graph::{BillLine, NodeId};
 
 /// A mark of a node, and where the way to it goes on. It takes 16 bytes.
@@ -39,8 +39,8 @@ impl Entry for Hop {
         }
     }
 
-    fn listed<'v>(found: &Found<'v>) -> &'v [Hop] {
-        found.hops
+    fn listed(rolled: &Rolled) -> &[Hop] {
+        rolled.hops.as_slice()
     }
 }
 

@@ -1,16 +1,18 @@
 //! What goes up a bill of materials and is kept by node: weights, marks with the way to each, and loads.
 #![tactic(auto)]
 
+mod changed_marks;
 mod entry;
 mod examples;
 mod fault;
 mod gathering;
 mod hop;
+mod hops;
 mod laws;
 mod load;
 mod mark;
+mod mending;
 mod merge;
-mod new_values;
 mod own;
 mod places;
 mod plan;
@@ -24,6 +26,7 @@ mod weights;
 pub use examples::examples_hold;
 pub use fault::RollFault;
 pub use hop::Hop;
+pub use hops::Hops;
 pub use laws::{may_prepare_one, stays_lighter, stays_right};
 pub use load::Load;
 pub use mark::Mark;

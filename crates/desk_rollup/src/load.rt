@@ -1,7 +1,7 @@
 ghost use Rattle.std.specs.Prelude.{◌+◌, ◌-◌, ◌*◌, ◌^◌, min};
 
 use crate::entry::Entry;
-use crate::values::Found;
+use crate::rolled::Rolled;
 use desk_graph::BillLine;
 
 /// How much a node carries of a substance.
@@ -40,7 +40,7 @@ impl Entry for Load {
         }
     }
 
-    fn listed<'v>(found: &Found<'v>) -> &'v [Load] {
-        found.loads
+    fn listed(rolled: &Rolled) -> &[Load] {
+        rolled.loads.as_slice()
     }
 }

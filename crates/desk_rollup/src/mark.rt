@@ -1,5 +1,5 @@
 ghost use Rattle.std.specs.Prelude.{◌≡◌};
-ghost use Rattle.desk_rollup.specs.Numbers.{mark_number};
+ghost use Rattle.desk_rollup.specs.Numbers.{has, mark_number, mark_numbers};
 
 use desk_graph::NodeId;
 
@@ -19,4 +19,16 @@ impl Mark {
     {
         u64::from(self.node) * 4_294_967_296 + u64::from(self.what)
     }
+}
+
+/// Whether one of the marks has this number.
+pub fn has_number(marks: &[Mark], number: u64) -> bool
+    ensures { result ≡ has (mark_numbers marks.now) number }
+{
+    for mark in marks {
+        if mark.number() == number {
+            return true;
+        }
+    }
+    false
 }

@@ -1,5 +1,5 @@
 ghost use Rattle.std.specs.Prelude.{◌≡◌, ◌<◌, ◌≤◌, ◌++◌, List, false, drop, length, map, nat_lt, slice_index_or, take, IfOk, OnOk};
-ghost use Rattle.desk_rollup.specs.Merge.{entered, merged};
+ghost use Rattle.desk_rollup.specs.Merge.{merged_in, merged};
 
 use crate::entry::Entry;
 use desk_graph::{BillLine, OutOfMemory};
@@ -61,8 +61,8 @@ fn past_below<E: Entry>(held: &[E], from: usize, entry: E) -> usize
     requires { from ≤ length held.now }
     ensures within { result ≤ length held.now }
     ensures stops { (none : E) → result < length held.now → nat_lt (E.number (slice_index_or held.now result none)) (E.number entry) ≡ false }
-    ensures passes { (go : List E → List E) → take from held.now ++ entered E.number E.joined entry go (drop from held.now) ≡
-        take result held.now ++ entered E.number E.joined entry go (drop result held.now) }
+    ensures passes { (go : List E → List E) → take from held.now ++ merged_in E.number E.joined entry go (drop from held.now) ≡
+        take result held.now ++ merged_in E.number E.joined entry go (drop result held.now) }
 {
     for at in from..held.len() {
         if held[at].number() >= entry.number() {
@@ -115,7 +115,7 @@ pub fn push_entry<E: Entry>(
     requires { from ≤ length held.now }
     ensures within { IfOk result (λ next. next ≤ length held.now) }
     ensures pushes { IfOk result (λ next. (go : List E → List E) →
-        into.old.items ++ entered E.number E.joined entry go (drop from held.now) ≡ into.new.items ++ go (drop next held.now)) }
+        into.old.items ++ merged_in E.number E.joined entry go (drop from held.now) ≡ into.new.items ++ go (drop next held.now)) }
 {
     let at = push_below(held, from, entry, into)?;
     push_joined(held, at, entry, into)
@@ -132,7 +132,7 @@ fn push_below<E: Entry>(
     ensures within { IfOk result (λ at. at ≤ length held.now) }
     ensures stops { IfOk result (λ at. (none : E) → at < length held.now → nat_lt (E.number (slice_index_or held.now at none)) (E.number entry) ≡ false) }
     ensures pushes { IfOk result (λ at. (go : List E → List E) →
-        into.old.items ++ entered E.number E.joined entry go (drop from held.now) ≡ into.new.items ++ entered E.number E.joined entry go (drop at held.now)) }
+        into.old.items ++ merged_in E.number E.joined entry go (drop from held.now) ≡ into.new.items ++ merged_in E.number E.joined entry go (drop at held.now)) }
 {
     for at in from..held.len() {
         if held[at].number() >= entry.number() {
@@ -154,7 +154,7 @@ fn push_joined<E: Entry>(
     requires stops { (none : E) → at < length held.now → nat_lt (E.number (slice_index_or held.now at none)) (E.number entry) ≡ false }
     ensures within { IfOk result (λ next. next ≤ length held.now) }
     ensures pushes { IfOk result (λ next. (go : List E → List E) →
-        into.old.items ++ entered E.number E.joined entry go (drop at held.now) ≡ into.new.items ++ go (drop next held.now)) }
+        into.old.items ++ merged_in E.number E.joined entry go (drop at held.now) ≡ into.new.items ++ go (drop next held.now)) }
 {
     if at >= held.len() {
         into.push(entry)?;

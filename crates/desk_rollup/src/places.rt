@@ -1,6 +1,6 @@
 ghost use Rattle.std.specs.Prelude.{◌≡◌, ◌<◌, ◌≤◌, ◌==◌, ℕ, true, length, position, IfOk};
 ghost use Rattle.desk_graph.specs.Reaches.{has_node};
-ghost use Rattle.desk_rollup.specs.Places.{IsTold, place_at, place_in};
+ghost use Rattle.desk_rollup.specs.Places.{IsPlaceOf, place_at, place_in};
 
 use desk_graph::{NodeId, OutOfMemory};
 use std::alloc::Global;
@@ -59,7 +59,7 @@ impl Places {
     /// The place of a node, if it has one.
     pub fn place_of(&self, node: NodeId) -> Option<usize>
         ensures place { result ≡ place_at self.now node }
-        ensures told { IsTold self.now.nodes node result }
+        ensures told { IsPlaceOf self.now.nodes node result }
     {
         if node as usize >= self.slots.len() {
             return first_place(self.nodes.as_slice(), node);
@@ -83,7 +83,7 @@ fn set_slots(nodes: &[NodeId], slots: &mut [u16])
     requires nodes { (node : ℕ) → has_node nodes.now node ≡ true → node < length slots.old }
     requires few { length nodes.now ≤ 24576 }
     requires none { (node : ℕ) → place_in slots.old node ≡ None }
-    ensures { (node : ℕ) → IsTold nodes.now node (place_in slots.new node) }
+    ensures { (node : ℕ) → IsPlaceOf nodes.now node (place_in slots.new node) }
 {
     for (place, node) in nodes.iter().enumerate() {
         slots[*node as usize] = place as u16 + 1;

@@ -1,10 +1,8 @@
-ghost use Rattle.std.specs.Prelude.{◌≡◌, ◌+◌, ℕ, [], length, IfOk, IfSome};
-ghost use Rattle.desk_rollup.specs.Values.{filled, no_values};
+ghost use Rattle.std.specs.Prelude.{◌≡◌, true, [], length, IfOk};
+ghost use Rattle.desk_rollup.specs.Values.{no_values};
 
-use crate::hop::Hop;
+use crate::hops::Hops;
 use crate::load::Load;
-use crate::new_values::NewValues;
-use crate::values::Found;
 use desk_graph::OutOfMemory;
 use std::alloc::Global;
 use std::marker::Model;
@@ -14,8 +12,9 @@ use std::marker::Model;
 pub struct Rolled {
     /// What the node weighs.
     pub weight: u128,
-    /// What is found at it, and where the way to each mark goes on, in the order of marks, each once.
-    pub hops: Vec<Hop>,
+    /// What is found at it, and where the way to each mark goes on, in the order of marks, each once. A plan shares the lists that stay
+    /// as they are with what is kept, and so do copies.
+    pub hops: Hops,
     /// What it carries, in the order of `what`, each once.
     pub loads: Vec<Load>,
 }
@@ -27,7 +26,7 @@ impl Model for Rolled {
 
     ghost view = { λ rolled. record {
       weight = rolled.weight;
-      hops = rolled.hops.items;
+      hops = rolled.hops;
       loads = rolled.loads.items;
     } };
 }
@@ -39,57 +38,34 @@ impl Rolled {
     {
         Rolled {
             weight: 0,
-            hops: Vec::new(alloc),
+            hops: Hops::none(),
             loads: Vec::new(alloc),
         }
     }
 
-    /// The values, as they stand here.
-    pub(crate) fn found(&self) -> Found
-        ensures { result ≡ self.now }
+    /// Whether the node has no mark and no load.
+    pub(crate) fn has_none(&self) -> bool
+        ensures hops { result ≡ true → self.now.hops ≡ [] }
+        ensures loads { result ≡ true → self.now.loads ≡ [] }
     {
-        Found {
-            weight: self.weight,
-            hops: self.hops.as_slice(),
-            loads: self.loads.as_slice(),
-        }
+        self.hops.as_slice().is_empty() && self.loads.is_empty()
     }
 
-    /// Puts new values in, and gives how many hops all nodes have then, if it is told how many they have now.
-    pub(crate) fn put(&mut self, new: NewValues, hops: Option<usize>) -> Option<usize>
-        ensures values { self.new ≡ filled self.old new }
-        ensures hops { (rest : ℕ) → IfSome hops (λ sum. sum ≡ rest + length self.old.hops) → IfSome result (λ sum. sum ≡ rest + length self.new.hops) }
+    /// How many hops the node has.
+    pub(crate) fn hop_count(&self) -> usize
+        ensures { result ≡ length self.now.hops }
     {
-        let NewValues {
-            weight,
-            hops: new_hops,
-            loads,
-        } = new;
-        self.weight = weight;
-        self.loads = loads;
-        let Some(new_hops) = new_hops else {
-            return hops;
-        };
-        let sum = exchanged(hops, self.hops.len(), new_hops.len());
-        self.hops = new_hops;
-        sum
+        self.hops.as_slice().len()
     }
 
-    /// The same values once more.
+    /// The same values once more, with the same list of hops.
     pub(crate) fn copied(&self, alloc: Global) -> Result<Rolled, OutOfMemory>
         ensures { IfOk result (λ rolled. rolled ≡ self.now) }
     {
         Ok(Rolled {
             weight: self.weight,
-            hops: Vec::from_slice(alloc, self.hops.as_slice())?,
+            hops: self.hops.shared()?,
             loads: Vec::from_slice(alloc, self.loads.as_slice())?,
         })
     }
-}
-
-/// The sum once one of its parts is exchanged for another, if that can be told.
-fn exchanged(sum: Option<usize>, old: usize, new: usize) -> Option<usize>
-    ensures { (rest : ℕ) → IfSome sum (λ sum. sum ≡ rest + old) → IfSome result (λ sum. sum ≡ rest + new) }
-{
-    sum?.checked_sub(old)?.checked_add(new)
 }

@@ -1,15 +1,15 @@
 ghost use Rattle.std.specs.Prelude.{◌≡◌, ◌+◌, ◌<◌, ◌≤◌, ℕ, true, false, [], List, None, length, map, slice_index, unwrap_or, vec_capacity, IfErr, IfOk, IfSome};
 ghost use Rattle.desk_graph.specs.Graph.{Graph, lines_of};
 ghost use Rattle.desk_graph.specs.Reaches.{AreAffected, has_node};
-ghost use Rattle.desk_rollup.specs.Chain.{chain, next_to};
+ghost use Rattle.desk_rollup.specs.Chain.{hop_chain, next_hop};
 ghost use Rattle.desk_rollup.specs.Numbers.{Rises, hop_numbers, mark_number};
-ghost use Rattle.desk_rollup.specs.Plan.{AreDistinct, AreRolledUp, CanPrepare, IsAccepted, IsRefused, IsRollPlan, nodes_of};
-ghost use Rattle.desk_rollup.specs.Values.{AreHopsInOrder, AreNewInOrder, DoFit, DoNewFit, OwnValues, filled_at, hop_of, hop_total, own_at, own_with, rolled_at};
+ghost use Rattle.desk_rollup.specs.Plan.{AreDistinct, AreRolledUp, CanPrepare, IsWithinLimits, IsRefused, IsRollPlan, nodes_of_owns};
+ghost use Rattle.desk_rollup.specs.Values.{AreHopsInOrder, DoFit, OwnValues, hop_of, hop_total, own_at, own_with, rolled_at};
 
 use crate::fault::RollFault;
 use crate::hop::Hop;
+use crate::hops::place_of;
 use crate::mark::Mark;
-use crate::new_values::NewValues;
 use crate::own::Own;
 use crate::places::Places;
 use crate::plan::RollPlan;
@@ -43,9 +43,9 @@ impl Drop for Rollups {
 }
 
 impl Model for Rollups {
-    ghost use Rattle.desk_rollup.specs.Values.{Kept};
+    ghost use Rattle.desk_rollup.specs.Values.{KeptValues};
 
-    ghost Value = { Kept };
+    ghost Value = { KeptValues };
 
     ghost view = { λ rollups. record {
       owns = rollups.owns.items;
@@ -69,7 +69,7 @@ impl Rollups {
         })
     }
 
-    /// The same values once more, with room for all nodes that a bill may have.
+    /// The same values once more, with room for all nodes that a bill may have. Lists of hops are shared.
     pub fn copied(&self, alloc: Global) -> Result<Rollups, OutOfMemory>
         ensures { IfOk result (λ rollups. rollups ≡ self.now) }
     {
@@ -90,10 +90,10 @@ impl Rollups {
     ) -> Result<RollPlan, RollFault>
         requires { CanPrepare (B.graph bill.now) owns.now self.now }
         ensures plan { IfOk result (λ plan. IsRollPlan (B.graph bill.now) owns.now self.now plan) }
-        ensures accepted { IfOk result (λ plan. IsAccepted (B.graph bill.now) (own_with owns.now self.now.owns)) }
+        ensures accepted { IfOk result (λ plan. IsWithinLimits (B.graph bill.now) (own_with owns.now self.now.owns)) }
         ensures refused { IfErr result (λ fault. IsRefused (B.graph bill.now) (own_with owns.now self.now.owns) fault) }
         ensures steps { IfOk result (λ plan. steps.new ≡ steps.old + length plan.nodes) }
-        ensures few_steps { (nodes : List ℕ) → AreAffected (B.graph bill.now).lines (nodes_of owns.now) nodes → steps.new ≤ steps.old + length nodes }
+        ensures few_steps { (nodes : List ℕ) → AreAffected (B.graph bill.now).lines (nodes_of_owns owns.now) nodes → steps.new ≤ steps.old + length nodes }
     {
         // A look at a field tells the proof what all roll-ups keep.
         let _ = &self.rolled;
@@ -169,6 +169,7 @@ impl Rollups {
         ensures values { result.now ≡ self.now.rolled }
         ensures owns { length self.now.owns ≡ length self.now.rolled }
         ensures fit { DoFit self.now.rolled }
+        ensures order { AreHopsInOrder self.now.rolled }
     {
         self.rolled.as_slice()
     }
@@ -199,7 +200,7 @@ impl Rollups {
         mark: &Mark,
         steps: &mut Steps<L>,
     ) -> Result<Vec<NodeId>, OutOfMemory>
-        ensures nodes { IfOk result (λ nodes. nodes.items ≡ chain self.now.rolled (mark_number mark.now) from) }
+        ensures nodes { IfOk result (λ nodes. nodes.items ≡ hop_chain self.now.rolled (mark_number mark.now) from) }
         ensures steps { IfOk result (λ nodes. steps.new + 1 ≡ steps.old + length nodes.items) }
     {
         let mut nodes = Vec::new(alloc);
@@ -218,7 +219,7 @@ impl Rollups {
 
     /// Where the way to a mark goes on from a node, if it does.
     fn next_to(&self, node: NodeId, mark: &Mark) -> Option<NodeId>
-        ensures { result ≡ next_to self.now.rolled (mark_number mark.now) node }
+        ensures { result ≡ next_hop self.now.rolled (mark_number mark.now) node }
     {
         if node as usize >= self.rolled.len() {
             return None;
@@ -233,7 +234,7 @@ fn next_in(hops: &[Hop], number: u64) -> Option<NodeId>
     requires { Rises (hop_numbers hops.now) }
     ensures { result ≡ unwrap_or (hop_of hops.now number) None }
 {
-    let at = hops.partition_point(|hop| hop.mark.number() < number);
+    let at = place_of(hops, number);
     if at >= hops.len() {
         return None;
     }
@@ -245,7 +246,7 @@ fn next_in(hops: &[Hop], number: u64) -> Option<NodeId>
 
 /// The nodes of the own values.
 fn nodes_of(alloc: Global, owns: &[Own]) -> Result<Vec<NodeId>, OutOfMemory>
-    ensures { IfOk result (λ nodes. nodes.items ≡ nodes_of owns.now) }
+    ensures { IfOk result (λ nodes. nodes.items ≡ nodes_of_owns owns.now) }
 {
     Ok(owns.iter().map(|own| own.node).collect(alloc)?)
 }
@@ -306,8 +307,8 @@ fn lists_of<'b, B: BillView, L: Ledger>(
 
 /// Puts own values in at their nodes.
 fn put_owns(kept: &mut [Own], new: Vec<Own>)
-    requires inside { (node : ℕ) → has_node (nodes_of new.items) node ≡ true → node < length kept.old }
-    requires distinct { AreDistinct (nodes_of new.items) }
+    requires inside { (node : ℕ) → has_node (nodes_of_owns new.items) node ≡ true → node < length kept.old }
+    requires distinct { AreDistinct (nodes_of_owns new.items) }
     ensures size { length kept.new ≡ length kept.old }
     ensures owns { (node : ℕ) → own_at kept.new node ≡ own_with new.items kept.old node }
 {
@@ -321,7 +322,7 @@ fn put_owns(kept: &mut [Own], new: Vec<Own>)
 fn put_rolled(
     kept: &mut [Rolled],
     nodes: &[NodeId],
-    mut new: Vec<NewValues>,
+    mut new: Vec<Rolled>,
     mut hops: Option<usize>,
 ) -> Option<usize>
     requires distinct { AreDistinct nodes.now }
@@ -330,14 +331,22 @@ fn put_rolled(
     requires hops { IfSome hops (λ hops. hops ≡ hop_total kept.old) }
     ensures size { length kept.new ≡ length kept.old }
     ensures stays { (node : ℕ) → has_node nodes.now node ≡ false → rolled_at kept.new node ≡ rolled_at kept.old node }
-    ensures put { (place : ℕ) → place < length nodes.now → rolled_at kept.new (slice_index nodes.now place) ≡ filled_at kept.old nodes.now new.items place }
-    ensures fit { DoFit kept.old → DoNewFit new.items → DoFit kept.new }
-    ensures order { AreHopsInOrder kept.old → AreNewInOrder new.items → AreHopsInOrder kept.new }
+    ensures put { (place : ℕ) → place < length nodes.now → rolled_at kept.new (slice_index nodes.now place) ≡ rolled_at new.items place }
+    ensures fit { DoFit kept.old → DoFit new.items → DoFit kept.new }
+    ensures order { AreHopsInOrder kept.old → AreHopsInOrder new.items → AreHopsInOrder kept.new }
     ensures hops { IfSome result (λ hops. hops ≡ hop_total kept.new) }
 {
     while let Some(values) = new.pop() {
         let node = nodes[new.len()] as usize;
-        hops = kept[node].put(values, hops);
+        hops = exchanged(hops, kept[node].hop_count(), values.hop_count());
+        kept[node] = values;
     }
     hops
+}
+
+/// The sum once one of its parts is exchanged for another, if that can be told.
+fn exchanged(sum: Option<usize>, old: usize, new: usize) -> Option<usize>
+    ensures { (rest : ℕ) → IfSome sum (λ sum. sum ≡ rest + old) → IfSome result (λ sum. sum ≡ rest + new) }
+{
+    sum?.checked_sub(old)?.checked_add(new)
 }

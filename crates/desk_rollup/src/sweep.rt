@@ -2,17 +2,16 @@ ghost use Rattle.std.specs.Prelude.{◌≡◌, ◌==◌, ◌+◌, ◌<◌, ◌�
 ghost use Rattle.desk_graph.specs.Graph.{lines_of};
 ghost use Rattle.desk_graph.specs.Reaches.{has_node};
 ghost use Rattle.desk_rollup.specs.Places.{IsKnown, known, place_at};
-ghost use Rattle.desk_rollup.specs.Plan.{AllFit, IsAccepted, IsRefused, nodes_of};
+ghost use Rattle.desk_rollup.specs.Plan.{AllFit, IsWithinLimits, IsRefused, nodes_of_owns};
 ghost use Rattle.desk_rollup.specs.Rolled.{mark_count, weight};
 ghost use Rattle.desk_rollup.specs.Sweep.{AreRolledOf, IsSweep, IsTooLargeOr, lesser_of};
-ghost use Rattle.desk_rollup.specs.Values.{hop_total, new_hop_total, own_with};
+ghost use Rattle.desk_rollup.specs.Values.{hop_total, own_with};
 ghost use Rattle.desk_rollup.specs.Weights.{fitting};
 
 use crate::fault::RollFault;
-use crate::hop::Hop;
-use crate::new_values::NewValues;
 use crate::own::Own;
 use crate::places::Places;
+use crate::rolled::Rolled;
 use crate::roller::Roller;
 use crate::rollups::Rollups;
 use crate::values::Values;
@@ -50,7 +49,7 @@ impl<'a, B: BillView> Sweep<'a, B> {
     /// Whether a node is given new own values.
     fn is_given(&self, node: NodeId) -> bool
         requires { IsSweep (B.graph self.now.bill.now) self.now.owns.now self.now.kept.now self.now.of_owns.now self.now.places.now (map (λ list. list.now) self.now.lists.now) }
-        ensures { result ≡ has_node (nodes_of self.now.owns.now) node }
+        ensures { result ≡ has_node (nodes_of_owns self.now.owns.now) node }
     {
         match self.of_owns.place_of(node) {
             Some(_) => true,
@@ -58,12 +57,12 @@ impl<'a, B: BillView> Sweep<'a, B> {
         }
     }
 
-    /// The new values of each affected node, or why they are refused.
-    pub fn judged(&self, alloc: Global) -> Result<Vec<NewValues>, RollFault>
+    /// The values of each affected node, or why they are refused.
+    pub fn judged(&self, alloc: Global) -> Result<Vec<Rolled>, RollFault>
         requires { IsSweep (B.graph self.now.bill.now) self.now.owns.now self.now.kept.now self.now.of_owns.now self.now.places.now (map (λ list. list.now) self.now.lists.now) }
         ensures size { IfOk result (λ rolled. length rolled.items ≡ length self.now.places.now.nodes) }
         ensures right { IfOk result (λ rolled. AreRolledOf (B.graph self.now.bill.now) self.now.owns.now self.now.kept.now self.now.places.now.nodes rolled.items) }
-        ensures accepted { IfOk result (λ rolled. IsAccepted (B.graph self.now.bill.now) (own_with self.now.owns.now self.now.kept.now.owns)) }
+        ensures accepted { IfOk result (λ rolled. IsWithinLimits (B.graph self.now.bill.now) (own_with self.now.owns.now self.now.kept.now.owns)) }
         ensures refused { IfErr result (λ fault. IsRefused (B.graph self.now.bill.now) (own_with self.now.owns.now self.now.kept.now.owns) fault) }
     {
         let Some(rolled) = self.rolled(alloc)? else {
@@ -109,8 +108,8 @@ impl<'a, B: BillView> Sweep<'a, B> {
         Ok(weights)
     }
 
-    /// The new values of each affected node, unless a weight is too large or there are too many marks: no more values are made then.
-    fn rolled(&self, alloc: Global) -> Result<Option<Vec<NewValues>>, OutOfMemory>
+    /// The values of each affected node, unless a weight is too large or there are too many marks: no more values are made then.
+    fn rolled(&self, alloc: Global) -> Result<Option<Vec<Rolled>>, OutOfMemory>
         requires { IsSweep (B.graph self.now.bill.now) self.now.owns.now self.now.kept.now self.now.of_owns.now self.now.places.now (map (λ list. list.now) self.now.lists.now) }
         ensures size { IfOk result (λ found. IfSome found (λ rolled. length rolled.items ≡ length self.now.places.now.nodes)) }
         ensures right { IfOk result (λ found. IfSome found (λ rolled. AreRolledOf (B.graph self.now.bill.now) self.now.owns.now self.now.kept.now self.now.places.now.nodes rolled.items)) }
@@ -127,12 +126,12 @@ impl<'a, B: BillView> Sweep<'a, B> {
                 new: rolled.as_slice(),
             };
             let own = self.own(*node);
-            let lines = self.lists[place];
             let is_given = self.is_given(*node);
+            let lines = self.lists[place];
             let Some(new) = roller.roll(alloc, *node, own, is_given, lines, &values)? else {
                 return Ok(None);
             };
-            marks = with_hops(marks, lines, new.hops_or(values.kept_hops(*node)));
+            marks = with_hops(marks, lines, &new);
             rolled.push(new)?;
             if marks > MARK_LIMIT {
                 return Ok(None);
@@ -173,7 +172,7 @@ impl<'a, B: BillView> Sweep<'a, B> {
     }
 
     /// Whether the nodes that have lines have more marks than there may be.
-    fn are_marks_too_many(&self, rolled: &[NewValues]) -> bool
+    fn are_marks_too_many(&self, rolled: &[Rolled]) -> bool
         requires sweep { IsSweep (B.graph self.now.bill.now) self.now.owns.now self.now.kept.now self.now.of_owns.now self.now.places.now (map (λ list. list.now) self.now.lists.now) }
         requires fit { AllFit (B.graph self.now.bill.now) (own_with self.now.owns.now self.now.kept.now.owns) }
         requires size { length rolled.now ≡ length self.now.places.now.nodes }
@@ -200,9 +199,9 @@ impl<'a, B: BillView> Sweep<'a, B> {
         false
     }
 
-    /// How many hops are kept of all nodes and are new, if that can be told. It is no less than there will be.
-    fn most_hops(&self, rolled: &[NewValues]) -> Option<usize>
-        ensures { IfSome result (λ most. most ≡ hop_total self.now.kept.now.rolled + new_hop_total rolled.now) }
+    /// How many hops are kept of all nodes and stand in the new values, if that can be told. It is no less than there will be.
+    fn most_hops(&self, rolled: &[Rolled]) -> Option<usize>
+        ensures { IfSome result (λ most. most ≡ hop_total self.now.kept.now.rolled + hop_total rolled.now) }
     {
         let mut sum = self.kept.hops()?;
         for values in rolled {
@@ -222,17 +221,17 @@ impl<'a, B: BillView> Sweep<'a, B> {
         if self.bill.line_count(node) == 0 {
             return sum;
         }
-        sum + values.of(node).hops.len()
+        sum + values.of(node).hops.as_slice().len()
     }
 }
 
 /// The sum together with the hops of a node, if it has lines.
-fn with_hops(sum: usize, lines: &[BillLine], hops: &[Hop]) -> usize
+fn with_hops(sum: usize, lines: &[BillLine], values: &Rolled) -> usize
     requires { sum ≤ 4194304 }
-    ensures { result ≡ sum + (if length lines.now == 0 then 0 else length hops.now) }
+    ensures { result ≡ sum + (if length lines.now == 0 then 0 else length values.now.hops) }
 {
     if lines.len() == 0 {
         return sum;
     }
-    sum + hops.len()
+    sum + values.hops.as_slice().len()
 }

@@ -1,13 +1,13 @@
 -- One entry more is entered, and then what is left of those that are held.
 use Rattle.std.proofs.Common.{◌≡◌, ◌∙◌, ℕ, ◌+◌, ◌<◌, ◌++◌, List, ap, drop, get_or, length, map, sym}
 use Rattle.std.proofs.lemmas.List.{drop_all, drop_more}
-use Rattle.desk_rollup.specs.Merge.{entered, merged}
+use Rattle.desk_rollup.specs.Merge.{merged_in, merged}
 use Rattle.desk_rollup.proofs.merge.merge_lifted.Goals as goal
 
-step : {X : Type 0} (number : X → ℕ) (join : X → X → X) (lift : X → X) (into new more held next : List X) (i : ℕ) (x y : X) → i < length more → x ≡ get_or more i x → y ≡ lift x → ((go : List X → List X) → into ++ entered number join y go held ≡ new ++ go next) → new ++ merged number join (map lift (drop (i + 1) more)) next ≡ into ++ merged number join (map lift (drop i more)) held
+step : {X : Type 0} (number : X → ℕ) (join : X → X → X) (lift : X → X) (into new more held next : List X) (i : ℕ) (x y : X) → i < length more → x ≡ get_or more i x → y ≡ lift x → ((go : List X → List X) → into ++ merged_in number join y go held ≡ new ++ go next) → new ++ merged number join (map lift (drop (i + 1) more)) next ≡ into ++ merged number join (map lift (drop i more)) held
 step number join lift into new more held next i x y low is lifted pushes =
     let go = merged number join (map lift (drop (i + 1) more)) in
-    sym (pushes go) ∙ ap (λ e. into ++ entered number join e go held) (lifted ∙ ap lift is)
+    sym (pushes go) ∙ ap (λ e. into ++ merged_in number join e go held) (lifted ∙ ap lift is)
     ∙ ap (λ l. into ++ merged number join (map lift l) held) (sym (drop_more more i x low))
 
 pub loop-entry-preserved : goal.loop-entry-preserved

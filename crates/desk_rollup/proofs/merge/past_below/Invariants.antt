@@ -1,7 +1,7 @@
 use Rattle.std.proofs.Common.{◌≡◌, ◌++◌, List, drop, take}
-use Rattle.desk_rollup.specs.Merge.{entered}
+use Rattle.desk_rollup.specs.Merge.{merged_in}
 use Rattle.desk_rollup.proofs.merge.past_below.Given as goal
 
 abbrev pub invariant-loop-at : goal.invariant-loop-at
 invariant-loop-at g l =
-    (go : List g.row.E.Denot → List g.row.E.Denot) → take l.from l.held ++ entered g.E.Entry.number g.E.Entry.joined l.entry go (drop l.from l.held) ≡ take l.at l.held ++ entered g.E.Entry.number g.E.Entry.joined l.entry go (drop l.at l.held)
+    (go : List g.row.E.Denot → List g.row.E.Denot) → take l.from l.held ++ merged_in g.E.Entry.number g.E.Entry.joined l.entry go (drop l.from l.held) ≡ take l.at l.held ++ merged_in g.E.Entry.number g.E.Entry.joined l.entry go (drop l.at l.held)

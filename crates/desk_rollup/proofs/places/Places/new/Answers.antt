@@ -1,6 +1,6 @@
 use Rattle.std.proofs.Common.{ap, sym, length, subst, arith}
 use Rattle.std.proofs.lemmas.List.{take_at}
-use Rattle.desk_rollup.specs.Places.{IsTold, Placed, place_in}
+use Rattle.desk_rollup.specs.Places.{IsPlaceOf, Placed, place_in}
 use Rattle.desk_rollup.proofs.Puts.{told_by}
 use Rattle.desk_rollup.proofs.places.Places.new.Goals as goal
 
@@ -15,5 +15,5 @@ invariant_of-result-2 c =
     let held = take_at slots _ _ (omega (arith, c.set_slots.auto.slots, c.in_ok-slots.slots.ok.0, ap (λ l. length l) c.as_mut_slice.ensures.value)) in
     λ node.
     told_by _ (λ other low.
-    subst (λ l. IsTold c.args.nodes.items other (place_in l other)) (sym held)
-    (subst (λ l. IsTold l other (place_in slots other)) c.as_slice.ensures.value (c.set_slots.ensures other))) node
+    subst (λ l. IsPlaceOf c.args.nodes.items other (place_in l other)) (sym held)
+    (subst (λ l. IsPlaceOf l other (place_in slots other)) c.as_slice.ensures.value (c.set_slots.ensures other))) node

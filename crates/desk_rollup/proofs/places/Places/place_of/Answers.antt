@@ -1,7 +1,7 @@
 use Rattle.std.proofs.Common.{◌≤◌, ◌==◌, cond, length, sym, ap, ◌∙◌, subst, arith}
 use Rattle.std.specs.Prelude.{position}
 use Rattle.std.proofs.lemmas.Bool.{le-ltb}
-use Rattle.desk_rollup.specs.Places.{IsTold, Placed, place_at, place_in}
+use Rattle.desk_rollup.specs.Places.{IsPlaceOf, Placed, place_at, place_in}
 use Rattle.desk_rollup.proofs.places.Places.place_of.Goals as goal
 
 pub returns-then-node-len-clause-place : goal.returns-then-node-len-clause-place
@@ -16,5 +16,5 @@ pub returns-then-node-len-clause-told : goal.returns-then-node-len-clause-told
 returns-then-node-len-clause-told c =
     let placed : Placed = record { nodes = c.self.inside.nodes.items; slots = c.self.inside.slots.items } in
     let is = returns-then-node-len-clause-place c in
-    let told = subst (λ p. IsTold p.nodes c.args.node (place_at p c.args.node)) c.self.view_is (c.self.invariant c.args.node) in
-    subst (IsTold c.args.self.now.nodes c.args.node) (sym is) told
+    let told = subst (λ p. IsPlaceOf p.nodes c.args.node (place_at p c.args.node)) c.self.view_is (c.self.invariant c.args.node) in
+    subst (IsPlaceOf c.args.self.now.nodes c.args.node) (sym is) told

@@ -2,7 +2,7 @@ use Rattle.std.proofs.Common.{◌≡◌, ℕ, ◌<◌, List, length, map, slice_
 use Rattle.desk_graph.specs.Graph.{lines_of}
 use Rattle.desk_graph.specs.Reaches.{AreAffected}
 use Rattle.desk_rollup.specs.Places.{ArePlaced}
-use Rattle.desk_rollup.specs.Plan.{IsRollPlan, Planned, nodes_of}
+use Rattle.desk_rollup.specs.Plan.{IsRollPlan, PlannedValues, nodes_of_owns}
 use Rattle.desk_rollup.specs.Sweep.{IsSweep}
 use Rattle.desk_rollup.specs.Values.{DoFit, OwnValues}
 use Rattle.desk_rollup.proofs.Counts.{has_at}
@@ -17,7 +17,7 @@ lists_of-requires g c =
     let affected = (subst (λ seeds. AreAffected (g.B.BillView.graph c.args.bill.now).lines seeds c.in_ok-nodes.nodes.items) (c.as_slice.ensures.value ∙ c.in_ok-seeds.ensures) c.in_ok-nodes.ensures.nodes) in
     let P = λ (l : List ℕ). (place : ℕ) → place < length l → slice_index l place < length bill.labels in
     subst P (sym c.as_slice-2.ensures.value)
-    (λ place low. affected_inside bill c.node_count-count.ensures.bill (nodes_of c.args.owns.now) nodes c.requires.nodes affected (slice_index nodes place) (has_at nodes place low))
+    (λ place low. affected_inside bill c.node_count-count.ensures.bill (nodes_of_owns c.args.owns.now) nodes c.requires.nodes affected (slice_index nodes place) (has_at nodes place low))
 
 pub new-requires-clause-few : goal.new-requires-clause-few
 new-requires-clause-few g c =
@@ -27,7 +27,7 @@ pub new-requires-2-clause-nodes : goal.new-requires-2-clause-nodes
 new-requires-2-clause-nodes g c =
     let affected = (subst (λ seeds. AreAffected (g.B.BillView.graph c.args.bill.now).lines seeds c.in_ok-nodes.nodes.items) (c.as_slice.ensures.value ∙ c.in_ok-seeds.ensures) c.in_ok-nodes.ensures.nodes) in
     λ node e.
-    omega (arith, affected_inside (g.B.BillView.graph c.args.bill.now) c.node_count-count.ensures.bill (nodes_of c.args.owns.now) c.in_ok-nodes.nodes.items c.requires.nodes affected node e, c.node_count-count.ensures.count)
+    omega (arith, affected_inside (g.B.BillView.graph c.args.bill.now) c.node_count-count.ensures.bill (nodes_of_owns c.args.owns.now) c.in_ok-nodes.nodes.items c.requires.nodes affected node e, c.node_count-count.ensures.count)
 
 pub new-requires-2-clause-few : goal.new-requires-2-clause-few
 new-requires-2-clause-few g c =
@@ -47,37 +47,37 @@ pub returns-in_err-lists-clause-few_steps : goal.returns-in_err-lists-clause-few
 returns-in_err-lists-clause-few_steps g c =
     let affected = (subst (λ seeds. AreAffected (g.B.BillView.graph c.args.bill.now).lines seeds c.in_ok-nodes.nodes.items) (c.as_slice.ensures.value ∙ c.in_ok-seeds.ensures) c.in_ok-nodes.ensures.nodes) in
     λ nodes of_nodes.
-    omega (arith, c.in_err-lists.ensures.few_steps, ap (λ l. length l) c.as_slice-2.ensures.value, affected_count (g.B.BillView.graph c.args.bill.now).lines (nodes_of c.args.owns.now) c.in_ok-nodes.nodes.items nodes affected of_nodes)
+    omega (arith, c.in_err-lists.ensures.few_steps, ap (λ l. length l) c.as_slice-2.ensures.value, affected_count (g.B.BillView.graph c.args.bill.now).lines (nodes_of_owns c.args.owns.now) c.in_ok-nodes.nodes.items nodes affected of_nodes)
 
 pub returns-in_err-of_owns-clause-few_steps : goal.returns-in_err-of_owns-clause-few_steps
 returns-in_err-of_owns-clause-few_steps g c =
     let affected = (subst (λ seeds. AreAffected (g.B.BillView.graph c.args.bill.now).lines seeds c.in_ok-nodes.nodes.items) (c.as_slice.ensures.value ∙ c.in_ok-seeds.ensures) c.in_ok-nodes.ensures.nodes) in
     λ nodes of_nodes.
-    omega (arith, c.in_ok-lists.ensures.few_steps, ap (λ l. length l) c.as_slice-2.ensures.value, affected_count (g.B.BillView.graph c.args.bill.now).lines (nodes_of c.args.owns.now) c.in_ok-nodes.nodes.items nodes affected of_nodes)
+    omega (arith, c.in_ok-lists.ensures.few_steps, ap (λ l. length l) c.as_slice-2.ensures.value, affected_count (g.B.BillView.graph c.args.bill.now).lines (nodes_of_owns c.args.owns.now) c.in_ok-nodes.nodes.items nodes affected of_nodes)
 
 pub returns-in_err-places-clause-few_steps : goal.returns-in_err-places-clause-few_steps
 returns-in_err-places-clause-few_steps g c =
     let affected = (subst (λ seeds. AreAffected (g.B.BillView.graph c.args.bill.now).lines seeds c.in_ok-nodes.nodes.items) (c.as_slice.ensures.value ∙ c.in_ok-seeds.ensures) c.in_ok-nodes.ensures.nodes) in
     λ nodes of_nodes.
-    omega (arith, c.in_ok-lists.ensures.few_steps, ap (λ l. length l) c.as_slice-2.ensures.value, affected_count (g.B.BillView.graph c.args.bill.now).lines (nodes_of c.args.owns.now) c.in_ok-nodes.nodes.items nodes affected of_nodes)
+    omega (arith, c.in_ok-lists.ensures.few_steps, ap (λ l. length l) c.as_slice-2.ensures.value, affected_count (g.B.BillView.graph c.args.bill.now).lines (nodes_of_owns c.args.owns.now) c.in_ok-nodes.nodes.items nodes affected of_nodes)
 
 pub returns-in_err-rolled-clause-few_steps : goal.returns-in_err-rolled-clause-few_steps
 returns-in_err-rolled-clause-few_steps g c =
     let affected = (subst (λ seeds. AreAffected (g.B.BillView.graph c.args.bill.now).lines seeds c.in_ok-nodes.nodes.items) (c.as_slice.ensures.value ∙ c.in_ok-seeds.ensures) c.in_ok-nodes.ensures.nodes) in
     λ nodes of_nodes.
-    omega (arith, c.in_ok-lists.ensures.few_steps, ap (λ l. length l) c.as_slice-2.ensures.value, affected_count (g.B.BillView.graph c.args.bill.now).lines (nodes_of c.args.owns.now) c.in_ok-nodes.nodes.items nodes affected of_nodes)
+    omega (arith, c.in_ok-lists.ensures.few_steps, ap (λ l. length l) c.as_slice-2.ensures.value, affected_count (g.B.BillView.graph c.args.bill.now).lines (nodes_of_owns c.args.owns.now) c.in_ok-nodes.nodes.items nodes affected of_nodes)
 
 pub returns-in_err-copied_owns-clause-few_steps : goal.returns-in_err-copied_owns-clause-few_steps
 returns-in_err-copied_owns-clause-few_steps g c =
     let affected = (subst (λ seeds. AreAffected (g.B.BillView.graph c.args.bill.now).lines seeds c.in_ok-nodes.nodes.items) (c.as_slice.ensures.value ∙ c.in_ok-seeds.ensures) c.in_ok-nodes.ensures.nodes) in
     λ nodes of_nodes.
-    omega (arith, c.in_ok-lists.ensures.few_steps, ap (λ l. length l) c.as_slice-2.ensures.value, affected_count (g.B.BillView.graph c.args.bill.now).lines (nodes_of c.args.owns.now) c.in_ok-nodes.nodes.items nodes affected of_nodes)
+    omega (arith, c.in_ok-lists.ensures.few_steps, ap (λ l. length l) c.as_slice-2.ensures.value, affected_count (g.B.BillView.graph c.args.bill.now).lines (nodes_of_owns c.args.owns.now) c.in_ok-nodes.nodes.items nodes affected of_nodes)
 
 pub returns-clause-few_steps : goal.returns-clause-few_steps
 returns-clause-few_steps g c =
     let affected = (subst (λ seeds. AreAffected (g.B.BillView.graph c.args.bill.now).lines seeds c.in_ok-nodes.nodes.items) (c.as_slice.ensures.value ∙ c.in_ok-seeds.ensures) c.in_ok-nodes.ensures.nodes) in
     λ nodes of_nodes.
-    omega (arith, c.in_ok-lists.ensures.few_steps, ap (λ l. length l) c.as_slice-2.ensures.value, affected_count (g.B.BillView.graph c.args.bill.now).lines (nodes_of c.args.owns.now) c.in_ok-nodes.nodes.items nodes affected of_nodes)
+    omega (arith, c.in_ok-lists.ensures.few_steps, ap (λ l. length l) c.as_slice-2.ensures.value, affected_count (g.B.BillView.graph c.args.bill.now).lines (nodes_of_owns c.args.owns.now) c.in_ok-nodes.nodes.items nodes affected of_nodes)
 
 pub invariant_of-result : goal.invariant_of-result
 invariant_of-result g c =
@@ -103,6 +103,6 @@ returns-clause-plan g c =
     c.in_ok-rolled.ensures.size c.in_ok-rolled.ensures.right in
     let bill = g.B.BillView.graph c.args.bill.now in
     let made = λ (n : ℕ) (o : List OwnValues).
-    let it : Planned = record { count = n; owns = o; nodes = c.in_ok-places.places.nodes; rolled = c.in_ok-rolled.rolled.items } in it in
+    let it : PlannedValues = record { count = n; owns = o; nodes = c.in_ok-places.places.nodes; rolled = c.in_ok-rolled.rolled.items } in it in
     subst (λ o. IsRollPlan bill c.args.owns.now c.args.self.now (made c.node_count-count.result o)) (sym c.in_ok-copied_owns.ensures)
     (subst (λ n. IsRollPlan bill c.args.owns.now c.args.self.now (made n c.args.owns.now)) (sym c.node_count-count.ensures.count) plan)
