@@ -5,8 +5,8 @@ use Rattle.std.specs.Ordering.{is_lt}
 use Rattle.std.specs.Prelude.{IfSome, option_map}
 use Rattle.std.proofs.lemmas.Bool.{cases_Bool, false≢true}
 use Rattle.std.proofs.lemmas.Cmp.{alike_right, tied_itself}
-use Rattle.desk_edge.specs.Content.{Content, IsChanged, IsFirstPast, changed, changed_all, is_past, key_cmp, key_of, same_key}
-use Rattle.desk_edge.specs.Stores.{Kept, after_call, after_fault, records_with, records_with_all}
+use Rattle.desk_edge.specs.Content.{Content, IsChanged, IsFirstPast, body_after, body_after_all, is_past, key_cmp, key_of, same_key}
+use Rattle.desk_edge.specs.Stores.{KeeperInMemory, after_call, after_fault, records_with, records_with_all}
 use Rattle.desk_edge.specs.declared.change.Change.{Change}
 use Rattle.desk_edge.specs.declared.change.Change.TheVariants.{Put, Drop}
 use Rattle.desk_edge.specs.declared.key.Key.{Key}
@@ -45,7 +45,7 @@ gone : (key : Key) (records : List Record) → IsByKey key_of key_cmp records �
 gone key [] h = refl
 gone key (kept ∷ records) h = gone_at key kept records (same_key (key_of kept) key) refl h (gone key records (rest_by_key key_of key_cmp key_order kept records h))
 
-change_at : (change : Change) (records : List Record) (key : Key) → IsByKey key_of key_cmp records → body_at (records_with change records) key ≡ changed change key (body_at records key)
+change_at : (change : Change) (records : List Record) (key : Key) → IsByKey key_of key_cmp records → body_at (records_with change records) key ≡ body_after change key (body_at records key)
 unfolding body_at
 change_at (Put new) records key h =
     elim (cases_Bool (same_key (key_of new) key)) [
@@ -63,10 +63,10 @@ by_key_with (Put new) records h = IsByKey-with_row key_of key_cmp key_order new 
 by_key_with (Drop key) records h = IsByKey-without_row key_of key_cmp key_order key records h
 
 -- all changes of the records are changes of what is kept under each key
-changes_at : (changes : List Change) (records : List Record) (key : Key) → IsByKey key_of key_cmp records → body_at (records_with_all changes records) key ≡ changed_all changes key (body_at records key)
+changes_at : (changes : List Change) (records : List Record) (key : Key) → IsByKey key_of key_cmp records → body_at (records_with_all changes records) key ≡ body_after_all changes key (body_at records key)
 changes_at [] records key h = refl
 changes_at (change ∷ changes) records key h =
-    changes_at changes (records_with change records) key (by_key_with change records h) ∙ ap (changed_all changes key) (change_at change records key h)
+    changes_at changes (records_with change records) key (by_key_with change records h) ∙ ap (body_after_all changes key) (change_at change records key h)
 
 pub are_changed : (changes : List Change) (records : List Record) → IsByKey key_of key_cmp records
     → IsChanged changes (λ key. option_map (λ kept. kept.body) (row_of key_of key_cmp key records)) (λ key. option_map (λ kept. kept.body) (row_of key_of key_cmp key (records_with_all changes records)))
@@ -142,6 +142,6 @@ unfolding body_at
 is_first after records found h e = subst (IsFirstPast (body_at records) after) (sym e) (first_of after records h)
 
 -- a call that is counted leaves the records
-pub records_stay : (fails : Bool) (old new : Kept) → new ≡ cond fails (after_fault old) (after_call old) → new.records ≡ old.records
+pub records_stay : (fails : Bool) (old new : KeeperInMemory) → new ≡ cond fails (after_fault old) (after_call old) → new.records ≡ old.records
 records_stay true old new e = ap (λ kept. kept.records) e
 records_stay false old new e = ap (λ kept. kept.records) e

@@ -3,7 +3,7 @@ use Rattle.std.proofs.Common.{◌≡◌, ◌≢◌, ℕ, true, false, List, [], 
 use Rattle.std.specs.Prelude.{is_some}
 use Rattle.std.proofs.lemmas.Bool.{cases_Bool, false≢true}
 use Rattle.std.proofs.lemmas.Cmp.{nat_list_cmp_total, tied_itself}
-use Rattle.desk_edge.specs.Shelves.{AreApart, is_among, name_cmp}
+use Rattle.desk_edge.specs.Shelves.{AreApart, is_name_among, name_cmp}
 use Rattle.desk_rows.specs.Rows.{row_of, without_row}
 use Rattle.desk_rows.proofs.Lookups.{row_of-without_row_other}
 use Rattle.desk_text.proofs.CodeLemmas.{same_code-Decides}
@@ -69,7 +69,7 @@ turned a b apart =
     ]
 
 -- a name that isn't among others stands apart from them
-pub pushed_apart : (names : List (List ℕ)) (name : List ℕ) → is_among names name ≡ false → AreApart names → AreApart (names ++ name ∷ [])
+pub pushed_apart : (names : List (List ℕ)) (name : List ℕ) → is_name_among names name ≡ false → AreApart names → AreApart (names ++ name ∷ [])
 pushed_apart [] name e h = (refl, tt)
 pushed_apart (own ∷ names) name e h =
     elim (cases_Bool (is_eq (name_cmp own name))) [
@@ -77,7 +77,7 @@ pushed_apart (own ∷ names) name e h =
       | inr other ↦ (pushed_other (λ n. n) own names name h.0 (turned own name other), pushed_apart names name (rw other at e) h.1)
     ]
 
-stays_out : (name other : List ℕ) (names : List (List ℕ)) → is_among names other ≡ false → is_among (without_row (λ own. own) name_cmp name names) other ≡ false
+stays_out : (name other : List ℕ) (names : List (List ℕ)) → is_name_among names other ≡ false → is_name_among (without_row (λ own. own) name_cmp name names) other ≡ false
 stays_out name other [] e = refl
 stays_out name other (own ∷ names) e =
     elim (cases_Bool (is_eq (name_cmp own other))) [
@@ -92,19 +92,19 @@ without_apart name (own ∷ names) h =
     elim (cases_Bool (is_eq (name_cmp own name))) [ inl here ↦ rw here h.1 | inr other ↦ rw other (stays_out name own names h.0, without_apart name names h.1) ]
 
 -- a name that was taken out of names that stand apart isn't among them
-pub gone : (name : List ℕ) (names : List (List ℕ)) → AreApart names → is_among (without_row (λ own. own) name_cmp name names) name ≡ false
+pub gone : (name : List ℕ) (names : List (List ℕ)) → AreApart names → is_name_among (without_row (λ own. own) name_cmp name names) name ≡ false
 gone name [] h = refl
 gone name (own ∷ names) h =
     elim (cases_Bool (is_eq (name_cmp own name))) [
-      | inl here ↦ rw here (subst (λ n. is_among names n ≡ false) (same_name own name here) h.0)
+      | inl here ↦ rw here (subst (λ n. is_name_among names n ≡ false) (same_name own name here) h.0)
       | inr other ↦ rw (other, other) (gone name names h.1)
     ]
 
 -- names stay among those that another was put behind, or was taken out of
-pub pushed_stay : (name other : List ℕ) (names : List (List ℕ)) → is_among names other ≡ true → is_among (names ++ name ∷ []) other ≡ true
+pub pushed_stay : (name other : List ℕ) (names : List (List ℕ)) → is_name_among names other ≡ true → is_name_among (names ++ name ∷ []) other ≡ true
 pushed_stay name other names was = pushed_keeps (λ own. own) other names name was
 
-pub without_stay : (name other : List ℕ) (names : List (List ℕ)) → other ≢ name → is_among names other ≡ true → is_among (without_row (λ own. own) name_cmp name names) other ≡ true
+pub without_stay : (name other : List ℕ) (names : List (List ℕ)) → other ≢ name → is_name_among names other ≡ true → is_name_among (without_row (λ own. own) name_cmp name names) other ≡ true
 without_stay name other names differ was =
     ap is_some (row_of-without_row_other (λ own. own) name_cmp nat_list_cmp_total name other names (other_name name other (λ e. differ (sym e)))) ∙ was
 

@@ -32,19 +32,23 @@ Content = Key → Option (List ℕ)
 abbrev pub IsSame : Content → Content → Type 0
 IsSame old new = (key : Key) → new key ≡ old key
 
+-- nothing is kept under any key
+abbrev pub IsEmpty : Content → Type 0
+IsEmpty content = (key : Key) → content key ≡ None
+
 -- what is kept under the key after a change
-abbrev pub changed : Change → Key → Option (List ℕ) → Option (List ℕ)
-changed (Put kept) key body = if same_key (key_of kept) key then Some kept.body else body
-changed (Drop dropped) key body = if same_key dropped key then None else body
+abbrev pub body_after : Change → Key → Option (List ℕ) → Option (List ℕ)
+body_after (Put kept) key body = if same_key (key_of kept) key then Some kept.body else body
+body_after (Drop dropped) key body = if same_key dropped key then None else body
 
 -- what is kept under the key after all these changes, one after the other
-abbrev pub changed_all : List Change → Key → Option (List ℕ) → Option (List ℕ)
-changed_all [] key body = body
-changed_all (change ∷ changes) key body = changed_all changes key (changed change key body)
+abbrev pub body_after_all : List Change → Key → Option (List ℕ) → Option (List ℕ)
+body_after_all [] key body = body
+body_after_all (change ∷ changes) key body = body_after_all changes key (body_after change key body)
 
 -- the changes were made, one after the other, and nothing else changed
 abbrev pub IsChanged : List Change → Content → Content → Type 0
-IsChanged changes old new = (key : Key) → new key ≡ changed_all changes key (old key)
+IsChanged changes old new = (key : Key) → new key ≡ body_after_all changes key (old key)
 
 -- the key comes after the one that was given, or none was given
 abbrev pub is_past : Option Key → Key → Bool

@@ -6,10 +6,10 @@ use Rattle.desk_edge.specs.Memory.{Memory}
 use Rattle.desk_edge.specs.declared.failed.Failed.{Failed}
 
 -- how many lines were taken before a call and after it: a line adds one, and nothing else does
-abbrev pub IsTaken : {L : Type 0} → Result (Option L) Failed → ℕ → ℕ → Type 0
-IsTaken (Ok (Some line)) old new = new ≡ counted old
-IsTaken (Ok None) old new = new ≡ old
-IsTaken (Err failed) old new = new ≡ old
+abbrev pub AreLinesCounted : {L : Type 0} → Result (Option L) Failed → ℕ → ℕ → Type 0
+AreLinesCounted (Ok (Some line)) old new = new ≡ counted old
+AreLinesCounted (Ok None) old new = new ≡ old
+AreLinesCounted (Err failed) old new = new ≡ old
 
 -- doors in memory, as their calls see them
 pub record Listed : Type 0 where

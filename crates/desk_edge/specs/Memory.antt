@@ -49,8 +49,8 @@ after_read m len =
     else record m { calls = counted m.calls; unread = drop (read_len m len) m.unread }
 
 -- a buffer after a read: the bytes that were given, and behind them what it held
-abbrev pub filled : Memory → List ℕ → List ℕ
-filled m into =
+abbrev pub buffer_after : Memory → List ℕ → List ℕ
+buffer_after m into =
     if fails_next m then into
     else take (read_len m (length into)) m.unread ++ drop (read_len m (length into)) into
 

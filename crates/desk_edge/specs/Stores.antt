@@ -10,7 +10,7 @@ use Rattle.desk_edge.specs.declared.key.Key.{Key}
 use Rattle.desk_rows.specs.Rows.{row_of, with_row, without_row}
 
 -- a keeper in memory, as its calls see it
-pub record Kept : Type 0 where
+pub record KeeperInMemory : Type 0 where
   -- the records, in order of their keys
   pub records : List Record
   -- the numbers of the calls that fail, counted from 1
@@ -21,27 +21,27 @@ pub record Kept : Type 0 where
   pub faults : ℕ
 
 -- a keeper with nothing in it, whose calls never fail
-abbrev pub blank : Kept
+abbrev pub blank : KeeperInMemory
 blank = record { records = []; failing = []; calls = 0; faults = 0 }
 
 -- what it keeps under each key
-abbrev pub content_of : Kept → Content
+abbrev pub content_of : KeeperInMemory → Content
 content_of k key = option_map (λ kept. kept.body) (row_of key_of key_cmp key k.records)
 
 -- whether the next call is one of those that fail
-abbrev pub fails_next : Kept → Bool
+abbrev pub fails_next : KeeperInMemory → Bool
 fails_next k = list_any (λ n. n == counted k.calls) k.failing
 
 -- the keeper after a call that failed, which is counted twice, as a call and as a fault
-abbrev pub after_fault : Kept → Kept
+abbrev pub after_fault : KeeperInMemory → KeeperInMemory
 after_fault k = record k { calls = counted k.calls; faults = counted k.faults }
 
 -- the keeper after a call that didn't fail and changed nothing
-abbrev pub after_call : Kept → Kept
+abbrev pub after_call : KeeperInMemory → KeeperInMemory
 after_call k = record k { calls = counted k.calls }
 
 -- the first record past a key
-abbrev pub first_past : Kept → Option Key → Option Record
+abbrev pub first_past : KeeperInMemory → Option Key → Option Record
 first_past k after = find (λ kept. is_past after (key_of kept)) k.records
 
 -- the records after a change

@@ -1,6 +1,6 @@
-ghost use Rattle.std.specs.Prelude.{◌≡◌, ℕ, ◌≤◌, ◌↔◌, Bool, false, true, IfOk, IsNone, IsOk, OnOk, OnErr};
-ghost use Rattle.desk_edge.specs.Doors.{IsTaken};
-ghost use Rattle.desk_edge.specs.Faults.{Rose};
+ghost use Rattle.std.specs.Prelude.{◌≡◌, ℕ, ◌↔◌, Bool, false, true, IfOk, IsNone, IsOk, IsErr};
+ghost use Rattle.desk_edge.specs.Doors.{AreLinesCounted};
+ghost use Rattle.desk_edge.specs.Faults.{CountsFaults};
 
 use crate::failed::Failed;
 use crate::link::Link;
@@ -35,21 +35,17 @@ pub trait Doors {
     fn listen(&mut self, port: u16) -> Result<(), Failed>
         ensures taken_stays { taken self.new ≡ taken self.old }
         ensures closed_stays { is_closed self.new ≡ is_closed self.old }
-        ensures never_falls { faults self.old ≤ faults self.new }
-        ensures steady { OnOk result (faults self.new ≡ faults self.old) }
-        ensures failed { OnErr result (Rose (faults self.old) (faults self.new)) }
+        ensures faults { CountsFaults (IsErr result) (faults self.old) (faults self.new) }
         ensures never_fails { NeverFails → IsOk result };
 
     /// The next connection, for which the call may wait, or none where the doors are closed. Closed doors stay closed.
     ///
     /// `Failed` comes exactly where a fault was counted in this call. Doors that are open may give further lines after it.
     fn next(&mut self) -> Result<Option<Self::Line>, Failed>
-        ensures counts { IsTaken result (taken self.old) (taken self.new) }
+        ensures counts { AreLinesCounted result (taken self.old) (taken self.new) }
         ensures ended { IfOk result (λ given. IsNone given ↔ (is_closed self.new ≡ true)) }
         ensures closed_stays { is_closed self.old ≡ true → is_closed self.new ≡ true }
-        ensures never_falls { faults self.old ≤ faults self.new }
-        ensures steady { OnOk result (faults self.new ≡ faults self.old) }
-        ensures failed { OnErr result (Rose (faults self.old) (faults self.new)) }
+        ensures faults { CountsFaults (IsErr result) (faults self.old) (faults self.new) }
         ensures never_fails { NeverFails → IsOk result }
         ensures never_closes { NeverCloses → is_closed self.new ≡ false };
 

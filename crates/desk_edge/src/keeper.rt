@@ -1,6 +1,6 @@
-ghost use Rattle.std.specs.Prelude.{◌≡◌, ◌≢◌, ℕ, ◌≤◌, true, Err, IfOk, IfSome, OnOk, OnErr, IsErrOf, option_copied};
+ghost use Rattle.std.specs.Prelude.{◌≡◌, ◌≢◌, ℕ, true, Err, IfOk, IfSome, OnOk, OnErr, IsErrOf, option_copied};
 ghost use Rattle.desk_edge.specs.Content.{Content, IsChanged, IsFirstPast, IsSame, is_past, key_of};
-ghost use Rattle.desk_edge.specs.Faults.{Rose};
+ghost use Rattle.desk_edge.specs.Faults.{CountsFaults};
 
 use crate::change::Change;
 use crate::keep_fault::KeepFault;
@@ -40,9 +40,7 @@ pub trait Keeper {
         ensures stays { Tells self.new → IsSame (content self.old) (content self.new) }
         ensures gives { IfOk result (λ found. Tells self.new → IsFirstPast (content self.new) (option_copied after.entry) found) }
         ensures later { IfOk result (λ found. IfSome found (λ kept. is_past (option_copied after.entry) (key_of kept) ≡ true)) }
-        ensures never_falls { faults self.old ≤ faults self.new }
-        ensures steady { result ≢ Err KeepFault.Failed → faults self.new ≡ faults self.old }
-        ensures failed { IsErrOf result KeepFault.Failed → Rose (faults self.old) (faults self.new) }
+        ensures faults { CountsFaults (IsErrOf result KeepFault.Failed) (faults self.old) (faults self.new) }
         ensures sure { NeverFails → result ≢ Err KeepFault.Failed };
 
     /// Makes all the changes, one after the other, or none of them.
@@ -52,8 +50,6 @@ pub trait Keeper {
         ensures told { Tells self.new → Tells self.old }
         ensures ok { OnOk result (Tells self.new → IsChanged batch.now (content self.old) (content self.new)) }
         ensures err { OnErr result (Tells self.new → IsSame (content self.old) (content self.new)) }
-        ensures never_falls { faults self.old ≤ faults self.new }
-        ensures steady { result ≢ Err KeepFault.Failed → faults self.new ≡ faults self.old }
-        ensures failed { IsErrOf result KeepFault.Failed → Rose (faults self.old) (faults self.new) }
+        ensures faults { CountsFaults (IsErrOf result KeepFault.Failed) (faults self.old) (faults self.new) }
         ensures sure { NeverFails → result ≢ Err KeepFault.Failed };
 }

@@ -1,5 +1,5 @@
 ghost use Rattle.std.specs.Prelude.{◌≡◌, ◌≢◌, ◌+◌, ◌++◌, ◌∷◌, [], ℕ, List, false, true, if◌then◌else◌, length, OnErr, OnOk, Some, is_some, vec_len};
-ghost use Rattle.desk_edge.specs.Shelves.{is_among, name_cmp};
+ghost use Rattle.desk_edge.specs.Shelves.{is_name_among, name_cmp};
 ghost use Rattle.desk_rows.specs.Rows.{row_of, without_row};
 
 use crate::named::place_of_name;
@@ -50,17 +50,17 @@ impl Lent {
 
     /// Whether the name is one of them.
     pub fn has(&self, name: &[u8]) -> bool
-        ensures { result ≡ is_among self.now name.now }
+        ensures { result ≡ is_name_among self.now name.now }
     {
         place_of_name(self.names.as_slice(), name).is_some()
     }
 
     /// Puts the name behind the others, unless it is one of them.
     pub fn enter(&mut self, alloc: Global, name: &[u8]) -> Result<(), OutOfMemory>
-        ensures ok { OnOk result (self.new ≡ (if is_among self.old name.now then self.old else self.old ++ name.now ∷ [])) }
+        ensures ok { OnOk result (self.new ≡ (if is_name_among self.old name.now then self.old else self.old ++ name.now ∷ [])) }
         ensures err { OnErr result (self.new ≡ self.old) }
-        ensures there { OnOk result (is_among self.new name.now ≡ true) }
-        ensures stay { (other : List ℕ) → is_among self.old other ≡ true → is_among self.new other ≡ true }
+        ensures there { OnOk result (is_name_among self.new name.now ≡ true) }
+        ensures stay { (other : List ℕ) → is_name_among self.old other ≡ true → is_name_among self.new other ≡ true }
     {
         if self.has(name) {
             return Ok(());
@@ -74,11 +74,11 @@ impl Lent {
 
     /// Takes the name out. It takes no memory.
     pub fn take(&mut self, name: &[u8]) -> Bytes
-        requires { is_among self.old name.now ≡ true }
+        requires { is_name_among self.old name.now ≡ true }
         ensures taken { result ≡ name.now }
         ensures rest { self.new ≡ without_row (λ own. own) name_cmp name.now self.old }
-        ensures gone { is_among self.new name.now ≡ false }
-        ensures stay { (other : List ℕ) → other ≢ name.now → is_among self.old other ≡ true → is_among self.new other ≡ true }
+        ensures gone { is_name_among self.new name.now ≡ false }
+        ensures stay { (other : List ℕ) → other ≢ name.now → is_name_among self.old other ≡ true → is_name_among self.new other ≡ true }
         ensures len { length self.new + 1 ≡ length self.old }
     {
         take_name(&mut self.names, name)

@@ -1,6 +1,6 @@
-ghost use Rattle.std.specs.Prelude.{◌≡◌, ℕ, ◌<◌, ◌≤◌, List, length, Option, IfOk, OnOk, OnErr};
+ghost use Rattle.std.specs.Prelude.{◌≡◌, ℕ, ◌<◌, ◌≤◌, List, length, Option, IfOk, IsErr};
 ghost use Rattle.std.specs.Io.KnownBytes.{ReadConsumes, WriteAppends};
-ghost use Rattle.desk_edge.specs.Faults.{Rose};
+ghost use Rattle.desk_edge.specs.Faults.{CountsFaults};
 
 use crate::failed::Failed;
 
@@ -31,11 +31,8 @@ pub trait Link {
         ensures within { IfOk result (λ n. n ≤ length into.new) }
         ensures gives { ReadConsumes (unread self.old) (unread self.new) result into.new }
         ensures output_stays { written self.new ≡ written self.old }
-        ensures never_falls { faults self.old ≤ faults self.new }
-        ensures steady { OnOk result (faults self.new ≡ faults self.old) }
-        ensures failed { OnErr result (Rose (faults self.old) (faults self.new)) }
-        ensures read_steady { OnOk result (read_faults self.new ≡ read_faults self.old) }
-        ensures read_failed { OnErr result (Rose (read_faults self.old) (read_faults self.new)) };
+        ensures faults { CountsFaults (IsErr result) (faults self.old) (faults self.new) }
+        ensures read_faults { CountsFaults (IsErr result) (read_faults self.old) (read_faults self.new) };
 
     /// Takes bytes from the front of the piece, and answers how many: at least one of a piece that
     /// isn't empty.
@@ -47,7 +44,5 @@ pub trait Link {
         ensures takes { WriteAppends (written self.old) (written self.new) result piece.now }
         ensures input_stays { unread self.new ≡ unread self.old }
         ensures reads_stay { read_faults self.new ≡ read_faults self.old }
-        ensures never_falls { faults self.old ≤ faults self.new }
-        ensures steady { OnOk result (faults self.new ≡ faults self.old) }
-        ensures failed { OnErr result (Rose (faults self.old) (faults self.new)) };
+        ensures faults { CountsFaults (IsErr result) (faults self.old) (faults self.new) };
 }

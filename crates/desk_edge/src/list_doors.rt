@@ -1,6 +1,6 @@
-ghost use Rattle.std.specs.Prelude.{◌≡◌, ◌≤◌, ◌↔◌, false, true, IfOk, IsNone, IsOk, OnOk, OnErr};
-ghost use Rattle.desk_edge.specs.Doors.{IsTaken, Listed, after_listen, after_next, listen_answer, next_answer};
-ghost use Rattle.desk_edge.specs.Faults.{Rose};
+ghost use Rattle.std.specs.Prelude.{◌≡◌, ◌≤◌, ◌↔◌, false, true, IfOk, IsNone, IsOk, IsErr};
+ghost use Rattle.desk_edge.specs.Doors.{AreLinesCounted, Listed, after_listen, after_next, listen_answer, next_answer};
+ghost use Rattle.desk_edge.specs.Faults.{CountsFaults};
 
 use crate::doors::Doors;
 use crate::failed::Failed;
@@ -106,9 +106,7 @@ impl Doors for ListDoors {
     fn listen(&mut self, _port: u16) -> Result<(), Failed>
         ensures taken_stays { self.new.taken ≡ self.old.taken }
         ensures closed_stays { self.new.is_closed ≡ self.old.is_closed }
-        ensures never_falls { self.old.faults ≤ self.new.faults }
-        ensures steady { OnOk result (self.new.faults ≡ self.old.faults) }
-        ensures failed { OnErr result (Rose self.old.faults self.new.faults) }
+        ensures faults { CountsFaults (IsErr result) self.old.faults self.new.faults }
         ensures never_fails { ⊥ → IsOk result }
         ensures answer { result ≡ listen_answer self.old }
         ensures after { self.new ≡ after_listen self.old }
@@ -117,12 +115,10 @@ impl Doors for ListDoors {
     }
 
     fn next(&mut self) -> Result<Option<MemoryLink>, Failed>
-        ensures counts { IsTaken result self.old.taken self.new.taken }
+        ensures counts { AreLinesCounted result self.old.taken self.new.taken }
         ensures ended { IfOk result (λ given. IsNone given ↔ (self.new.is_closed ≡ true)) }
         ensures closed_stays { self.old.is_closed ≡ true → self.new.is_closed ≡ true }
-        ensures never_falls { self.old.faults ≤ self.new.faults }
-        ensures steady { OnOk result (self.new.faults ≡ self.old.faults) }
-        ensures failed { OnErr result (Rose self.old.faults self.new.faults) }
+        ensures faults { CountsFaults (IsErr result) self.old.faults self.new.faults }
         ensures never_fails { ⊥ → IsOk result }
         ensures never_closes { ⊥ → self.new.is_closed ≡ false }
         ensures answer { result ≡ next_answer self.old }

@@ -1,7 +1,7 @@
-ghost use Rattle.std.specs.Prelude.{◌≡◌, ◌≢◌, ◌≤◌, true, Err, IfOk, IfSome, OnOk, OnErr, IsErrOf, IsPermutation, option_copied, Ok, if◌then◌else◌};
+ghost use Rattle.std.specs.Prelude.{◌≡◌, ◌≤◌, true, Err, IfOk, IfSome, OnOk, OnErr, IsErrOf, IsPermutation, option_copied, Ok, if◌then◌else◌};
 ghost use Rattle.desk_edge.specs.Content.{HaveDistinctKeys, IsChanged, IsFirstPast, IsSame, is_past, key_cmp, key_of};
-ghost use Rattle.desk_edge.specs.Faults.{Rose};
-ghost use Rattle.desk_edge.specs.Stores.{Kept, after_call, after_fault, blank, content_of, fails_next, first_past, records_with_all};
+ghost use Rattle.desk_edge.specs.Faults.{CountsFaults};
+ghost use Rattle.desk_edge.specs.Stores.{KeeperInMemory, after_call, after_fault, blank, content_of, fails_next, first_past, records_with_all};
 ghost use Rattle.desk_rows.specs.Rows.{IsByKey};
 
 use crate::change::Change;
@@ -38,10 +38,10 @@ impl Drop for MapKeeper {
 
 impl Model for MapKeeper {
     ghost use Rattle.desk_edge.specs.Content.{key_cmp, key_of};
-    ghost use Rattle.desk_edge.specs.Stores.{Kept};
+    ghost use Rattle.desk_edge.specs.Stores.{KeeperInMemory};
     ghost use Rattle.desk_rows.specs.Rows.{IsByKey};
 
-    ghost Value = { Kept };
+    ghost Value = { KeeperInMemory };
 
     ghost view = { λ k. record { records = k.records.items; failing = k.failing.items; calls = k.calls; faults = k.faults } };
 
@@ -139,9 +139,7 @@ impl Keeper for MapKeeper {
         ensures stays { Unit {0} → IsSame (content_of self.old) (content_of self.new) }
         ensures gives { IfOk result (λ found. Unit {0} → IsFirstPast (content_of self.new) (option_copied after.entry) found) }
         ensures later { IfOk result (λ found. IfSome found (λ kept. is_past (option_copied after.entry) (key_of kept) ≡ true)) }
-        ensures never_falls { self.old.faults ≤ self.new.faults }
-        ensures steady { result ≢ Err KeepFault.Failed → self.new.faults ≡ self.old.faults }
-        ensures failed { IsErrOf result KeepFault.Failed → Rose self.old.faults self.new.faults }
+        ensures faults { CountsFaults (IsErrOf result KeepFault.Failed) self.old.faults self.new.faults }
         ensures answer { IfOk result (λ found. found ≡ first_past self.old (option_copied after.entry)) }
         ensures listed { fails_next self.old ≡ true → result ≡ Err KeepFault.Failed }
         ensures no_other { IsErrOf result KeepFault.Failed → fails_next self.old ≡ true }
@@ -155,9 +153,7 @@ impl Keeper for MapKeeper {
         ensures told { Unit {0} → Unit {0} }
         ensures ok { OnOk result (Unit {0} → IsChanged batch.now (content_of self.old) (content_of self.new)) }
         ensures err { OnErr result (Unit {0} → IsSame (content_of self.old) (content_of self.new)) }
-        ensures never_falls { self.old.faults ≤ self.new.faults }
-        ensures steady { result ≢ Err KeepFault.Failed → self.new.faults ≡ self.old.faults }
-        ensures failed { IsErrOf result KeepFault.Failed → Rose self.old.faults self.new.faults }
+        ensures faults { CountsFaults (IsErrOf result KeepFault.Failed) self.old.faults self.new.faults }
         ensures listed { fails_next self.old ≡ true → result ≡ Err KeepFault.Failed }
         ensures no_other { IsErrOf result KeepFault.Failed → fails_next self.old ≡ true }
         ensures made { OnOk result (self.new ≡ after_call (record self.old { records = records_with_all batch.now self.old.records })) }

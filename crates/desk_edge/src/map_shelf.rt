@@ -1,8 +1,8 @@
-ghost use Rattle.std.specs.Prelude.{◌≡◌, ◌≢◌, ◌+◌, ◌<◌, ◌≤◌, ◌∷◌, [], ℕ, List, false, true, Err, IfOk, OnOk, OnErr, Ok, IsErrOf, if◌then◌else◌, vec_capacity, vec_len};
+ghost use Rattle.std.specs.Prelude.{◌≡◌, ◌≢◌, ◌+◌, ◌<◌, ◌≤◌, ◌∷◌, [], ℕ, List, true, Err, IfOk, OnOk, OnErr, Ok, IsErrOf, if◌then◌else◌, vec_capacity, vec_len};
 ghost use Rattle.std.specs.Option.{option_map_or};
 ghost use Rattle.desk_edge.specs.Content.{IsSame};
-ghost use Rattle.desk_edge.specs.Faults.{Rose, counted};
-ghost use Rattle.desk_edge.specs.Shelves.{IsPutBack, Lends, LendsTheSame, Shelved, content_in, count_in, fails_next, is_lent, name_cmp, opened};
+ghost use Rattle.desk_edge.specs.Faults.{CountsFaults, counted};
+ghost use Rattle.desk_edge.specs.Shelves.{IsPutBack, Lends, LendsTheSame, Shelved, shelf_content, count_in, fails_next, is_lent, name_cmp, opened};
 ghost use Rattle.desk_edge.specs.Stores.{blank, content_of};
 ghost use Rattle.desk_rows.specs.Rows.{row_of, without_row};
 
@@ -80,9 +80,7 @@ impl MapShelf {
         ensures answer { result ≡ (if fails_next self.old then Err KeepFault.Failed else Ok tt) }
         ensures stores { (self.new.stores ≡ self.old.stores) × (self.new.lent ≡ self.old.lent) }
         ensures after { (self.new.calls ≡ counted self.old.calls) × (self.new.failing ≡ self.old.failing) }
-        ensures never_falls { self.old.faults ≤ self.new.faults }
-        ensures steady { fails_next self.old ≡ false → self.new.faults ≡ self.old.faults }
-        ensures failed { fails_next self.old ≡ true → Rose self.old.faults self.new.faults }
+        ensures faults { CountsFaults (fails_next self.old ≡ true) self.old.faults self.new.faults }
     {
         let is_refused = self.fails_next();
         self.calls = self.calls.saturating_add(1);
@@ -147,7 +145,7 @@ impl Shelf for MapShelf {
 
     ghost Tells = { λ _ _. Unit {0} };
 
-    ghost content = { content_in };
+    ghost content = { shelf_content };
 
     ghost count = { count_in };
 
@@ -155,11 +153,9 @@ impl Shelf for MapShelf {
         ensures fresh { IfOk result (λ store. store.faults ≡ 0) }
         ensures lent { IfOk result (λ store. is_lent self.new name.now ≡ true) }
         ensures lends { (other : List ℕ) → is_lent self.old other ≡ true → is_lent self.new other ≡ true }
-        ensures told { IfOk result (λ store. Unit {0} → Unit {0} × IsSame (content_in self.old name.now) (content_of store)) }
-        ensures others { (other : List ℕ) → Unit {0} → Unit {0} × IsSame (content_in self.old other) (content_in self.new other) }
-        ensures never_falls { self.old.faults ≤ self.new.faults }
-        ensures steady { result ≢ Err KeepFault.Failed → self.new.faults ≡ self.old.faults }
-        ensures failed { IsErrOf result KeepFault.Failed → Rose self.old.faults self.new.faults }
+        ensures told { IfOk result (λ store. Unit {0} → Unit {0} × IsSame (shelf_content self.old name.now) (content_of store)) }
+        ensures others { (other : List ℕ) → Unit {0} → Unit {0} × IsSame (shelf_content self.old other) (shelf_content self.new other) }
+        ensures faults { CountsFaults (IsErrOf result KeepFault.Failed) self.old.faults self.new.faults }
         ensures answer { IfOk result (λ store. store ≡ opened self.old name.now) }
         ensures opened { OnOk result (Lends name.now self.old self.new) }
         ensures left { OnErr result (LendsTheSame self.old self.new) }
@@ -179,11 +175,9 @@ impl Shelf for MapShelf {
         ensures back { is_lent self.new name.now ≡ true → ⊥ }
         ensures lends { (other : List ℕ) → other ≢ name.now → is_lent self.old other ≡ true → is_lent self.new other ≡ true }
         ensures count { count_in self.new name.now ≡ store.faults }
-        ensures kept { Unit {0} → Unit {0} × IsSame (content_of store) (content_in self.new name.now) }
-        ensures others { (other : List ℕ) → other ≢ name.now → Unit {0} → Unit {0} × IsSame (content_in self.old other) (content_in self.new other) }
-        ensures never_falls { self.old.faults ≤ self.new.faults }
-        ensures steady { store.faults ≡ 0 → self.new.faults ≡ self.old.faults }
-        ensures rises { 0 < store.faults → Rose self.old.faults self.new.faults }
+        ensures kept { Unit {0} → Unit {0} × IsSame (content_of store) (shelf_content self.new name.now) }
+        ensures others { (other : List ℕ) → other ≢ name.now → Unit {0} → Unit {0} × IsSame (shelf_content self.old other) (shelf_content self.new other) }
+        ensures faults { CountsFaults (0 < store.faults) self.old.faults self.new.faults }
         ensures put_back { IsPutBack name.now store self.old self.new }
         ensures after { (self.new.calls ≡ self.old.calls) × (self.new.failing ≡ self.old.failing) }
     {

@@ -1,7 +1,7 @@
-ghost use Rattle.std.specs.Prelude.{◌≡◌, ◌<◌, ◌≤◌, [], length, IfOk, OnOk, OnErr, Some};
+ghost use Rattle.std.specs.Prelude.{◌≡◌, ◌<◌, ◌≤◌, [], length, IfOk, IsErr, Some};
 ghost use Rattle.std.specs.Io.KnownBytes.{ReadConsumes, WriteAppends};
-ghost use Rattle.desk_edge.specs.Faults.{Rose};
-ghost use Rattle.desk_edge.specs.Memory.{read_answer, after_read, filled, write_answer, after_write};
+ghost use Rattle.desk_edge.specs.Faults.{CountsFaults};
+ghost use Rattle.desk_edge.specs.Memory.{read_answer, after_read, buffer_after, write_answer, after_write};
 
 use crate::failed::Failed;
 use crate::link::Link;
@@ -120,14 +120,11 @@ impl Link for MemoryLink {
         ensures within { IfOk result (λ n. n ≤ length into.new) }
         ensures gives { ReadConsumes (Some self.old.unread) (Some self.new.unread) result into.new }
         ensures output_stays { Some self.new.written ≡ Some self.old.written }
-        ensures never_falls { self.old.faults ≤ self.new.faults }
-        ensures steady { OnOk result (self.new.faults ≡ self.old.faults) }
-        ensures failed { OnErr result (Rose self.old.faults self.new.faults) }
-        ensures read_steady { OnOk result (self.new.read_faults ≡ self.old.read_faults) }
-        ensures read_failed { OnErr result (Rose self.old.read_faults self.new.read_faults) }
+        ensures faults { CountsFaults (IsErr result) self.old.faults self.new.faults }
+        ensures read_faults { CountsFaults (IsErr result) self.old.read_faults self.new.read_faults }
         ensures answer { result ≡ read_answer self.old (length into.old) }
         ensures after { self.new ≡ after_read self.old (length into.old) }
-        ensures buffer { into.new ≡ filled self.old into.old }
+        ensures buffer { into.new ≡ buffer_after self.old into.old }
     {
         self.calls = self.calls.saturating_add(1);
         if self.failing.contains(&self.calls) {
@@ -148,9 +145,7 @@ impl Link for MemoryLink {
         ensures takes { WriteAppends (Some self.old.written) (Some self.new.written) result piece.now }
         ensures input_stays { Some self.new.unread ≡ Some self.old.unread }
         ensures reads_stay { self.new.read_faults ≡ self.old.read_faults }
-        ensures never_falls { self.old.faults ≤ self.new.faults }
-        ensures steady { OnOk result (self.new.faults ≡ self.old.faults) }
-        ensures failed { OnErr result (Rose self.old.faults self.new.faults) }
+        ensures faults { CountsFaults (IsErr result) self.old.faults self.new.faults }
         ensures answer { result ≡ write_answer self.old piece.now }
         ensures after { self.new ≡ after_write self.old piece.now }
     {

@@ -1,6 +1,6 @@
-ghost use Rattle.std.specs.Prelude.{◌≡◌, ◌≢◌, ℕ, ◌<◌, ◌≤◌, List, Err, IfOk, IsErrOf};
+ghost use Rattle.std.specs.Prelude.{◌≡◌, ◌≢◌, ℕ, ◌<◌, List, IfOk, IsErrOf};
 ghost use Rattle.desk_edge.specs.Content.{Content, IsSame};
-ghost use Rattle.desk_edge.specs.Faults.{Rose};
+ghost use Rattle.desk_edge.specs.Faults.{CountsFaults};
 
 use crate::keep_fault::KeepFault;
 use crate::keeper::Keeper;
@@ -41,9 +41,7 @@ pub trait Shelf {
         ensures told { IfOk result (λ store. Self.Store.Keeper.Tells store
             → Tells self.old name.now × IsSame (content self.old name.now) (Self.Store.Keeper.content store)) }
         ensures others { (other : List ℕ) → Tells self.new other → Tells self.old other × IsSame (content self.old other) (content self.new other) }
-        ensures never_falls { faults self.old ≤ faults self.new }
-        ensures steady { result ≢ Err KeepFault.Failed → faults self.new ≡ faults self.old }
-        ensures failed { IsErrOf result KeepFault.Failed → Rose (faults self.old) (faults self.new) };
+        ensures faults { CountsFaults (IsErrOf result KeepFault.Failed) (faults self.old) (faults self.new) };
 
     /// Takes an open store back, which is lent no more; those of other names stay lent. It takes no memory and is never refused. The
     /// shelf's count rises exactly where the store has counted a fault.
@@ -54,7 +52,5 @@ pub trait Shelf {
         ensures count { count self.new name.now ≡ Self.Store.Keeper.faults store }
         ensures kept { Tells self.new name.now → Self.Store.Keeper.Tells store × IsSame (Self.Store.Keeper.content store) (content self.new name.now) }
         ensures others { (other : List ℕ) → other ≢ name.now → Tells self.new other → Tells self.old other × IsSame (content self.old other) (content self.new other) }
-        ensures never_falls { faults self.old ≤ faults self.new }
-        ensures steady { Self.Store.Keeper.faults store ≡ 0 → faults self.new ≡ faults self.old }
-        ensures rises { 0 < Self.Store.Keeper.faults store → Rose (faults self.old) (faults self.new) };
+        ensures faults { CountsFaults (0 < Self.Store.Keeper.faults store) (faults self.old) (faults self.new) };
 }

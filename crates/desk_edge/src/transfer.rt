@@ -1,6 +1,6 @@
-ghost use Rattle.std.specs.Prelude.{◌≡◌, ◌≢◌, ℕ, ◌+◌, ◌<◌, ◌≤◌, List, length, IfOk, OnOk, OnErr, IsErrOf, Err};
+ghost use Rattle.std.specs.Prelude.{◌≡◌, ℕ, ◌+◌, ◌<◌, ◌≤◌, List, length, IfOk, IsErr, OnOk, OnErr, IsErrOf};
 ghost use Rattle.std.specs.Io.KnownBytes.{Consumes, Appends, IsAtEnd};
-ghost use Rattle.desk_edge.specs.Faults.{Rose};
+ghost use Rattle.desk_edge.specs.Faults.{CountsFaults};
 ghost use Rattle.desk_edge.specs.Transfer.{AppendsBeginning, AppendsPart};
 
 use crate::failed::Failed;
@@ -59,11 +59,8 @@ pub fn read_up_to<L: Link>(alloc: Global, link: &mut L, limit: usize) -> Result<
     ensures failed_within { IsErrOf result ReadFault.Failed →
         (bytes : List ℕ) × Consumes (L.unread link.old) (L.unread link.new) bytes × (length bytes ≤ limit) }
     ensures output_stays { L.written link.new ≡ L.written link.old }
-    ensures never_falls { L.faults link.old ≤ L.faults link.new }
-    ensures steady { result ≢ Err ReadFault.Failed → L.faults link.new ≡ L.faults link.old }
-    ensures failed { IsErrOf result ReadFault.Failed → Rose (L.faults link.old) (L.faults link.new) }
-    ensures read_steady { result ≢ Err ReadFault.Failed → L.read_faults link.new ≡ L.read_faults link.old }
-    ensures read_failed { IsErrOf result ReadFault.Failed → Rose (L.read_faults link.old) (L.read_faults link.new) }
+    ensures faults { CountsFaults (IsErrOf result ReadFault.Failed) (L.faults link.old) (L.faults link.new) }
+    ensures read_faults { CountsFaults (IsErrOf result ReadFault.Failed) (L.read_faults link.old) (L.read_faults link.new) }
 {
     let mut bytes = Bytes::start(alloc);
     let mut chunk = [0; CHUNK];
@@ -87,9 +84,7 @@ pub fn write_all<L: Link>(link: &mut L, bytes: &[u8]) -> Result<(), Failed>
     ensures beginning { AppendsBeginning (L.written link.old) (L.written link.new) bytes.now }
     ensures input_stays { L.unread link.new ≡ L.unread link.old }
     ensures reads_stay { L.read_faults link.new ≡ L.read_faults link.old }
-    ensures never_falls { L.faults link.old ≤ L.faults link.new }
-    ensures steady { OnOk result (L.faults link.new ≡ L.faults link.old) }
-    ensures failed { OnErr result (Rose (L.faults link.old) (L.faults link.new)) }
+    ensures faults { CountsFaults (IsErr result) (L.faults link.old) (L.faults link.new) }
 {
     let mut rest = bytes;
     while !rest.is_empty() {

@@ -4,10 +4,10 @@ use Rattle.std.proofs.lemmas.List.{take_more}
 use Rattle.std.specs.List.{slice_index_or}
 use Rattle.sqlite_value.specs.Order.{Row}
 use Rattle.sqlite.specs.State.{State}
-use Rattle.desk_edge.specs.Content.{changed, changed_all}
+use Rattle.desk_edge.specs.Content.{body_after, body_after_all}
 use Rattle.desk_edge.specs.declared.change.Change.{Change}
 use Rattle.desk_edge.specs.declared.key.Key.{Key}
-use Rattle.desk_sqlite.specs.Content.{AreMade, IsMade, content_of}
+use Rattle.desk_sqlite.specs.Content.{AreMade, IsMade, rows_content}
 use Rattle.desk_sqlite.specs.Inside.{IsInside, Leaves}
 use Rattle.desk_sqlite.specs.Store.{rows_in}
 
@@ -17,13 +17,13 @@ inside_itself s = record { clean = λ clean. clean; kept = λ _ _. record { was_
 pub none_made : (rows : List Row) → AreMade [] rows rows
 none_made rows key = refl
 
-changed_then : (changes more : List Change) (key : Key) (body : Option (List ℕ)) → changed_all (changes ++ more) key body ≡ changed_all more key (changed_all changes key body)
+changed_then : (changes more : List Change) (key : Key) (body : Option (List ℕ)) → body_after_all (changes ++ more) key body ≡ body_after_all more key (body_after_all changes key body)
 changed_then [] more key body = refl
-changed_then (first ∷ changes) more key body = changed_then changes more key (changed first key body)
+changed_then (first ∷ changes) more key body = changed_then changes more key (body_after first key body)
 
 -- some changes more
 pub made_then : (changes more : List Change) (old mid new : List Row) → AreMade changes old mid → AreMade more mid new → AreMade (changes ++ more) old new
-made_then changes more old mid new first then key = then key ∙ ap (changed_all more key) (first key) ∙ sym (changed_then changes more key (content_of old key))
+made_then changes more old mid new first then key = then key ∙ ap (body_after_all more key) (first key) ∙ sym (changed_then changes more key (rows_content old key))
 
 -- nothing is made by no change
 pub none_left_out : (s : State) (changes : List Change) → Leaves s s (Ok tt) (AreMade (take 0 changes))

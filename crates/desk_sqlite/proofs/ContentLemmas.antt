@@ -15,7 +15,7 @@ use Rattle.sqlite_rules.specs.Lists.{Has}
 use Rattle.sqlite_rules.specs.Edit.{without_all, is_taken, id_in}
 use Rattle.sqlite_rules.specs.Calls.{ids_of}
 use Rattle.sqlite_rules.proofs.ProbeLemmas.{has_mapped, mapped_has}
-use Rattle.desk_sqlite.specs.Rows.{is_of, body_of, same_key, AreNumbered}
+use Rattle.desk_sqlite.specs.Rows.{is_of, body_kept, same_kind_and_code, AreRowsNumbered}
 use Rattle.desk_sqlite.proofs.ListLemmas.{find_none, none_found, find_only, find_without, left_has, find_put_other, put_has, has_put, taken_not, none_some}
 use Rattle.desk_sqlite.proofs.ValueLemmas.{same_int, int_is_itself, number_cmp, number_eq, blob_eq, same_bytes, bytes_itself, columns_of, of_columns}
 use Rattle.desk_sqlite.proofs.MeaningLemmas.{drop_tests, row_of}
@@ -41,10 +41,10 @@ eq_then Less p a b = absurd (true≢false (sym a))
 eq_then Equal p a b = b
 eq_then Greater p a b = absurd (true≢false (sym a))
 
-pub key_is : (kind : ℕ) (code : List ℕ) (k : ℕ) (c : List ℕ) → same_key kind code k c ≡ true → (kind ≡ k) × (code ≡ c)
+pub key_is : (kind : ℕ) (code : List ℕ) (k : ℕ) (c : List ℕ) → same_kind_and_code kind code k c ≡ true → (kind ≡ k) × (code ≡ c)
 key_is kind code k c e = let h = then_eq (nat_cmp kind k) (slice_cmp nat_cmp code c) e in (same_number kind k h.0, same_bytes code c h.1)
 
-pub is_key : (kind : ℕ) (code : List ℕ) (k : ℕ) (c : List ℕ) → kind ≡ k → code ≡ c → same_key kind code k c ≡ true
+pub is_key : (kind : ℕ) (code : List ℕ) (k : ℕ) (c : List ℕ) → kind ≡ k → code ≡ c → same_kind_and_code kind code k c ≡ true
 is_key kind code k c a b = rw (← a, ← b) (eq_then (nat_cmp kind kind) (slice_cmp nat_cmp code code) (number_itself kind) (bytes_itself code))
 
 -- a row of a key passes the tests of a drop exactly where the keys are one
@@ -61,10 +61,10 @@ pub map_none : {X Y : Type 0} (f : X → Y) (o : Option X) → option_map f o �
 map_none f None e = refl
 map_none f (Some x) e = absurd (none_some (sym e))
 
-module _ (rows : List Row) (numbered : AreNumbered rows) (kind : ℕ) (code : List ℕ) where
+module _ (rows : List Row) (numbered : AreRowsNumbered rows) (kind : ℕ) (code : List ℕ) where
   module _ (found : List Row) (sound : (x : Row) → Has found x → (r : Row) × Has rows r × (passes drop_tests (Int (pos kind) ∷ Blob code ∷ []) r ≡ true) × (x ≡ rowid r ∷ []))
       (complete : (r : Row) → Has rows r → passes drop_tests (Int (pos kind) ∷ Blob code ∷ []) r ≡ true → Has found (rowid r ∷ [])) where
-    pub drop_numbered : AreNumbered (without_all rows (ids_of found))
+    pub drop_numbered : AreRowsNumbered (without_all rows (ids_of found))
     drop_numbered = record {
       number = λ x h. numbered.number x (left_has (ids_of found) rows x h).0;
       apart = λ a b ha hb. numbered.apart a b (left_has (ids_of found) rows a ha).0 (left_has (ids_of found) rows b hb).0;
@@ -82,7 +82,7 @@ module _ (rows : List Row) (numbered : AreNumbered rows) (kind : ℕ) (code : Li
         true≢false (sym (int_is_itself n.0) ∙ stays)
 
     -- a row of another key stays
-    stays : (k : ℕ) (c : List ℕ) → same_key kind code k c ≡ false → (id : ℤ) → Has (ids_of found) id → (r : Row) → Has rows r → is_of k c r ≡ true → has_rowid id r ≡ false
+    stays : (k : ℕ) (c : List ℕ) → same_kind_and_code kind code k c ≡ false → (id : ℤ) → Has (ids_of found) id → (r : Row) → Has rows r → is_of k c r ≡ true → has_rowid id r ≡ false
     stays k c other id there r here own = go (has_rowid id r) refl
       where
         go : (b : Bool) → has_rowid id r ≡ b → b ≡ false
@@ -99,8 +99,8 @@ module _ (rows : List Row) (numbered : AreNumbered rows) (kind : ℕ) (code : Li
             let key = is_key kind code k c (sym (same_number k kind pass.0)) (sym (same_bytes c code (both_true _ _ pass.1).0)) in
             absurd (true≢false (sym key ∙ other))
 
-    pub drop_bodies : (k : ℕ) (c : List ℕ) → body_of (without_all rows (ids_of found)) k c ≡ (if same_key kind code k c then None else body_of rows k c)
-    drop_bodies k c = go (same_key kind code k c) refl
+    pub drop_bodies : (k : ℕ) (c : List ℕ) → body_kept (without_all rows (ids_of found)) k c ≡ (if same_kind_and_code kind code k c then None else body_kept rows k c)
+    drop_bodies k c = go (same_kind_and_code kind code k c) refl
       where
         falls : (k′ : ℕ) (c′ : List ℕ) → kind ≡ k′ → code ≡ c′ → (x : Row) → Has (without_all rows (ids_of found)) x → is_of k′ c′ x ≡ false
         falls k′ c′ a b x h = at (is_of k′ c′ x) refl
@@ -109,12 +109,12 @@ module _ (rows : List Row) (numbered : AreNumbered rows) (kind : ℕ) (code : Li
             at false is = refl
             at true is = absurd (goes x h (rw (a, b) is))
 
-        go : (b : Bool) → same_key kind code k c ≡ b → body_of (without_all rows (ids_of found)) k c ≡ (if b then None else body_of rows k c)
+        go : (b : Bool) → same_kind_and_code kind code k c ≡ b → body_kept (without_all rows (ids_of found)) k c ≡ (if b then None else body_kept rows k c)
         go true is = let it = key_is kind code k c is in ap (option_map (λ row. bytes (column row 3))) (none_found (is_of k c) (without_all rows (ids_of found)) (falls k c it.0 it.1))
         go false is = ap (option_map (λ row. bytes (column row 3))) (find_without (is_of k c) (ids_of found) rows (stays k c is))
 
   module _ (n : ℤ) (body : List ℕ) (free : is_taken rows (row_of n kind code body) ≡ false) where
-    pub insert_numbered : AreNumbered (put_row (row_of n kind code body) rows)
+    pub insert_numbered : AreRowsNumbered (put_row (row_of n kind code body) rows)
     insert_numbered = record {
       number = λ x h. number_at x (put_has (row_of n kind code body) rows x h);
       apart = λ a b ha hb same. apart_at a b (put_has (row_of n kind code body) rows a ha) (put_has (row_of n kind code body) rows b hb) same;
@@ -135,8 +135,8 @@ module _ (rows : List Row) (numbered : AreNumbered rows) (kind : ℕ) (code : Li
         apart_at a b (inr x) (inl y) same = absurd (taken b a y x same)
         apart_at a b (inr x) (inr y) same = numbered.apart a b x y same
 
-    pub insert_bodies : body_of rows kind code ≡ None → (k : ℕ) (c : List ℕ) → body_of (put_row (row_of n kind code body) rows) k c ≡ (if same_key kind code k c then Some body else body_of rows k c)
-    insert_bodies none k c = go (same_key kind code k c) refl
+    pub insert_bodies : body_kept rows kind code ≡ None → (k : ℕ) (c : List ℕ) → body_kept (put_row (row_of n kind code body) rows) k c ≡ (if same_kind_and_code kind code k c then Some body else body_kept rows k c)
+    insert_bodies none k c = go (same_kind_and_code kind code k c) refl
       where
         absent : (x : Row) → Has rows x → is_of kind code x ≡ false
         absent x there = find_none (is_of kind code) rows (map_none (λ row. bytes (column row 3)) (find (is_of kind code) rows) none) x there
@@ -148,7 +148,7 @@ module _ (rows : List Row) (numbered : AreNumbered rows) (kind : ℕ) (code : Li
             at (inl is) = is
             at (inr there) = absurd (true≢false (sym own ∙ rw (← a, ← b) (absent y there)))
 
-        differs : same_key kind code k c ≡ false → is_of k c (row_of n kind code body) ≡ false
+        differs : same_kind_and_code kind code k c ≡ false → is_of k c (row_of n kind code body) ≡ false
         differs other = at (is_of k c (row_of n kind code body)) refl
           where
             at : (t : Bool) → is_of k c (row_of n kind code body) ≡ t → t ≡ false
@@ -159,7 +159,7 @@ module _ (rows : List Row) (numbered : AreNumbered rows) (kind : ℕ) (code : Li
                 let two : code ≡ c = let e : Blob code ≡ Blob c = cols.1 in cc in
                 absurd (true≢false (sym (is_key kind code k c one two) ∙ other))
 
-        go : (b : Bool) → same_key kind code k c ≡ b → body_of (put_row (row_of n kind code body) rows) k c ≡ (if b then Some body else body_of rows k c)
+        go : (b : Bool) → same_kind_and_code kind code k c ≡ b → body_kept (put_row (row_of n kind code body) rows) k c ≡ (if b then Some body else body_kept rows k c)
         go true is =
             let it = key_is kind code k c is in
             ap (option_map (λ row. bytes (column row 3))) (find_only (is_of k c) (put_row (row_of n kind code body) rows) (row_of n kind code body) (has_put (row_of n kind code body) rows)

@@ -23,8 +23,8 @@ use Rattle.desk_edge.specs.Content.{IsFirstOf, IsFirstPast, is_past, key_cmp, ke
 use Rattle.desk_edge.proofs.Keys.{key_order}
 use Rattle.desk_edge.specs.declared.key.Key.{Key}
 use Rattle.desk_edge.specs.declared.record.Record.{Record}
-use Rattle.desk_sqlite.specs.Content.{content_of, IsPut, IsOf, AreKeyed, AreNext, AreLooked, AreNextRows, AreFirstRows, AreNextPast, AreFirstPast, AreShown, IsShown}
-use Rattle.desk_sqlite.specs.Rows.{is_of, body_of, same_key}
+use Rattle.desk_sqlite.specs.Content.{rows_content, IsPut, IsOf, AreKeyed, AreNextWanted, AreLooked, AreNextRows, AreFirstRows, AreNextPast, AreFirstPast, AreShown, IsShown}
+use Rattle.desk_sqlite.specs.Rows.{is_of, body_kept, same_kind_and_code}
 use Rattle.desk_sqlite.specs.Store.{IsStore, rows_in, Dropped, any_key, is_within, is_beyond}
 use Rattle.desk_sqlite.proofs.ContentLemmas.{both_true, same_number, number_itself}
 use Rattle.desk_sqlite.proofs.ListLemmas.{find_only, le_lt}
@@ -39,7 +39,7 @@ twice false x y = refl
 
 pub put_made : (kept : Record) (old mid new : List Row) → Dropped kept.kind kept.code old mid → IsPut kept mid new → IsPut kept old new
 put_made kept old mid new d i k =
-    i k ∙ ap (λ o. cond (same_key kept.kind kept.code k.kind k.code) (Some kept.body) o) (d k.kind k.code) ∙ twice (same_key kept.kind kept.code k.kind k.code) (Some kept.body) (body_of old k.kind k.code)
+    i k ∙ ap (λ o. cond (same_kind_and_code kept.kind kept.code k.kind k.code) (Some kept.body) o) (d k.kind k.code) ∙ twice (same_kind_and_code kept.kind kept.code k.kind k.code) (Some kept.body) (body_kept old k.kind k.code)
 
 -- ---- looks
 
@@ -88,7 +88,7 @@ Above wanted key = (other : Key) → wanted other.kind other.code ≡ true → i
 -- where what is past a wanted key is wanted too or stands behind all wanted keys, rows that were looked for are the next ones
 module _ (rows : List Row) (wanted : ℕ → List ℕ → Bool) where
   convert : ((own : Key) → wanted own.kind own.code ≡ true → (key : Key) → is_past (Some own) key ≡ true → (wanted key.kind key.code ≡ true) ⊎ Above wanted key) → (bound after : Option Key)
-      → ((key : Key) → is_past after key ≡ true → ((wanted key.kind key.code ≡ true) × (is_past bound key ≡ true)) ⊎ Above wanted key) → (shown : List Row) → AreNext wanted bound rows shown → AreNextRows after rows shown
+      → ((key : Key) → is_past after key ≡ true → ((wanted key.kind key.code ≡ true) × (is_past bound key ≡ true)) ⊎ Above wanted key) → (shown : List Row) → AreNextWanted wanted bound rows shown → AreNextRows after rows shown
   convert on bound after first [] h = tt
   convert on bound after first (shown ∷ more) h = (
     h.0,
@@ -171,7 +171,7 @@ first_beyond after rows [] none look =
     λ key x has own. past_is after key ∙ ap (λ b. b || is_beyond after.kind key.kind key.code) (none key x has own) ∙ look key x has own
 first_beyond after rows (shown ∷ more) none look = go (shown ∷ more) look
   where
-    go : (all : List Row) → AreNext (is_beyond after.kind) None rows all → AreNextRows (Some after) rows all
+    go : (all : List Row) → AreNextWanted (is_beyond after.kind) None rows all → AreNextRows (Some after) rows all
     go [] h = tt
     go (s ∷ rest) h = (
       h.0,
@@ -248,11 +248,11 @@ module _ (rows : List Row) (keyed : AreKeyed rows) (after : Option Key) where
   found_row key None is none = refl
   found_row key (Some x) is none = let f = has_found (is_of key.kind key.code) rows x is in absurd (none x f.0 f.1)
 
-  pub none_past : AreFirstRows after rows [] → IsFirstPast (content_of rows) after None
+  pub none_past : AreFirstRows after rows [] → IsFirstPast (rows_content rows) after None
   none_past h key past = found_row key (find (is_of key.kind key.code) rows) refl (λ x there own. true≢false (sym past ∙ h key x there own))
 
   some_past : (kept : Record) (shown row : Row) → IsShown kept shown → Has rows row → shown ≡ column row 1 ∷ column row 2 ∷ column row 3 ∷ [] → IsOf (key_of kept) row
-      → ((key : Key) (x : Row) → Has rows x → IsOf key x → is_past after key ≡ true → is_lt (key_cmp key (key_of kept)) ≡ false) → IsFirstOf (content_of rows) after kept
+      → ((key : Key) (x : Row) → Has rows x → IsOf key x → is_past after key ≡ true → is_lt (key_cmp key (key_of kept)) ≡ false) → IsFirstOf (rows_content rows) after kept
   some_past kept shown row is there same own least =
       let body : column row 3 ≡ Blob kept.body = sym (ap (λ r. column r 2) same) ∙ is.body in (
         ap (option_map (λ r. bytes (column r 3))) (find_only (is_of kept.kind kept.code) rows row there own (λ y has hy. keyed (key_of kept) y row has there hy own)) ∙ ap (λ v. Some (bytes v)) body,
@@ -260,7 +260,7 @@ module _ (rows : List Row) (keyed : AreKeyed rows) (after : Option Key) where
       )
 
 -- the records that rows show come as these do
-pub records_next : (rows : List Row) → AreKeyed rows → (after : Option Key) (records : List Record) (shown : List Row) → AreShown records shown → AreNextRows after rows shown → AreNextPast (content_of rows) after records
+pub records_next : (rows : List Row) → AreKeyed rows → (after : Option Key) (records : List Record) (shown : List Row) → AreShown records shown → AreNextRows after rows shown → AreNextPast (rows_content rows) after records
 records_next rows keyed after [] shown is next = tt
 records_next rows keyed after (kept ∷ more) [] is next = absurd is
 records_next rows keyed after (kept ∷ more) (shown ∷ rest) is next =
@@ -271,7 +271,7 @@ records_next rows keyed after (kept ∷ more) (shown ∷ rest) is next =
     )
 
 pub records_first : (rows : List Row) → AreKeyed rows → (after : Option Key) (records : List Record) (shown : List Row) → (records ≡ [] → shown ≡ []) → AreShown records shown → AreFirstRows after rows shown
-    → AreFirstPast (content_of rows) after records
+    → AreFirstPast (rows_content rows) after records
 records_first rows keyed after [] [] none is first = none_past rows keyed after first
 records_first rows keyed after [] (shown ∷ rest) none is first = absurd (let bad = none refl in cc)
 records_first rows keyed after (kept ∷ more) [] none is first = absurd is

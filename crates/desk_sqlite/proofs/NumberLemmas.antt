@@ -21,7 +21,7 @@ use Rattle.sqlite.specs.Listing.{IsSourceOf, reads_listing, understood}
 use Rattle.sqlite.specs.State.{State, Begins, IsStatement}
 use Rattle.sqlite_sql.specs.Query.{IsAnswer, Output, output}
 use Rattle.desk_sqlite.specs.Numbers.{AreRising, row_number}
-use Rattle.desk_sqlite.specs.Rows.{AreNumbered}
+use Rattle.desk_sqlite.specs.Rows.{AreRowsNumbered}
 use Rattle.desk_sqlite.proofs.ListLemmas.{has_permuted, matched_has}
 use Rattle.desk_sqlite.proofs.TextLemmas.{numbers_query}
 use Rattle.desk_sqlite.proofs.ValueLemmas.{int_is_itself}
@@ -116,7 +116,7 @@ module _ (db : Trees) (shown : List Row) (a : IsAnswer numbers_query db [] shown
       let listed = subst (λ l. Has l (rowid r ∷ [])) (sym shown_is) (mapped_has (λ (k : Output). k.1) a.ordered o ordered) in
       (row_number (rowid r ∷ []), rising.numbers (rowid r ∷ []) listed)
 
-  pub are_numbered : AreNumbered (db 0)
+  pub are_numbered : AreRowsNumbered (db 0)
   are_numbered = record { number = number_at; apart = apart_rows (db 0) number_at all_distinct }
 
 -- ---- one more

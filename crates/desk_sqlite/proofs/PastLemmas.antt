@@ -6,8 +6,8 @@ use Rattle.sqlite.specs.Effect.{Database}
 use Rattle.sqlite.specs.State.{State, HasCleanDisk, IsLive}
 use Rattle.desk_edge.specs.declared.key.Key.{Key}
 use Rattle.desk_edge.specs.declared.record.Record.{Record}
-use Rattle.desk_sqlite.specs.Content.{AreKeyed, AreLooked, AreFirstRows, AreFirstPast, content_of}
-use Rattle.desk_sqlite.specs.Rows.{AreNumbered}
+use Rattle.desk_sqlite.specs.Content.{AreKeyed, AreLooked, AreFirstRows, AreFirstPast, rows_content}
+use Rattle.desk_sqlite.specs.Rows.{AreRowsNumbered}
 use Rattle.desk_sqlite.specs.Store.{IsOurs, IsStore, IsStill, Suits, any_key, is_within, is_beyond, rows_in}
 use Rattle.desk_sqlite.proofs.FindLemmas.{are_keyed, first_of_all, first_beyond}
 
@@ -30,7 +30,7 @@ if_ok_later P (Err e) f = tt
 pub store_same : (a b : State) → b.now ≡ a.now → IsStore a → IsStore b
 store_same a b same store = record {
   ours = subst (λ (d : Database). IsOurs d.schema) (sym same) store.ours;
-  numbered = subst (λ (d : Database). AreNumbered (d.trees 0)) (sym same) store.numbered;
+  numbered = subst (λ (d : Database). AreRowsNumbered (d.trees 0)) (sym same) store.numbered;
 }
 
 pub suits_still : (a b : State) → IsStill a b → Suits a → Suits b
@@ -64,5 +64,5 @@ module _ {X : Type 0} (items : X → List Row) where
 
 -- what is found of the rows as they were is found of them as they are
 pub past_after : (a b : State) (after : Option Key) (found : List Record) → IsStill a b → Suits a → HasCleanDisk b → IsTrue b.is_open
-    → AreFirstPast (content_of (rows_in a)) after found → AreFirstPast (content_of (rows_in b)) after found
-past_after a b after found still suits clean now = subst (λ (d : Database). AreFirstPast (content_of (d.trees 0)) after found) (sym (still.same suits clean now))
+    → AreFirstPast (rows_content (rows_in a)) after found → AreFirstPast (rows_content (rows_in b)) after found
+past_after a b after found still suits clean now = subst (λ (d : Database). AreFirstPast (rows_content (d.trees 0)) after found) (sym (still.same suits clean now))

@@ -9,7 +9,7 @@ use Rattle.sqlite.specs.Given.{IsPlain}
 use Rattle.sqlite.specs.Listing.{understood}
 use Rattle.sqlite.specs.State.{State, HasCleanDisk, IsUnchanged, ShowsRows, Shown}
 use Rattle.desk_sqlite.specs.Numbers.{AreRising}
-use Rattle.desk_sqlite.specs.Rows.{AreNumbered}
+use Rattle.desk_sqlite.specs.Rows.{AreRowsNumbered}
 use Rattle.desk_sqlite.specs.Store.{IsOurs, Suits}
 use Rattle.desk_sqlite.specs.Texts.{numbers_text}
 use Rattle.desk_sqlite.proofs.MeaningLemmas.{shows_numbers}
@@ -32,7 +32,7 @@ numbered_suits old new rows ours shown rising clean now =
     let same = (listing_same numbers_text [] old new plain rows (shown clean)).0.now_is in
     record {
       ours = subst (λ (d : Database). IsOurs d.schema) (sym same) ours;
-      numbered = subst (λ (d : Database). AreNumbered (d.trees 0)) (sym same) (are_numbered (overlay old.now.trees []) rows (shows_numbers ours.0 ours.1 old new ours.2 rows (shown clean)) rising);
+      numbered = subst (λ (d : Database). AreRowsNumbered (d.trees 0)) (sym same) (are_numbered (overlay old.now.trees []) rows (shows_numbers ours.0 ours.1 old new ours.2 rows (shown clean)) rising);
     }
 
 -- the numbers were read one at a time up to the last, and each was greater than the one before it

@@ -31,14 +31,14 @@ use Rattle.sqlite_schema.specs.declared.command.Command.TheVariants.{Insert}
 use Rattle.sqlite_schema.specs.declared.command.Source.TheVariants.{Values}
 use Rattle.sqlite.specs.Listing.{understood}
 use Rattle.sqlite.specs.State.{State, IsNotRun, FailsToShow, FailsToQuery, ShowsRows, Shown, ExecutesInside}
-use Rattle.desk_edge.specs.Content.{changed_all, is_past, key_cmp}
+use Rattle.desk_edge.specs.Content.{body_after_all, is_past, key_cmp}
 use Rattle.desk_edge.specs.declared.change.Change.TheVariants.{Put}
 use Rattle.desk_edge.specs.declared.key.Key.{Key}
 use Rattle.desk_edge.specs.declared.record.Record.{Record}
 use Rattle.desk_edge.proofs.Keys.{key_order}
-use Rattle.desk_sqlite.specs.Content.{AreKeyed, IsOf, AreNext, AreLooked, ArePut, IsPut, content_of}
+use Rattle.desk_sqlite.specs.Content.{AreKeyed, IsOf, AreNextWanted, AreLooked, ArePut, IsPut, rows_content}
 use Rattle.desk_sqlite.specs.Texts.{first_text, within_text, beyond_text, insert_text, four_text, drop_text}
-use Rattle.desk_sqlite.specs.Rows.{is_of, body_of, AreNumbered}
+use Rattle.desk_sqlite.specs.Rows.{is_of, body_kept, AreRowsNumbered}
 use Rattle.desk_sqlite.specs.Store.{IsOurs, IsStore, rows_in, Dropped, any_key, is_within, is_beyond}
 use Rattle.desk_sqlite.proofs.ContentLemmas.{both_true, drop_numbered, drop_bodies, insert_numbered, insert_bodies}
 use Rattle.desk_sqlite.proofs.MeaningLemmas.{drop_tests, drops, inserts, new_row, new_rows, row_of, sources, shows_first, shows_within, shows_beyond, within_tests, beyond_tests}
@@ -104,7 +104,7 @@ module _ (sql : List ℕ) (params : Row) (old new : State) where
 
 -- a row of the key that was put in beside the others was the first of its key
 none_of : (old new : List Row) (kind : ℕ) (code : List ℕ) (row : Row) (n : ℤ) → AreKeyed new → Has new row → row ≡ row_of n kind code (bytes (column row 3)) → is_taken old row ≡ false
-    → ((x : Row) → Has old x → Has new x) → body_of old kind code ≡ None
+    → ((x : Row) → Has old x → Has new x) → body_kept old kind code ≡ None
 none_of old new kind code row n keyed here is free stays = ap (option_map (λ r. bytes (column r 3))) (none_found (is_of kind code) old absent)
   where
     its : is_of kind code row ≡ true
@@ -128,16 +128,16 @@ stays_all rows (r ∷ news) x fresh has =
     let h = both_true _ _ fresh in
     stays_all (put_row r rows) news x h.1 (kept_put r rows x (not_false _ h.0) has)
 
-numbered_all : (rows : List Row) (records : List Record) → AreNumbered rows → are_fresh rows (new_rows rows records) ≡ true → AreNumbered (put_all rows (new_rows rows records))
+numbered_all : (rows : List Row) (records : List Record) → AreRowsNumbered rows → are_fresh rows (new_rows rows records) ≡ true → AreRowsNumbered (put_all rows (new_rows rows records))
 numbered_all rows [] numbered fresh = numbered
 numbered_all rows (kept ∷ more) numbered fresh =
     let h = both_true _ _ fresh in
     numbered_all (put_row (new_row rows kept) rows) more (insert_numbered rows numbered kept.kind kept.code (next_rowid rows) kept.body (not_false _ h.0)) h.1
 
 -- where no two rows have one key at the end, none of the records had the key of another row
-put_in_turn : (last : List Row) → AreKeyed last → (rows : List Row) (records : List Record) → last ≡ put_all rows (new_rows rows records) → AreNumbered rows
+put_in_turn : (last : List Row) → AreKeyed last → (rows : List Row) (records : List Record) → last ≡ put_all rows (new_rows rows records) → AreRowsNumbered rows
     → are_fresh rows (new_rows rows records) ≡ true → ArePut records rows last
-put_in_turn last keyed rows [] is numbered fresh = λ key. ap (λ l. content_of l key) is
+put_in_turn last keyed rows [] is numbered fresh = λ key. ap (λ l. rows_content l key) is
 put_in_turn last keyed rows (kept ∷ more) is numbered fresh =
     let h = both_true _ _ fresh in
     let free = not_false _ h.0 in
@@ -146,7 +146,7 @@ put_in_turn last keyed rows (kept ∷ more) is numbered fresh =
     let stays : (x : Row) → Has next x → Has last x = λ x has. subst (λ l. Has l x) (sym is) (stays_all next (new_rows next more) x h.1 has) in
     let none = none_of rows last kept.kind kept.code row (next_rowid rows) keyed (stays row (has_put row rows)) refl free (λ x has. stays x (kept_put row rows x free has)) in
     let later = put_in_turn last keyed next more is (insert_numbered rows numbered kept.kind kept.code (next_rowid rows) kept.body free) h.1 in
-    λ key. later key ∙ ap (changed_all (map Put more) key) (insert_bodies rows numbered kept.kind kept.code (next_rowid rows) kept.body free none key.kind key.code)
+    λ key. later key ∙ ap (body_after_all (map Put more) key) (insert_bodies rows numbered kept.kind kept.code (next_rowid rows) kept.body free none key.kind key.code)
 
 -- what an insert of four records is told
 abbrev pub four_params : Record → Record → Record → Record → Row
@@ -168,9 +168,9 @@ module _ (old new : State) (store : IsStore old) where
       let left : rows_in new ≡ without_all (rows_in old) (ids_of it.1) = it.3 in (
         record {
           ours = (checks, name, it.0);
-          numbered = subst AreNumbered (sym left) (drop_numbered (rows_in old) store.numbered kind code it.1 asked.0 asked.1);
+          numbered = subst AreRowsNumbered (sym left) (drop_numbered (rows_in old) store.numbered kind code it.1 asked.0 asked.1);
         },
-        λ k c. ap (λ rows. body_of rows k c) left ∙ drop_bodies (rows_in old) store.numbered kind code it.1 asked.0 asked.1 k c,
+        λ k c. ap (λ rows. body_kept rows k c) left ∙ drop_bodies (rows_in old) store.numbered kind code it.1 asked.0 asked.1 k c,
       )
 
   -- an insert of records puts them in, one after the other
@@ -184,7 +184,7 @@ module _ (old new : State) (store : IsStore old) where
       let it = inserts checks name old new store.ours.2 sql terms params records count (plain checks name) (is checks name) (from checks) h.0 in
       let left : IsStore new = record {
         ours = (checks, name, it.0);
-        numbered = subst AreNumbered (sym it.2) (numbered_all (rows_in old) records store.numbered it.1);
+        numbered = subst AreRowsNumbered (sym it.2) (numbered_all (rows_in old) records store.numbered it.1);
       } in
       (left, put_in_turn (rows_in new) (are_keyed new it.3 left) (rows_in old) records it.2 store.numbered it.1)
 
@@ -245,7 +245,7 @@ module _ (tests : List Term) (params : Row) (rows : List Row) (wanted : ℕ → 
       → ((o : Output) → Has os o → (r : Row) × Has rows r × (passes tests params r ≡ true) × (o ≡ shown_of tests params r))
       → ((key : Key) (x : Row) → Has rows x → IsOf key x → wanted key.kind key.code ≡ true → is_past bound key ≡ true → Has os (shown_of tests params x))
       → ((o : Output) → Has os o → (r : Row) → o ≡ shown_of tests params r → (own : Key) → IsOf own r → (key : Key) → is_past (Some own) key ≡ true → is_past bound key ≡ true)
-      → AreNext wanted bound rows (take n (map (λ (o : Output). o.1) os))
+      → AreNextWanted wanted bound rows (take n (map (λ (o : Output). o.1) os))
   run zero os bound sorted from there rises = tt
   run (suc n) [] bound sorted from there rises = tt
   run (suc n) (o ∷ os) bound sorted from there rises = (
@@ -289,7 +289,7 @@ module _ (tests : List Term) (params : Row) (rows : List Row) (wanted : ℕ → 
           none key x has hx false e = refl
           none key x has hx true e = absurd (subst (λ all. Has all (shown_of tests params x)) is (l.there x has (meant key.kind key.code x hx ∙ e)))
       go (o ∷ os) is =
-          subst (λ all. AreNext wanted None rows (take 64 (map (λ (k : Output). k.1) all))) is
+          subst (λ all. AreNextWanted wanted None rows (take 64 (map (λ (k : Output). k.1) all))) is
           (run 64 l.ordered None l.sorted l.from (λ key x has hx good past. l.there x has (meant key.kind key.code x hx ∙ good)) (λ _ _ _ _ _ _ _ _. refl))
 
 module _ (old new : State) (ours : IsOurs old.now.schema) where

@@ -4,24 +4,24 @@ use Rattle.std.specs.Ordering.{is_lt}
 use Rattle.sqlite_value.specs.declared.value.Value.TheVariants.{Int, Blob}
 use Rattle.sqlite_value.specs.Order.{Row, column}
 use Rattle.sqlite_rules.specs.Lists.{Has}
-use Rattle.desk_edge.specs.Content.{Content, IsChanged, IsFirstOf, IsFirstPast, changed, is_past, key_cmp, key_of}
+use Rattle.desk_edge.specs.Content.{Content, IsChanged, IsFirstOf, IsFirstPast, body_after, is_past, key_cmp, key_of}
 use Rattle.desk_edge.specs.declared.change.Change.{Change}
 use Rattle.desk_edge.specs.declared.change.Change.TheVariants.{Put}
 use Rattle.desk_edge.specs.declared.key.Key.{Key}
 use Rattle.desk_edge.specs.declared.record.Record.{Record}
-use Rattle.desk_sqlite.specs.Rows.{body_of, is_of}
+use Rattle.desk_sqlite.specs.Rows.{body_kept, is_of}
 
 -- the body that the rows keep under each key
-abbrev pub content_of : List Row → Content
-content_of rows key = body_of rows key.kind key.code
+abbrev pub rows_content : List Row → Content
+rows_content rows key = body_kept rows key.kind key.code
 
 -- the change was made
 abbrev pub IsMade : Change → List Row → List Row → Type 0
-IsMade change old new = (key : Key) → content_of new key ≡ changed change key (content_of old key)
+IsMade change old new = (key : Key) → rows_content new key ≡ body_after change key (rows_content old key)
 
 -- all the changes were made, one after the other
 abbrev pub AreMade : List Change → List Row → List Row → Type 0
-AreMade changes old new = IsChanged changes (content_of old) (content_of new)
+AreMade changes old new = IsChanged changes (rows_content old) (rows_content new)
 
 -- the record was put in
 abbrev pub IsPut : Record → List Row → List Row → Type 0
@@ -41,19 +41,19 @@ AreKeyed rows = (key : Key) (a b : Row) → Has rows a → Has rows b → IsOf k
 
 -- the columns of these rows were shown in turn: each is wanted, and of those that are wanted and past the one before it none has an earlier
 -- key
-abbrev pub AreNext : (ℕ → List ℕ → Bool) → Option Key → List Row → List Row → Type 0
-AreNext wanted after rows [] = Unit {0}
-AreNext wanted after rows (shown ∷ more) =
+abbrev pub AreNextWanted : (ℕ → List ℕ → Bool) → Option Key → List Row → List Row → Type 0
+AreNextWanted wanted after rows [] = Unit {0}
+AreNextWanted wanted after rows (shown ∷ more) =
     (row : Row) × Has rows row × (shown ≡ column row 1 ∷ column row 2 ∷ column row 3 ∷ [])
     × ((own : Key) → IsOf own row
     → (wanted own.kind own.code ≡ true)
     × ((key : Key) (x : Row) → Has rows x → IsOf key x → wanted key.kind key.code ≡ true → is_past after key ≡ true → is_lt (key_cmp key own) ≡ false)
-    × AreNext wanted (Some own) rows more)
+    × AreNextWanted wanted (Some own) rows more)
 
 -- of the rows whose keys are wanted there is none, or the first of them were shown
 abbrev pub AreLooked : (ℕ → List ℕ → Bool) → List Row → List Row → Type 0
 AreLooked wanted rows [] = (key : Key) (x : Row) → Has rows x → IsOf key x → wanted key.kind key.code ≡ false
-AreLooked wanted rows (shown ∷ more) = AreNext wanted None rows (shown ∷ more)
+AreLooked wanted rows (shown ∷ more) = AreNextWanted wanted None rows (shown ∷ more)
 
 -- the columns of these rows were shown in turn, and of those past the one before it none has an earlier key
 abbrev pub AreNextRows : Option Key → List Row → List Row → Type 0

@@ -9,9 +9,9 @@ use Rattle.desk_edge.specs.declared.keep_fault.KeepFault.TheVariants as fault
 use Rattle.desk_sqlite.specs.Store.{IsOurs}
 
 -- the library's own want of memory is told as that, and each other refusal as a fault
-abbrev pub refusal_of : Error → KeepFault
-refusal_of (SqliteFailure code.OutOfMemory) = fault.OutOfMemory
-refusal_of _ = fault.Failed
+abbrev pub keep_fault_of : Error → KeepFault
+keep_fault_of (SqliteFailure code.OutOfMemory) = fault.OutOfMemory
+keep_fault_of _ = fault.Failed
 
 -- nothing was made in the database yet
 abbrev pub IsNew : Schema → Type 0

@@ -23,14 +23,14 @@ abbrev pub is_of : ℕ → List ℕ → Row → Bool
 is_of kind code row = is_number kind (column row 1) && is_blob code (column row 2)
 
 -- the body that the rows keep for the kind and the code
-abbrev pub body_of : List Row → ℕ → List ℕ → Option (List ℕ)
-body_of rows kind code = option_map (λ row. bytes (column row 3)) (find (is_of kind code) rows)
+abbrev pub body_kept : List Row → ℕ → List ℕ → Option (List ℕ)
+body_kept rows kind code = option_map (λ row. bytes (column row 3)) (find (is_of kind code) rows)
 
 -- each row has a number of its own
-pub record AreNumbered (rows : List Row) : Type 0 where
+pub record AreRowsNumbered (rows : List Row) : Type 0 where
   pub number : (row : Row) → Has rows row → (n : ℤ) × (rowid row ≡ Int n)
   pub apart : (a b : Row) → Has rows a → Has rows b → rowid a ≡ rowid b → a ≡ b
 
 -- the two are one kind and one code
-abbrev pub same_key : ℕ → List ℕ → ℕ → List ℕ → Bool
-same_key kind code k c = is_eq (ordering_then (nat_cmp kind k) (slice_cmp nat_cmp code c))
+abbrev pub same_kind_and_code : ℕ → List ℕ → ℕ → List ℕ → Bool
+same_kind_and_code kind code k c = is_eq (ordering_then (nat_cmp kind k) (slice_cmp nat_cmp code c))

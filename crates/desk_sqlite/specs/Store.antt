@@ -6,7 +6,7 @@ use Rattle.sqlite_value.specs.Order.{Row}
 use Rattle.sqlite_sql.specs.Term.{Term}
 use Rattle.sqlite_schema.specs.declared.schema.Schema.{Schema}
 use Rattle.sqlite.specs.State.{State, HasCleanDisk}
-use Rattle.desk_sqlite.specs.Rows.{body_of, same_key, AreNumbered}
+use Rattle.desk_sqlite.specs.Rows.{body_kept, same_kind_and_code, AreRowsNumbered}
 use Rattle.desk_sqlite.specs.Table.{store_schema}
 
 -- the schema is the table of a store and the index of its keys, and nothing else
@@ -20,19 +20,19 @@ rows_in s = s.now.trees 0
 -- the database is one such table, whose rows have numbers of their own
 pub record IsStore (s : State) : Type 0 where
   pub ours : IsOurs s.now.schema
-  pub numbered : AreNumbered (rows_in s)
+  pub numbered : AreRowsNumbered (rows_in s)
 
 -- where the disk is clean and the connection open, the database is a store
 abbrev pub Suits : State → Type 0
 Suits s = HasCleanDisk s → IsTrue s.is_open → IsStore s
 
 -- a keeper tells what the rows keep: it found the database to be a store, the disk is clean and the connection open
-abbrev pub IsTold : Bool → State → Type 0
-IsTold is_ours s = (is_ours ≡ true) × HasCleanDisk s × IsTrue s.is_open
+abbrev pub TellsContent : Bool → State → Type 0
+TellsContent is_ours s = (is_ours ≡ true) × HasCleanDisk s × IsTrue s.is_open
 
 -- nothing is kept for the kind and the code, and for each other as before
 abbrev pub Dropped : ℕ → List ℕ → List Row → List Row → Type 0
-Dropped kind code old new = (k : ℕ) (c : List ℕ) → body_of new k c ≡ (if same_key kind code k c then None else body_of old k c)
+Dropped kind code old new = (k : ℕ) (c : List ℕ) → body_kept new k c ≡ (if same_kind_and_code kind code k c then None else body_kept old k c)
 
 -- as far as the disk is clean and the connection open, they were before, and nothing is changed
 pub record IsStill (old new : State) : Type 0 where

@@ -1,6 +1,6 @@
 ghost use Rattle.std.specs.Prelude.{◌≡◌, true, Some, IfOk, IfSome, IsTrue, option_copied};
 ghost use Rattle.desk_edge.specs.Content.{Content, IsFirstPast, is_past, key_of};
-ghost use Rattle.desk_sqlite.specs.Ahead.{GoesOn};
+ghost use Rattle.desk_sqlite.specs.Ahead.{IsReadAhead};
 ghost use Rattle.desk_sqlite.specs.Content.{AreFirstPast, AreNextPast};
 
 use desk_edge::{Key, Record};
@@ -29,7 +29,7 @@ impl Model for Ahead {
 impl Ahead {
     /// The records behind one, unless there is no memory for its key.
     fn behind(alloc: Global, kept: &Record, records: VecDeque<Record>) -> Option<Ahead>
-        ensures { (content : Content) → AreNextPast content (Some (key_of kept.now)) records.items → IfSome result (GoesOn content) }
+        ensures { (content : Content) → AreNextPast content (Some (key_of kept.now)) records.items → IfSome result (IsReadAhead content) }
     {
         match key_of(alloc, kept) {
             Ok(last) => Some(Ahead { last, records }),
@@ -39,8 +39,8 @@ impl Ahead {
 
     /// The first of the records, where they come behind this key and there is one past it, and those behind it.
     pub(crate) fn next(self, alloc: Global, after: Option<&Key>) -> Option<(Record, Option<Ahead>)>
-        ensures first { (content : Content) → GoesOn content self → IfSome result (λ both. IsFirstPast content (option_copied after.entry) (Some both.0)) }
-        ensures others { (content : Content) → GoesOn content self → IfSome result (λ both. IfSome both.1 (GoesOn content)) }
+        ensures first { (content : Content) → IsReadAhead content self → IfSome result (λ both. IsFirstPast content (option_copied after.entry) (Some both.0)) }
+        ensures others { (content : Content) → IsReadAhead content self → IfSome result (λ both. IfSome both.1 (IsReadAhead content)) }
         ensures later { IfSome result (λ both. is_past (option_copied after.entry) (key_of both.0) ≡ true) }
     {
         let Ahead { last, mut records } = self;
@@ -63,7 +63,7 @@ pub(crate) fn first_of(
     after: Option<&Key>,
 ) -> Result<(Option<Record>, Option<Ahead>), Error>
     ensures first { (content : Content) → AreFirstPast content (option_copied after.entry) found.items → IfOk result (λ both. IsFirstPast content (option_copied after.entry) both.0) }
-    ensures others { (content : Content) → AreFirstPast content (option_copied after.entry) found.items → IfOk result (λ both. IfSome both.1 (GoesOn content)) }
+    ensures others { (content : Content) → AreFirstPast content (option_copied after.entry) found.items → IfOk result (λ both. IfSome both.1 (IsReadAhead content)) }
     ensures later { IfOk result (λ both. IfSome both.0 (λ kept. is_past (option_copied after.entry) (key_of kept) ≡ true)) }
 {
     let Some(kept) = found.pop_front() else {

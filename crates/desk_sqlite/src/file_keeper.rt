@@ -1,10 +1,10 @@
-ghost use Rattle.std.specs.Prelude.{◌≡◌, ◌≢◌, ◌≤◌, Err, IsErrOf, IfSome, OnErr, OnOk, None, IfOk, IsTrue, option_copied, true};
+ghost use Rattle.std.specs.Prelude.{◌≡◌, ◌≢◌, Err, IsErrOf, IfSome, OnErr, OnOk, None, IfOk, IsTrue, option_copied, true};
 ghost use Rattle.desk_edge.specs.Content.{IsChanged, IsFirstPast, IsSame, is_past, key_of};
-ghost use Rattle.desk_edge.specs.Faults.{Rose};
+ghost use Rattle.desk_edge.specs.Faults.{CountsFaults};
 ghost use Rattle.sqlite_std_file.specs.File.{file_is_usable};
 
 use crate::keeper::SqlKeeper;
-use crate::refusal::refusal_of;
+use crate::refusal::keep_fault_of;
 use desk_edge::{Change, KeepFault, Keeper, Key, Record};
 use sqlite::{Connection, File, FileStore, Files, Options, Start, Unknown};
 use sqlite_disk::Disk;
@@ -57,7 +57,7 @@ fn connection_at(rt: &HostRuntime, path: &str) -> Result<Connection<FileStore<Fi
     let files = files_at(rt, path)?;
     match Connection::open_files(rt.alloc(), files, options) {
         Ok(connection) => Ok(connection),
-        Err((error, _)) => Err(refusal_of(error)),
+        Err((error, _)) => Err(keep_fault_of(error)),
     }
 }
 
@@ -126,9 +126,7 @@ impl<D: Disk + Drop> Keeper for FileKeeper<D> {
         ensures stays { ⊥ → IsSame (λ key. None) (λ key. None) }
         ensures gives { IfOk result (λ found. ⊥ → IsFirstPast (λ key. None) (option_copied after.entry) found) }
         ensures later { IfOk result (λ found. IfSome found (λ kept. is_past (option_copied after.entry) (key_of kept) ≡ true)) }
-        ensures never_falls { self.old.keeper.faults ≤ self.new.keeper.faults }
-        ensures steady { result ≢ Err KeepFault.Failed → self.new.keeper.faults ≡ self.old.keeper.faults }
-        ensures failed { IsErrOf result KeepFault.Failed → Rose self.old.keeper.faults self.new.keeper.faults }
+        ensures faults { CountsFaults (IsErrOf result KeepFault.Failed) self.old.keeper.faults self.new.keeper.faults }
         ensures sure { ⊥ → result ≢ Err KeepFault.Failed }
         ensures ours { self.new.keeper.is_ours ≡ self.old.keeper.is_ours }
         ensures ready { self.new.keeper.is_ready ≡ self.old.keeper.is_ready }
@@ -147,9 +145,7 @@ impl<D: Disk + Drop> Keeper for FileKeeper<D> {
         ensures told { ⊥ → ⊥ }
         ensures ok { OnOk result (⊥ → IsChanged batch.now (λ key. None) (λ key. None)) }
         ensures err { OnErr result (⊥ → IsSame (λ key. None) (λ key. None)) }
-        ensures never_falls { self.old.keeper.faults ≤ self.new.keeper.faults }
-        ensures steady { result ≢ Err KeepFault.Failed → self.new.keeper.faults ≡ self.old.keeper.faults }
-        ensures failed { IsErrOf result KeepFault.Failed → Rose self.old.keeper.faults self.new.keeper.faults }
+        ensures faults { CountsFaults (IsErrOf result KeepFault.Failed) self.old.keeper.faults self.new.keeper.faults }
         ensures sure { ⊥ → result ≢ Err KeepFault.Failed }
         ensures ours { self.new.keeper.is_ours ≡ self.old.keeper.is_ours }
         ensures ready { self.new.keeper.is_ready ≡ self.old.keeper.is_ready }

@@ -5,7 +5,7 @@ ghost use Rattle.sqlite_value.specs.Order.{column};
 ghost use Rattle.sqlite_value.specs.declared.value.Value.TheVariants.{Int, Blob};
 ghost use Rattle.desk_edge.specs.Content.{IsFirstPast, is_past, key_of};
 ghost use Rattle.desk_sqlite.specs.Ahead.{IsAhead};
-ghost use Rattle.desk_sqlite.specs.Content.{AreFirstPast, AreFirstRows, AreKeyed, AreShown, IsShown, content_of};
+ghost use Rattle.desk_sqlite.specs.Content.{AreFirstPast, AreFirstRows, AreKeyed, AreShown, IsShown, rows_content};
 ghost use Rattle.desk_sqlite.specs.Store.{IsStill, Suits, rows_in};
 
 use crate::ahead::{Ahead, first_of};
@@ -31,7 +31,7 @@ pub(crate) fn look_ahead<S: Alter>(
     ensures mode { conn.new.in_transaction ≡ false }
     ensures still { IsStill (state S.Store conn.old) (state S.Store conn.new) }
     ensures gives { Suits (state S.Store conn.old) → HasCleanDisk (state S.Store conn.new) → IsTrue (state S.Store conn.new).is_open
-        → IfOk result (λ both. IsFirstPast (content_of (rows_in (state S.Store conn.new))) (option_copied after.entry) both.0) }
+        → IfOk result (λ both. IsFirstPast (rows_content (rows_in (state S.Store conn.new))) (option_copied after.entry) both.0) }
     ensures ahead { Suits (state S.Store conn.old) → IfOk result (λ both. IsAhead (state S.Store conn.new) both.1) }
     ensures later { IfOk result (λ both. IfSome both.0 (λ kept. is_past (option_copied after.entry) (key_of kept) ≡ true)) }
 {
@@ -51,7 +51,7 @@ fn find_records<S: Alter>(
     ensures mode { conn.new.in_transaction ≡ false }
     ensures still { IsStill (state S.Store conn.old) (state S.Store conn.new) }
     ensures gives { Suits (state S.Store conn.old) → HasCleanDisk (state S.Store conn.new) → IsTrue (state S.Store conn.new).is_open
-        → IfOk result (λ found. AreFirstPast (content_of (rows_in (state S.Store conn.new))) (option_copied after.entry) found.items) }
+        → IfOk result (λ found. AreFirstPast (rows_content (rows_in (state S.Store conn.new))) (option_copied after.entry) found.items) }
 {
     match first_past(conn, after) {
         Ok(rows) => records_of(alloc, rows.as_slice()),

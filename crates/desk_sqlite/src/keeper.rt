@@ -2,18 +2,18 @@ ghost use Rattle.std.specs.Prelude.{◌≡◌, ◌≢◌, ◌≤◌, false, true
 ghost use Rattle.sqlite.specs.Held.{state};
 ghost use Rattle.sqlite.specs.State.{HasCleanDisk};
 ghost use Rattle.desk_edge.specs.Content.{IsChanged, IsFirstPast, IsSame, is_past, key_of};
-ghost use Rattle.desk_edge.specs.Faults.{Rose};
-ghost use Rattle.desk_sqlite.specs.Content.{AreMade, content_of};
+ghost use Rattle.desk_edge.specs.Faults.{CountsFaults, Rose};
+ghost use Rattle.desk_sqlite.specs.Content.{AreMade, rows_content};
 ghost use Rattle.desk_sqlite.specs.Numbers.{ShowsNoRise};
-ghost use Rattle.desk_sqlite.specs.Refusals.{IsOfOthers, refusal_of};
-ghost use Rattle.desk_sqlite.specs.Store.{IsOurs, IsStore, IsTold, KeepsRows, Suits, rows_in};
+ghost use Rattle.desk_sqlite.specs.Refusals.{IsOfOthers, keep_fault_of};
+ghost use Rattle.desk_sqlite.specs.Store.{IsOurs, IsStore, TellsContent, KeepsRows, Suits, rows_in};
 
 use crate::ahead::Ahead;
 use crate::commit::commit_all;
 use crate::find::look_ahead;
 use crate::form::{is_new, is_ours};
 use crate::ready::make_ready;
-use crate::refusal::refusal_of;
+use crate::refusal::keep_fault_of;
 use desk_edge::{Change, KeepFault, Keeper, Key, Record};
 use sqlite::{Alter, Connection, Error};
 use std::alloc::Global;
@@ -124,9 +124,7 @@ impl<S: Alter> SqlKeeper<S> {
         // A clean database with the table of its form is found to be a store, unless what it shows of its row numbers doesn't rise.
         ensures found { OnOk result (self.new.is_ours ≡ false → IsOurs (state S.Store self.old.connection).now.schema
             → HasCleanDisk (state S.Store self.new.connection) → ShowsNoRise (state S.Store self.old.connection)) }
-        ensures never_falls { self.old.faults ≤ self.new.faults }
-        ensures steady { result ≢ Err KeepFault.Failed → self.new.faults ≡ self.old.faults }
-        ensures failed { IsErrOf result KeepFault.Failed → Rose self.old.faults self.new.faults }
+        ensures faults { CountsFaults (IsErrOf result KeepFault.Failed) self.old.faults self.new.faults }
     {
         self.is_ready = false;
         self.is_ours = false;
@@ -155,12 +153,10 @@ impl<S: Alter> SqlKeeper<S> {
     /// What a refused statement is told as. Each but for want of memory is a fault, which is counted.
     fn refused(&mut self, error: Error) -> KeepFault
         ensures same { (self.new.connection ≡ self.old.connection) × (self.new.is_ready ≡ self.old.is_ready) × (self.new.is_ours ≡ self.old.is_ours) }
-        ensures never_falls { self.old.faults ≤ self.new.faults }
-        ensures answer { result ≡ refusal_of error }
-        ensures steady { result ≢ KeepFault.Failed → self.new.faults ≡ self.old.faults }
-        ensures failed { result ≡ KeepFault.Failed → Rose self.old.faults self.new.faults }
+        ensures answer { result ≡ keep_fault_of error }
+        ensures faults { CountsFaults (result ≡ KeepFault.Failed) self.old.faults self.new.faults }
     {
-        match refusal_of(error) {
+        match keep_fault_of(error) {
             KeepFault::OutOfMemory => KeepFault::OutOfMemory,
             KeepFault::Failed => self.fault(),
         }
@@ -196,24 +192,22 @@ impl<S: Alter> Keeper for SqlKeeper<S> {
 
     ghost faults = { λ k. k.faults };
 
-    ghost Tells = { λ k. IsTold k.is_ours (state S.Store k.connection) };
+    ghost Tells = { λ k. TellsContent k.is_ours (state S.Store k.connection) };
 
-    ghost content = { λ k. content_of (rows_in (state S.Store k.connection)) };
+    ghost content = { λ k. rows_content (rows_in (state S.Store k.connection)) };
 
     fn next_record(
         &mut self,
         alloc: Global,
         after: Option<&Key>,
     ) -> Result<Option<Record>, KeepFault>
-        ensures told { IsTold self.new.is_ours (state S.Store self.new.connection) → IsTold self.old.is_ours (state S.Store self.old.connection) }
-        ensures stays { IsTold self.new.is_ours (state S.Store self.new.connection)
-            → IsSame (content_of (rows_in (state S.Store self.old.connection))) (content_of (rows_in (state S.Store self.new.connection))) }
-        ensures gives { IfOk result (λ found. IsTold self.new.is_ours (state S.Store self.new.connection)
-            → IsFirstPast (content_of (rows_in (state S.Store self.new.connection))) (option_copied after.entry) found) }
+        ensures told { TellsContent self.new.is_ours (state S.Store self.new.connection) → TellsContent self.old.is_ours (state S.Store self.old.connection) }
+        ensures stays { TellsContent self.new.is_ours (state S.Store self.new.connection)
+            → IsSame (rows_content (rows_in (state S.Store self.old.connection))) (rows_content (rows_in (state S.Store self.new.connection))) }
+        ensures gives { IfOk result (λ found. TellsContent self.new.is_ours (state S.Store self.new.connection)
+            → IsFirstPast (rows_content (rows_in (state S.Store self.new.connection))) (option_copied after.entry) found) }
         ensures later { IfOk result (λ found. IfSome found (λ kept. is_past (option_copied after.entry) (key_of kept) ≡ true)) }
-        ensures never_falls { self.old.faults ≤ self.new.faults }
-        ensures steady { result ≢ Err KeepFault.Failed → self.new.faults ≡ self.old.faults }
-        ensures failed { IsErrOf result KeepFault.Failed → Rose self.old.faults self.new.faults }
+        ensures faults { CountsFaults (IsErrOf result KeepFault.Failed) self.old.faults self.new.faults }
         ensures sure { ⊥ → result ≢ Err KeepFault.Failed }
         ensures ours { self.new.is_ours ≡ self.old.is_ours }
         ensures ready { self.new.is_ready ≡ self.old.is_ready }
@@ -237,14 +231,12 @@ impl<S: Alter> Keeper for SqlKeeper<S> {
     }
 
     fn commit(&mut self, _alloc: Global, batch: &[Change]) -> Result<(), KeepFault>
-        ensures told { IsTold self.new.is_ours (state S.Store self.new.connection) → IsTold self.old.is_ours (state S.Store self.old.connection) }
-        ensures ok { OnOk result (IsTold self.new.is_ours (state S.Store self.new.connection)
-            → IsChanged batch.now (content_of (rows_in (state S.Store self.old.connection))) (content_of (rows_in (state S.Store self.new.connection)))) }
-        ensures err { OnErr result (IsTold self.new.is_ours (state S.Store self.new.connection)
-            → IsSame (content_of (rows_in (state S.Store self.old.connection))) (content_of (rows_in (state S.Store self.new.connection)))) }
-        ensures never_falls { self.old.faults ≤ self.new.faults }
-        ensures steady { result ≢ Err KeepFault.Failed → self.new.faults ≡ self.old.faults }
-        ensures failed { IsErrOf result KeepFault.Failed → Rose self.old.faults self.new.faults }
+        ensures told { TellsContent self.new.is_ours (state S.Store self.new.connection) → TellsContent self.old.is_ours (state S.Store self.old.connection) }
+        ensures ok { OnOk result (TellsContent self.new.is_ours (state S.Store self.new.connection)
+            → IsChanged batch.now (rows_content (rows_in (state S.Store self.old.connection))) (rows_content (rows_in (state S.Store self.new.connection)))) }
+        ensures err { OnErr result (TellsContent self.new.is_ours (state S.Store self.new.connection)
+            → IsSame (rows_content (rows_in (state S.Store self.old.connection))) (rows_content (rows_in (state S.Store self.new.connection)))) }
+        ensures faults { CountsFaults (IsErrOf result KeepFault.Failed) self.old.faults self.new.faults }
         ensures sure { ⊥ → result ≢ Err KeepFault.Failed }
         ensures ours { self.new.is_ours ≡ self.old.is_ours }
         ensures ready { self.new.is_ready ≡ self.old.is_ready }

@@ -1,7 +1,7 @@
-ghost use Rattle.std.specs.Prelude.{◌≡◌, ◌≢◌, ◌<◌, ◌≤◌, ℕ, List, [], Err, IsErrOf, IfOk, None, true};
+ghost use Rattle.std.specs.Prelude.{◌≡◌, ◌<◌, ℕ, List, [], Err, IsErrOf, IfOk, None, true};
 ghost use Rattle.desk_edge.specs.Content.{IsSame};
-ghost use Rattle.desk_edge.specs.Faults.{Rose};
-ghost use Rattle.desk_edge.specs.Shelves.{is_among};
+ghost use Rattle.desk_edge.specs.Faults.{CountsFaults};
+ghost use Rattle.desk_edge.specs.Shelves.{is_name_among};
 
 use crate::file_keeper::FileKeeper;
 use desk_edge::{KeepFault, Lent, Shelf};
@@ -49,8 +49,8 @@ fn open_and_lend(
     path: &[u8],
 ) -> Result<FileKeeper<File>, KeepFault>
     ensures fresh { IfOk result (λ store. store.keeper.faults ≡ 0) }
-    ensures lent { IfOk result (λ store. is_among lent.new path.now ≡ true) }
-    ensures lends { (other : List ℕ) → is_among lent.old other ≡ true → is_among lent.new other ≡ true }
+    ensures lent { IfOk result (λ store. is_name_among lent.new path.now ≡ true) }
+    ensures lends { (other : List ℕ) → is_name_among lent.old other ≡ true → is_name_among lent.new other ≡ true }
     ensures ours { IfOk result (λ store. store.keeper.is_ours ≡ true) }
 {
     if lent.has(path) {
@@ -69,7 +69,7 @@ impl Shelf for SqlShelf {
 
     ghost faults = { λ s. s.faults };
 
-    ghost IsLent = { λ s name. is_among s.lent name ≡ true };
+    ghost IsLent = { λ s name. is_name_among s.lent name ≡ true };
 
     ghost Tells = { λ s name. ⊥ };
 
@@ -79,13 +79,11 @@ impl Shelf for SqlShelf {
 
     fn open_store(&mut self, _alloc: Global, name: &[u8]) -> Result<FileKeeper<File>, KeepFault>
         ensures fresh { IfOk result (λ store. store.keeper.faults ≡ 0) }
-        ensures lent { IfOk result (λ store. is_among self.new.lent name.now ≡ true) }
-        ensures lends { (other : List ℕ) → is_among self.old.lent other ≡ true → is_among self.new.lent other ≡ true }
+        ensures lent { IfOk result (λ store. is_name_among self.new.lent name.now ≡ true) }
+        ensures lends { (other : List ℕ) → is_name_among self.old.lent other ≡ true → is_name_among self.new.lent other ≡ true }
         ensures told { IfOk result (λ store. ⊥ → ⊥ × IsSame (λ key. None) (λ key. None)) }
         ensures others { (other : List ℕ) → ⊥ → ⊥ × IsSame (λ key. None) (λ key. None) }
-        ensures never_falls { self.old.faults ≤ self.new.faults }
-        ensures steady { result ≢ Err KeepFault.Failed → self.new.faults ≡ self.old.faults }
-        ensures failed { IsErrOf result KeepFault.Failed → Rose self.old.faults self.new.faults }
+        ensures faults { CountsFaults (IsErrOf result KeepFault.Failed) self.old.faults self.new.faults }
 
         // A database that isn't the one table of a store isn't opened as one.
         ensures ours { IfOk result (λ store. store.keeper.is_ours ≡ true) }

@@ -37,7 +37,7 @@ loop-rest-preserved g c =
       rw c.split_at.ensures.back (regrouped c.args.bytes.now done rest n whole),
       Appends-trans _ _ _ done (take n rest) taken c.in_ok-taken.ensures.takes,
       c.write.ensures.input_stays ∙ input,
-      c.in_ok-taken.ensures.steady ∙ count,
+      c.in_ok-taken.ensures.faults.steady (λ failed. cc) ∙ count,
       c.write.ensures.reads_stay ∙ reads,
     )
 

@@ -7,4 +7,4 @@ not_failed : (r : Result (Unit {0}) KeepFault) (u : Unit {0}) → r ≡ Ok u →
 not_failed r u is other = cc
 
 pub returns-in-Ok-clause-count : goal.returns-in-Ok-clause-count
-returns-in-Ok-clause-count g c = c.ready.ensures.steady (not_failed c.ready.result c.in-Ok.field-0 c.in-Ok.is) ∙ c.adopt-keeper.ensures.new.2
+returns-in-Ok-clause-count g c = c.ready.ensures.faults.steady (not_failed c.ready.result c.in-Ok.field-0 c.in-Ok.is) ∙ c.adopt-keeper.ensures.new.2
