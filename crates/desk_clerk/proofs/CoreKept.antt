@@ -3,7 +3,7 @@ use Rattle.std.proofs.Common.{◌≡◌, ℕ, zero, suc, Bool, true, false, List
 use Rattle.std.specs.Prelude.{fold, leb, replicate}
 use Rattle.std.specs.List.{AllByRecursion}
 use Rattle.desk_clerk.specs.Core.{Core, Event, IsEventInForm, IsReached, answer_of_look, at, changed_at, core_at_start, happens, learn, learnt, longer_list, look, publish, submit, tell, with_edit}
-use Rattle.desk_clerk.specs.Published.{added_at}
+use Rattle.desk_clerk.specs.Published.{added_to_list}
 use Rattle.desk_clerk.proofs.Growing.{grows_at, history_on}
 use Rattle.desk_history.specs.History.{Begins, History, IsHistory, after}
 use Rattle.desk_history.specs.Sound.{Sound}
@@ -73,11 +73,11 @@ learnt_begins list place notes (Some note) e x one b = longer_begins list one no
 
 -- a list begins itself with an edit behind
 with_begins : (list : History) (edit : Edit) → Begins list (with_edit list edit)
-with_begins list edit = record { opening = refl; rest = added_at (after list) edit; edits = refl }
+with_begins list edit = record { opening = refl; rest = added_to_list (after list) edit; edits = refl }
 
 pub happens_keeps : (core : Core) (event : Event) → IsEventInForm event → Keeps core → Keeps (happens core event)
 happens_keeps core (submit edit) form k = record {
-  history = (history_on core.whole.opening core.whole.edits (added_at (after core.whole) edit) (Rattle.desk_history.specs.Step.step (after core.whole) edit).1 k.history (grows_at (after core.whole) edit form)).0;
+  history = (history_on core.whole.opening core.whole.edits (added_to_list (after core.whole) edit) (Rattle.desk_history.specs.Step.step (after core.whole) edit).1 k.history (grows_at (after core.whole) edit form)).0;
   published = begins_onward core.published core.whole (with_edit core.whole edit) k.published (with_begins core.whole edit);
   notes = k.notes;
   seats = k.seats;

@@ -2,7 +2,7 @@
 use Rattle.std.proofs.Common.{◌≡◌, ℕ, ◌+◌, ◌≤◌, List, [], ◌∷◌, ◌++◌, Option, None, Some, refl, sym, ap, ◌∙◌, subst, arith, length, true, append-nil, append_assoc, length-append}
 use Rattle.std.specs.Prelude.{fold}
 use Rattle.desk_clerk.specs.Clerk.{list_from}
-use Rattle.desk_clerk.specs.Published.{added_at, if_new}
+use Rattle.desk_clerk.specs.Published.{added_to_list, if_new}
 use Rattle.desk_history.specs.History.{AreAccepted, IsAccepted, IsHistory, after, tables_after}
 use Rattle.desk_history.specs.Refused.{refused}
 use Rattle.desk_history.specs.Step.{kept_number, step}
@@ -36,7 +36,7 @@ grows_by t made (Some number) broken form a b = (tt, sym (ap (λ s. s.1) (step-k
 grows_by t made None (Some cause) form a b = (tt, sym (ap (λ s. s.1) (step-refused t made cause a b)))
 grows_by t made None None form a b = ((record { in_form = form; is_new = a; is_unrefused = b }, tt), refl)
 
-pub grows_at : (t : Lists) (made : Edit) → is_edit_in_form made ≡ true → Grows t (added_at t made) (step t made).1
+pub grows_at : (t : Lists) (made : Edit) → is_edit_in_form made ≡ true → Grows t (added_to_list t made) (step t made).1
 grows_at t made form = grows_by t made (kept_number t made) (refused t made) form refl refl
 
 -- a history grows by the edits that are accepted at its end

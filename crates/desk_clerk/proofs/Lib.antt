@@ -1,11 +1,6 @@
 pub mod CoreKept
-pub mod Few
-pub mod FirstRecords
+pub mod Damages
 pub mod Growing
-pub mod Making
-pub mod OneDesk
 pub mod OpenedAs
-pub mod PutIn
 pub mod Submitted
 pub mod ToPublish
-pub mod Unsound

@@ -2,18 +2,19 @@
 use Rattle.std.proofs.Common.{◌≡◌, ℕ, ◌+◌, ◌==◌, Bool, true, false, List, [], ◌∷◌, length, refl, sym, ap, ◌∙◌, is_some, Some, None, inl, inr, arith}
 use Rattle.std.proofs.lemmas.Bool.{cases_Bool, false≢true}
 use Rattle.std.proofs.lemmas.Cmp.{tied_itself}
-use Rattle.desk_edge.specs.Content.{Content, IsSame, key_cmp, key_of}
+use Rattle.desk_edge.specs.Content.{Content, IsEmpty, IsSame, key_cmp, key_of}
 use Rattle.desk_edge.specs.declared.key.Key.{Key}
 use Rattle.desk_edge.specs.declared.record.Record.{Record}
 use Rattle.desk_edge.proofs.Keys.{key_order}
 use Rattle.desk_rows.specs.Rows.{IsByKey, row_of}
 use Rattle.desk_model.specs.Lists.{Lists}
 use Rattle.desk_history.specs.Sound.{Sound}
-use Rattle.desk_records.specs.Records.{tables_content}
-use Rattle.desk_clerk.specs.Opening.{AreRead, IsEmpty, IsOpenedAs, content_in, record_limit}
-use Rattle.desk_clerk.specs.Reading.{AreFirst, is_past_all}
-use Rattle.desk_clerk.proofs.Few.{few_of_sound}
-use Rattle.desk_clerk.proofs.FirstRecords.{none_past}
+use Rattle.desk_records.specs.Damage.{AreOfNoTables, record_limit}
+use Rattle.desk_records.specs.Records.{content_in, is_past_all, tables_content}
+use Rattle.desk_records.proofs.Few.{few_of_sound}
+use Rattle.desk_records.proofs.FirstRecords.{none_past}
+use Rattle.desk_clerk.specs.Opening.{AreRead, IsOpenedAs}
+use Rattle.desk_clerk.specs.Reading.{AreFirst}
 
 none_some : {X : Type 0} {x : X} {G : Type 0} → None ≡ Some x → G
 none_some e = cc
@@ -66,7 +67,7 @@ opened_as content records t read some by_key sound same = inr (not_empty content
 
 -- and where no sound tables keep the records that were read, the store isn't one of sound tables
 pub not_opened : (content : Content) (records : List Record) → AreRead content records → (records ≡ [] → ⊥) → IsByKey key_of key_cmp records
-    → ((t : Lists) → Sound t → IsSame (content_in records) (tables_content t) → ⊥) → (t : Lists) → Sound t → IsOpenedAs content t → ⊥
+    → AreOfNoTables records → (t : Lists) → Sound t → IsOpenedAs content t → ⊥
 not_opened content records read some by_key none t sound (inl start) = not_empty content records read some start.0
 not_opened content records read some by_key none t sound (inr kept) =
     let few = few_of_sound records t sound by_key (λ k found. sym (kept.1 k) ∙ read.kept k found) in

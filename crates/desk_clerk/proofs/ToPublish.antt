@@ -3,8 +3,8 @@ use Rattle.std.proofs.Common.{◌≡◌, ◌≢◌, ◌⊎◌, ℕ, ◌+◌, ◌
 use Rattle.std.specs.Prelude.{fold, is_some, not, Bool, false, OnErr, OnOk, Result, Ok, Err}
 use mathlib.Core.List.{IsPrefix}
 use Rattle.desk_clerk.specs.Clerk.{list_from}
-use Rattle.desk_clerk.specs.Published.{added_at, if_new, listed}
-use Rattle.desk_clerk.proofs.Few.{tickets_fit}
+use Rattle.desk_clerk.specs.Published.{added_to_list, if_new, waiting_edit}
+use Rattle.desk_records.proofs.Few.{tickets_fit}
 use Rattle.desk_clerk.proofs.Growing.{Grows, after_on, folds, grows_at, history_on}
 use Rattle.desk_publish.proofs.Prefixes.{prefix_length, prefix_trans}
 use Rattle.desk_history.specs.History.{AreAccepted, IsAccepted, IsHistory, after, tables_after}
@@ -47,8 +47,8 @@ stays_small opening edits edit h =
 -- a number that stays tells an edit that adds nothing, and one that doesn't one that adds itself
 abbrev pub IsAddedBy : Lists → Edit → Type 0
 IsAddedBy t made =
-    ((number_at (step t made).1 ≡ number_at t) × (added_at t made ≡ []) × ((step t made).1 ≡ t))
-    ⊎ ((number_at (step t made).1 ≡ number_at t + 1) × (added_at t made ≡ made ∷ []))
+    ((number_at (step t made).1 ≡ number_at t) × (added_to_list t made ≡ []) × ((step t made).1 ≡ t))
+    ⊎ ((number_at (step t made).1 ≡ number_at t + 1) × (added_to_list t made ≡ made ∷ []))
 
 added_by : (t : Lists) (made : Edit) (kept : Option ℕ) (broken : Option RuleFault) → is_edit_in_form made ≡ true → kept_number t made ≡ kept → refused t made ≡ broken
     → IsAddedBy t made
@@ -68,28 +68,28 @@ pub is_added_by : (t : Lists) (made : Edit) → is_edit_in_form made ≡ true �
 is_added_by t made form = added_by t made (kept_number t made) (refused t made) form refl refl
 
 -- where all that is accepted is published, and the published list begins what the publication has, no edit is kept
-pub nothing_kept : (published whole : List Edit) (kept : Option Edit) → IsPrefix published whole → published ≡ whole ++ listed kept → kept ≡ None
+pub nothing_kept : (published whole : List Edit) (kept : Option Edit) → IsPrefix published whole → published ≡ whole ++ waiting_edit kept → kept ≡ None
 nothing_kept published whole None begins same = refl
 nothing_kept published whole (Some edit) begins same =
     absurd (omega (arith, prefix_length published whole begins, ap length same, length-append whole (edit ∷ [])))
 
 -- an edit is taken in where none is kept, and is kept where it is new; or nothing is
 abbrev pub IsTakenOrLeft : Lists → Edit → Option Edit → Lists → Type 0
-IsTakenOrLeft t edit now new = ((listed now ≡ added_at t edit) × (new ≡ (step t edit).1)) ⊎ ((now ≡ None) × (new ≡ t))
+IsTakenOrLeft t edit now new = ((waiting_edit now ≡ added_to_list t edit) × (new ≡ (step t edit).1)) ⊎ ((now ≡ None) × (new ≡ t))
 
 -- so the list stays a history, and the tables are those after it
 pub stays_history : (opening : Lists) (whole : List Edit) (kept now : Option Edit) (edit : Edit) (t new : Lists) → kept ≡ None → is_edit_in_form edit ≡ true
-    → IsHistory (list_from opening (whole ++ listed kept)) → t ≡ after (list_from opening (whole ++ listed kept)) → IsTakenOrLeft t edit now new
-    → IsHistory (list_from opening (whole ++ listed now)) × (new ≡ after (list_from opening (whole ++ listed now)))
+    → IsHistory (list_from opening (whole ++ waiting_edit kept)) → t ≡ after (list_from opening (whole ++ waiting_edit kept)) → IsTakenOrLeft t edit now new
+    → IsHistory (list_from opening (whole ++ waiting_edit now)) × (new ≡ after (list_from opening (whole ++ waiting_edit now)))
 stays_history opening whole kept now edit t new none form h at (inl (adds, left)) =
-    let whole_is : whole ++ listed kept ≡ whole = ap (λ k. whole ++ listed k) none ∙ append-nil whole in
+    let whole_is : whole ++ waiting_edit kept ≡ whole = ap (λ k. whole ++ waiting_edit k) none ∙ append-nil whole in
     let h0 : IsHistory (list_from opening whole) = subst (λ edits. IsHistory (list_from opening edits)) whole_is h in
     let at0 : t ≡ after (list_from opening whole) = at ∙ ap (λ edits. after (list_from opening edits)) whole_is in
-    let g = subst (λ u. Grows u (added_at t edit) (step t edit).1) at0 (grows_at t edit form) in
-    let grown = history_on opening whole (added_at t edit) (step t edit).1 h0 g in
+    let g = subst (λ u. Grows u (added_to_list t edit) (step t edit).1) at0 (grows_at t edit form) in
+    let grown = history_on opening whole (added_to_list t edit) (step t edit).1 h0 g in
     subst (λ edits. IsHistory (list_from opening (whole ++ edits)) × (new ≡ after (list_from opening (whole ++ edits)))) (sym adds) (grown.0, left ∙ sym grown.1)
 stays_history opening whole kept now edit t new none form h at (inr (left, same)) =
-    subst (λ k. IsHistory (list_from opening (whole ++ listed k)) × (new ≡ after (list_from opening (whole ++ listed k)))) (none ∙ sym left) (h, same ∙ at)
+    subst (λ k. IsHistory (list_from opening (whole ++ waiting_edit k)) × (new ≡ after (list_from opening (whole ++ waiting_edit k)))) (none ∙ sym left) (h, same ∙ at)
 
 pub ok_or_err : {T E : Type 0} (P Q : Type 0) (r : Result T E) → OnOk r P → OnErr r Q → P ⊎ Q
 ok_or_err P Q (Ok value) p q = inl p
@@ -97,12 +97,12 @@ ok_or_err P Q (Err error) p q = inr q
 
 -- an edit is kept exactly where it adds itself to the list, which the numbers of the tables before it and after it tell
 pub kept_so : (t u : Lists) (edit : Edit) (before now : ℕ) (kept : Option Edit) → is_edit_in_form edit ≡ true → before ≡ number_at t → now ≡ number_at u → u ≡ (step t edit).1
-    → (now ≡ before → kept ≡ None) → (now ≢ before → kept ≡ Some edit) → listed kept ≡ added_at t edit
+    → (now ≡ before → kept ≡ None) → (now ≢ before → kept ≡ Some edit) → waiting_edit kept ≡ added_to_list t edit
 kept_so t u edit before now kept form b n left same new = by (is_added_by t edit form)
   where
-    by : IsAddedBy t edit → listed kept ≡ added_at t edit
-    by (inl x) = ap listed (same (n ∙ ap number_at left ∙ x.0 ∙ sym b)) ∙ sym x.1
-    by (inr x) = ap listed (new (λ e. absurd (omega (arith, e, n, ap number_at left, x.0, b)))) ∙ sym x.1
+    by : IsAddedBy t edit → waiting_edit kept ≡ added_to_list t edit
+    by (inl x) = ap waiting_edit (same (n ∙ ap number_at left ∙ x.0 ∙ sym b)) ∙ sym x.1
+    by (inr x) = ap waiting_edit (new (λ e. absurd (omega (arith, e, n, ap number_at left, x.0, b)))) ∙ sym x.1
 
 pub on_ok : {T E : Type 0} (P Q : Type 0) (r : Result T E) → (P → Q) → OnOk r P → OnOk r Q
 on_ok P Q (Ok value) weaker p = weaker p

@@ -3,7 +3,7 @@
 -- published, then the new one is submitted, and then published.
 use Rattle.std.specs.Prelude.{◌≡◌, leb, ℕ, zero, suc, List, [], ◌∷◌, ◌++◌, length, fold, replicate, Option, None, Some, Result, true, ⊤, if◌then◌else◌}
 use Rattle.std.specs.List.{AllByRecursion}
-use Rattle.desk_clerk.specs.Published.{added_at}
+use Rattle.desk_clerk.specs.Published.{added_to_list}
 use Rattle.desk_history.specs.History.{Begins, History, IsHistory, after}
 use Rattle.desk_history.specs.Sound.{Sound}
 use Rattle.desk_model.specs.Forms.{is_edit_in_form}
@@ -52,7 +52,7 @@ learnt (Some note) list = longer_list list note
 
 -- the list with what the edit adds to it behind
 abbrev pub with_edit : History → Edit → History
-with_edit list edit = record list { edits = list.edits ++ added_at (after list) edit }
+with_edit list edit = record list { edits = list.edits ++ added_to_list (after list) edit }
 
 -- what becomes of a desk by an event. One that names a seat or a note that isn't there changes nothing
 abbrev pub happens : Core → Event → Core

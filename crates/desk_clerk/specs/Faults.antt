@@ -6,20 +6,22 @@ use Rattle.desk_clerk.specs.declared.submit_fault.SubmitFault.{SubmitFault}
 use Rattle.desk_clerk.specs.declared.submit_fault.SubmitFault.TheVariants as submit_fault
 use Rattle.desk_edge.specs.declared.keep_fault.KeepFault.{KeepFault}
 use Rattle.desk_edge.specs.declared.keep_fault.KeepFault.TheVariants as keep_fault
+use Rattle.desk_records.specs.declared.gather_fault.GatherFault.{GatherFault}
+use Rattle.desk_records.specs.declared.gather_fault.GatherFault.TheVariants as gather_fault
 use Rattle.desk_tables.specs.declared.edit_fault.EditFault.{EditFault}
 use Rattle.desk_tables.specs.declared.edit_fault.EditFault.TheVariants as edit_fault
-use Rattle.desk_tables.specs.declared.sound_fault.SoundFault.{SoundFault}
-use Rattle.desk_tables.specs.declared.sound_fault.SoundFault.TheVariants as sound_fault
 
 -- the fault of an opening whose keeper wasn't able to do a call
 abbrev pub kept_as_open : KeepFault → OpenFault
 kept_as_open keep_fault.Failed = open_fault.KeeperFault
 kept_as_open keep_fault.OutOfMemory = open_fault.OutOfMemory
 
--- the fault of an opening whose tables aren't taken as sound
-abbrev pub sound_as_open : SoundFault → OpenFault
-sound_as_open (sound_fault.Unsound table key) = open_fault.Damaged table key
-sound_as_open sound_fault.OutOfMemory = open_fault.OutOfMemory
+-- the fault of an opening whose records aren't taken as those of sound tables: by whatever cause, the key alone is told
+abbrev pub gathered_as_open : GatherFault → OpenFault
+gathered_as_open (gather_fault.OtherVersion key) = open_fault.Damaged key.kind key.code
+gathered_as_open (gather_fault.NoRow key) = open_fault.Damaged key.kind key.code
+gathered_as_open (gather_fault.Unsound key) = open_fault.Damaged key.kind key.code
+gathered_as_open gather_fault.OutOfMemory = open_fault.OutOfMemory
 
 -- the fault of an edit whose keeper wasn't able to do a call
 abbrev pub kept_as_submit : KeepFault → SubmitFault

@@ -6,4 +6,3 @@ pub mod Laws
 pub mod Opening
 pub mod Published
 pub mod Reading
-pub mod Stored

@@ -13,17 +13,17 @@ if_new made None (Some cause) = []
 if_new made None None = made ∷ []
 
 -- what an edit adds to the list that leaves these tables: itself where it is new and accepted, and else nothing
-abbrev pub added_at : Lists → Edit → List Edit
-added_at t made = if_new made (kept_number t made) (refused t made)
+abbrev pub added_to_list : Lists → Edit → List Edit
+added_to_list t made = if_new made (kept_number t made) (refused t made)
 
 -- the edit that is kept and not yet published, if there is one
-abbrev pub listed : Option Edit → List Edit
-listed None = []
-listed (Some edit) = edit ∷ []
+abbrev pub waiting_edit : Option Edit → List Edit
+waiting_edit None = []
+waiting_edit (Some edit) = edit ∷ []
 
 -- the edit is taken in: where it is new and accepted it stands behind the list, and the tables are those that its step leaves
 abbrev pub IsTakenIn : List Edit → Lists → Edit → List Edit → Lists → Type 0
-IsTakenIn accepted t edit accepted_now now = (accepted_now ≡ accepted ++ added_at t edit) × (now ≡ (step t edit).1)
+IsTakenIn accepted t edit accepted_now now = (accepted_now ≡ accepted ++ added_to_list t edit) × (now ≡ (step t edit).1)
 
 -- the edit is taken in, and nothing of it is published: what is published is the list before it
 abbrev pub IsKeptUnpublished : List Edit → Lists → Edit → List Edit → List Edit → Lists → Type 0

@@ -1,16 +1,10 @@
 -- The beginning of what a store keeps.
-use Rattle.std.specs.Prelude.{◌≡◌, ℕ, ◌<◌, ◌≤◌, Bool, true, false, ◌&&◌, List, [], ◌∷◌, length}
-use Rattle.std.specs.Ordering.{is_lt}
-use Rattle.desk_clerk.specs.Opening.{content_in}
+use Rattle.std.specs.Prelude.{◌≡◌, ℕ, ◌<◌, ◌≤◌, false, List, length}
 use Rattle.desk_edge.specs.Content.{Content, IsSame, key_cmp, key_of}
 use Rattle.desk_edge.specs.declared.key.Key.{Key}
 use Rattle.desk_edge.specs.declared.record.Record.{Record}
+use Rattle.desk_records.specs.Records.{content_in, is_past_all}
 use Rattle.desk_rows.specs.Rows.{IsByKey}
-
--- the key comes after those of all the records
-abbrev pub is_past_all : List Record → Key → Bool
-is_past_all [] key = true
-is_past_all (kept ∷ records) key = is_lt (key_cmp (key_of kept) key) && is_past_all records key
 
 -- the records are the first that the store keeps: all, where they are less than this many
 pub record AreFirst (most : ℕ) (content : Content) (records : List Record) : Type 0 where

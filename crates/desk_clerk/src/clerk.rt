@@ -1,9 +1,9 @@
-ghost use Rattle.std.specs.Prelude.{◌≡◌, ◌≢◌, ◌≤◌, ◌++◌, ◌⊎◌, ℕ, [], List, Ok, Err, None, Some, All, is_ok, length, true, IfOk, IfErr, OnOk, OnErr, IsErrOf};
+ghost use Rattle.std.specs.Prelude.{◌≡◌, ◌≢◌, ◌≤◌, ◌++◌, ◌⊎◌, ℕ, [], Ok, Err, None, Some, All, is_ok, length, true, IfOk, IfErr, OnOk, OnErr, IsErrOf};
 ghost use mathlib.Core.List.{IsPrefix};
 ghost use Rattle.desk_clerk.specs.Clerk.{keeper_of, list_from, tables_of, whole};
 ghost use Rattle.desk_clerk.specs.Published.{IsKeptUnpublished, IsTakenIn};
 ghost use Rattle.desk_edge.specs.Content.{IsSame};
-ghost use Rattle.desk_edge.specs.Faults.{Rose};
+ghost use Rattle.desk_edge.specs.Faults.{CountsFaults};
 ghost use Rattle.desk_engine.specs.Engine.{lists_of};
 ghost use Rattle.desk_history.specs.History.{IsHistory, after};
 ghost use Rattle.desk_history.specs.Step.{kept_number, step};
@@ -48,18 +48,18 @@ impl<K: Keeper, J: Naming<DeskBoard>> Model for Clerk<K, J> {
     ghost use Rattle.std.specs.Prelude.{◌≡◌, ◌++◌, true, None};
     ghost use mathlib.Core.List.{IsPrefix};
     ghost use Rattle.desk_clerk.specs.Clerk.{Clerked, list_from, tables_of};
-    ghost use Rattle.desk_clerk.specs.Published.{listed};
+    ghost use Rattle.desk_clerk.specs.Published.{waiting_edit};
     ghost use Rattle.desk_engine.specs.Engine.{lists_of};
     ghost use Rattle.desk_history.specs.History.{IsHistory, after};
 
     ghost Value = { Clerked K };
 
-    ghost view = { λ c. record { desk = c.desk; published = c.publication.published; accepted = c.publication.whole ++ listed c.kept } };
+    ghost view = { λ c. record { desk = c.desk; published = c.publication.published; accepted = c.publication.whole ++ waiting_edit c.kept } };
 
-    ghost invariant = { λ c. IsHistory (list_from (lists_of J.opening.engine) (c.publication.whole ++ listed c.kept))
-        × (tables_of c.desk ≡ after (list_from (lists_of J.opening.engine) (c.publication.whole ++ listed c.kept)))
+    ghost invariant = { λ c. IsHistory (list_from (lists_of J.opening.engine) (c.publication.whole ++ waiting_edit c.kept))
+        × (tables_of c.desk ≡ after (list_from (lists_of J.opening.engine) (c.publication.whole ++ waiting_edit c.kept)))
         × IsPrefix c.publication.published c.publication.whole
-        × (c.is_published ≡ true → c.publication.published ≡ c.publication.whole ++ listed c.kept) };
+        × (c.is_published ≡ true → c.publication.published ≡ c.publication.whole ++ waiting_edit c.kept) };
 }
 
 impl<K: Keeper, J: Naming<DeskBoard>> Clerk<K, J> {
@@ -155,9 +155,7 @@ impl<K: Keeper, J: Naming<DeskBoard>> Clerk<K, J> {
         // Nor does an edit that a rule refuses.
         ensures refused { (fault : Fault) → (step (whole self.old) edit).0 ≡ Err fault → keeper_of self.new ≡ keeper_of self.old }
         ensures told { K.Tells (keeper_of self.new) → K.Tells (keeper_of self.old) }
-        ensures never_falls { K.faults (keeper_of self.old) ≤ K.faults (keeper_of self.new) }
-        ensures steady { result ≢ Err SubmitFault.KeeperFault → K.faults (keeper_of self.new) ≡ K.faults (keeper_of self.old) }
-        ensures failed { IsErrOf result SubmitFault.KeeperFault → Rose (K.faults (keeper_of self.old)) (K.faults (keeper_of self.new)) }
+        ensures faults { CountsFaults (IsErrOf result SubmitFault.KeeperFault) (K.faults (keeper_of self.old)) (K.faults (keeper_of self.new)) }
         ensures sure { K.NeverFails → result ≢ Err SubmitFault.KeeperFault }
         ensures asked { IsErrOf result SubmitFault.KeeperFault
             → (kept_number (whole self.old) edit ≡ None) × (is_ok (step (whole self.old) edit).0 ≡ true) }
@@ -181,9 +179,7 @@ impl<K: Keeper, J: Naming<DeskBoard>> Clerk<K, J> {
         ensures again { (n : ℕ) → kept_number (whole self.old) edit ≡ Some n → keeper_of self.new ≡ keeper_of self.old }
         ensures refused { (fault : Fault) → (step (whole self.old) edit).0 ≡ Err fault → keeper_of self.new ≡ keeper_of self.old }
         ensures told { K.Tells (keeper_of self.new) → K.Tells (keeper_of self.old) }
-        ensures never_falls { K.faults (keeper_of self.old) ≤ K.faults (keeper_of self.new) }
-        ensures steady { result ≢ Err SubmitFault.KeeperFault → K.faults (keeper_of self.new) ≡ K.faults (keeper_of self.old) }
-        ensures failed { IsErrOf result SubmitFault.KeeperFault → Rose (K.faults (keeper_of self.old)) (K.faults (keeper_of self.new)) }
+        ensures faults { CountsFaults (IsErrOf result SubmitFault.KeeperFault) (K.faults (keeper_of self.old)) (K.faults (keeper_of self.new)) }
         ensures sure { K.NeverFails → result ≢ Err SubmitFault.KeeperFault }
         ensures asked { IsErrOf result SubmitFault.KeeperFault
             → (kept_number (whole self.old) edit ≡ None) × (is_ok (step (whole self.old) edit).0 ≡ true) }

@@ -1,7 +1,7 @@
-ghost use Rattle.std.specs.Prelude.{◌≡◌, ◌≢◌, ◌≤◌, ℕ, Err, IsErrOf, OnErr, OnOk, true};
+ghost use Rattle.std.specs.Prelude.{◌≡◌, ◌≢◌, ℕ, Err, IsErrOf, OnErr, OnOk, true};
 ghost use Rattle.desk_clerk.specs.Faults.{edit_as_submit};
 ghost use Rattle.desk_edge.specs.Content.{IsSame};
-ghost use Rattle.desk_edge.specs.Faults.{Rose};
+ghost use Rattle.desk_edge.specs.Faults.{CountsFaults};
 ghost use Rattle.desk_history.specs.Sound.{Sound};
 ghost use Rattle.desk_history.specs.Step.{step};
 ghost use Rattle.desk_model.specs.Forms.{is_edit_in_form};
@@ -33,9 +33,7 @@ pub(crate) fn keep<K: Keeper>(
     ensures memory { (n : ℕ) → plan.now ≡ TablesPlan.Kept n → result ≢ Err SubmitFault.OutOfMemory }
     ensures no_rule { (fault : RuleFault) (n : ℕ) → result ≢ Err (SubmitFault.Rule fault n) }
     ensures told { K.Tells keeper.new → K.Tells keeper.old }
-    ensures never_falls { K.faults keeper.old ≤ K.faults keeper.new }
-    ensures steady { result ≢ Err SubmitFault.KeeperFault → K.faults keeper.new ≡ K.faults keeper.old }
-    ensures failed { IsErrOf result SubmitFault.KeeperFault → Rose (K.faults keeper.old) (K.faults keeper.new) }
+    ensures faults { CountsFaults (IsErrOf result SubmitFault.KeeperFault) (K.faults keeper.old) (K.faults keeper.new) }
     ensures sure { K.NeverFails → result ≢ Err SubmitFault.KeeperFault }
 {
     let changes = changes(alloc, plan)?;

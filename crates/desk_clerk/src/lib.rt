@@ -14,7 +14,6 @@ mod opened;
 mod opening;
 mod publishing;
 mod reading;
-mod stored;
 mod stored_desk;
 mod submit_fault;
 

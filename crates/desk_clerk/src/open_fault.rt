@@ -1,5 +1,7 @@
-use desk_edge::KeepFault;
-use desk_tables::SoundFault;
+ghost use Rattle.std.specs.Prelude.{◌≡◌};
+
+use desk_edge::{KeepFault, Key};
+use desk_records::GatherFault;
 use desk_text::{Bytes, OutOfMemory};
 use std::alloc::AllocError;
 
@@ -33,19 +35,19 @@ impl From<KeepFault> for OpenFault {
     }
 }
 
-impl From<SoundFault> for OpenFault {
+/// By whatever cause the records aren't those of sound tables, the key alone is told.
+impl From<GatherFault> for OpenFault {
     ghost use Rattle.std.specs.Prelude.{◌≡◌};
-    ghost use Rattle.desk_clerk.specs.Faults.{sound_as_open};
+    ghost use Rattle.desk_clerk.specs.Faults.{gathered_as_open};
 
-    ghost from_gives = { λ fault e. e ≡ sound_as_open fault };
+    ghost from_gives = { λ fault e. e ≡ gathered_as_open fault };
 
-    fn from(fault: SoundFault) -> OpenFault {
+    fn from(fault: GatherFault) -> OpenFault {
         match fault {
-            SoundFault::Unsound { table, key } => OpenFault::Damaged {
-                kind: table,
-                code: key,
-            },
-            SoundFault::OutOfMemory => OpenFault::OutOfMemory,
+            GatherFault::OtherVersion(key) => damaged(key),
+            GatherFault::NoRow(key) => damaged(key),
+            GatherFault::Unsound(key) => damaged(key),
+            GatherFault::OutOfMemory => OpenFault::OutOfMemory,
         }
     }
 }
@@ -71,5 +73,15 @@ impl From<AllocError> for OpenFault {
 
     fn from(_error: AllocError) -> OpenFault {
         OpenFault::OutOfMemory
+    }
+}
+
+/// The records are damaged under this key.
+fn damaged(key: Key) -> OpenFault
+    ensures { result ≡ OpenFault.Damaged key.kind key.code }
+{
+    OpenFault::Damaged {
+        kind: key.kind,
+        code: key.code,
     }
 }

@@ -2,8 +2,8 @@
 ghost use Rattle.std.specs.Prelude.{◌≡◌, ◌≢◌, ◌≤◌, ◌++◌, ℕ, [], All, Ok, Err, None, Some, is_ok, true, length, IfOk, IsErrOf, OnOk, OnErr};
 ghost use mathlib.Core.List.{IsPrefix};
 ghost use Rattle.desk_clerk.specs.Clerk.{list_from, tables_of};
-ghost use Rattle.desk_clerk.specs.Published.{added_at, listed};
-ghost use Rattle.desk_edge.specs.Faults.{Rose};
+ghost use Rattle.desk_clerk.specs.Published.{added_to_list, waiting_edit};
+ghost use Rattle.desk_edge.specs.Faults.{CountsFaults};
 ghost use Rattle.desk_engine.specs.Engine.{lists_of};
 ghost use Rattle.desk_history.specs.History.{IsHistory};
 ghost use Rattle.desk_history.specs.Step.{kept_number, step};
@@ -54,10 +54,10 @@ pub(crate) fn publish_kept<J: Naming<DeskBoard>, R: Wait>(
     publication: &mut Publication<DeskBoard, J>,
     kept: &mut Option<Edit>,
 ) -> Result<(), OutOfMemory>
-    requires { IsHistory (list_from (lists_of J.opening.engine) (publication.old.whole ++ listed kept.old)) }
-    ensures list { publication.new.whole ++ listed kept.new ≡ publication.old.whole ++ listed kept.old }
+    requires { IsHistory (list_from (lists_of J.opening.engine) (publication.old.whole ++ waiting_edit kept.old)) }
+    ensures list { publication.new.whole ++ waiting_edit kept.new ≡ publication.old.whole ++ waiting_edit kept.old }
     ensures begins { IsPrefix publication.new.published publication.new.whole }
-    ensures published { OnOk result (publication.new.published ≡ publication.new.whole ++ listed kept.new) }
+    ensures published { OnOk result (publication.new.published ≡ publication.new.whole ++ waiting_edit kept.new) }
     ensures stays { OnErr result (publication.new.published ≡ publication.old.published) }
 {
     let is_done = put_kept(publication, kept).is_ok() && publication.settle(rt).is_ok();
@@ -71,8 +71,8 @@ fn put_kept<J: Naming<DeskBoard>>(
     publication: &mut Publication<DeskBoard, J>,
     kept: &mut Option<Edit>,
 ) -> Result<(), OutOfMemory>
-    requires { IsHistory (list_from (lists_of J.opening.engine) (publication.old.whole ++ listed kept.old)) }
-    ensures list { publication.new.whole ++ listed kept.new ≡ publication.old.whole ++ listed kept.old }
+    requires { IsHistory (list_from (lists_of J.opening.engine) (publication.old.whole ++ waiting_edit kept.old)) }
+    ensures list { publication.new.whole ++ waiting_edit kept.new ≡ publication.old.whole ++ waiting_edit kept.old }
     ensures published { publication.new.published ≡ publication.old.published }
     ensures ok { OnOk result (kept.new ≡ None) }
 {
@@ -99,16 +99,14 @@ pub(crate) fn take_into<K: Keeper>(
     ensures form { is_edit_in_form edit ≡ true }
     ensures number { IfOk result (λ accepted. (step (tables_of desk.old) edit).0 ≡ Ok accepted.number) }
     ensures list { IfOk result (λ accepted. accepted.whole ≡ number_at (tables_of desk.new)) }
-    ensures ok { OnOk result ((listed kept.new ≡ added_at (tables_of desk.old) edit) × (tables_of desk.new ≡ (step (tables_of desk.old) edit).1)) }
+    ensures ok { OnOk result ((waiting_edit kept.new ≡ added_to_list (tables_of desk.old) edit) × (tables_of desk.new ≡ (step (tables_of desk.old) edit).1)) }
     ensures err { OnErr result ((kept.new ≡ None) × (tables_of desk.new ≡ tables_of desk.old)) }
     ensures rule { (fault : Fault) (n : ℕ) → result ≡ Err (SubmitFault.Rule fault n)
         → ((step (tables_of desk.old) edit).0 ≡ Err fault) × (n ≡ number_at (tables_of desk.old)) }
     ensures again { (n : ℕ) → kept_number (tables_of desk.old) edit ≡ Some n → desk.new.keeper ≡ desk.old.keeper }
     ensures refused { (fault : Fault) → (step (tables_of desk.old) edit).0 ≡ Err fault → desk.new.keeper ≡ desk.old.keeper }
     ensures told { K.Tells desk.new.keeper → K.Tells desk.old.keeper }
-    ensures never_falls { K.faults desk.old.keeper ≤ K.faults desk.new.keeper }
-    ensures steady { result ≢ Err SubmitFault.KeeperFault → K.faults desk.new.keeper ≡ K.faults desk.old.keeper }
-    ensures failed { IsErrOf result SubmitFault.KeeperFault → Rose (K.faults desk.old.keeper) (K.faults desk.new.keeper) }
+    ensures faults { CountsFaults (IsErrOf result SubmitFault.KeeperFault) (K.faults desk.old.keeper) (K.faults desk.new.keeper) }
     ensures sure { K.NeverFails → result ≢ Err SubmitFault.KeeperFault }
     ensures asked { IsErrOf result SubmitFault.KeeperFault
         → (kept_number (tables_of desk.old) edit ≡ None) × (is_ok (step (tables_of desk.old) edit).0 ≡ true) }

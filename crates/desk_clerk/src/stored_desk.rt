@@ -4,7 +4,7 @@ ghost use Rattle.desk_engine.specs.Engine.{IsPlanOf, lists_of};
 ghost use Rattle.desk_model.specs.Lists.{number_at};
 ghost use Rattle.desk_clerk.specs.Opening.{IsDamagedAt, IsOpenedAs};
 ghost use Rattle.desk_edge.specs.Content.{IsSame};
-ghost use Rattle.desk_edge.specs.Faults.{Rose};
+ghost use Rattle.desk_edge.specs.Faults.{CountsFaults, Rose};
 ghost use Rattle.desk_history.specs.Sound.{Sound};
 ghost use Rattle.desk_history.specs.Step.{kept_number, step};
 ghost use Rattle.desk_model.specs.Lists.{Lists};
@@ -73,9 +73,7 @@ impl<K: Keeper> StoredDesk<K> {
         ensures not_sound { IfErr result (λ refused. (kind : ℕ) (code : List ℕ) → refused.fault ≡ OpenFault.Damaged kind code
             → K.Tells refused.keeper → (t : Lists) → Sound t → IsOpenedAs (K.content keeper) t → ⊥) }
         ensures counted { IfOk result (λ desk. K.faults desk.keeper ≡ K.faults keeper) }
-        ensures never_falls { IfErr result (λ refused. K.faults keeper ≤ K.faults refused.keeper) }
-        ensures steady { IfErr result (λ refused. refused.fault ≢ OpenFault.KeeperFault → K.faults refused.keeper ≡ K.faults keeper) }
-        ensures failed { IfErr result (λ refused. refused.fault ≡ OpenFault.KeeperFault → Rose (K.faults keeper) (K.faults refused.keeper)) }
+        ensures faults { IfErr result (λ refused. CountsFaults (refused.fault ≡ OpenFault.KeeperFault) (K.faults keeper) (K.faults refused.keeper)) }
     {
         let mut keeper = keeper;
         match open_engine(alloc, &mut keeper) {
@@ -103,9 +101,7 @@ impl<K: Keeper> StoredDesk<K> {
         // Nor does an edit that a rule refuses.
         ensures refused { (fault : Fault) → (step (tables_of self.old) edit.now).0 ≡ Err fault → self.new.keeper ≡ self.old.keeper }
         ensures told { K.Tells self.new.keeper → K.Tells self.old.keeper }
-        ensures never_falls { K.faults self.old.keeper ≤ K.faults self.new.keeper }
-        ensures steady { result ≢ Err SubmitFault.KeeperFault → K.faults self.new.keeper ≡ K.faults self.old.keeper }
-        ensures failed { IsErrOf result SubmitFault.KeeperFault → Rose (K.faults self.old.keeper) (K.faults self.new.keeper) }
+        ensures faults { CountsFaults (IsErrOf result SubmitFault.KeeperFault) (K.faults self.old.keeper) (K.faults self.new.keeper) }
         ensures sure { K.NeverFails → result ≢ Err SubmitFault.KeeperFault }
         ensures asked { IsErrOf result SubmitFault.KeeperFault
             → (kept_number (tables_of self.old) edit.now ≡ None) × (is_ok (step (tables_of self.old) edit.now).0 ≡ true) }
@@ -129,9 +125,7 @@ impl<K: Keeper> StoredDesk<K> {
         ensures again { (n : ℕ) → kept_number (tables_of self.old) edit.now ≡ Some n → self.new.keeper ≡ self.old.keeper }
         ensures memory { (n : ℕ) → kept_number (tables_of self.old) edit.now ≡ Some n → result ≢ Err SubmitFault.OutOfMemory }
         ensures told { K.Tells self.new.keeper → K.Tells self.old.keeper }
-        ensures never_falls { K.faults self.old.keeper ≤ K.faults self.new.keeper }
-        ensures steady { result ≢ Err SubmitFault.KeeperFault → K.faults self.new.keeper ≡ K.faults self.old.keeper }
-        ensures failed { IsErrOf result SubmitFault.KeeperFault → Rose (K.faults self.old.keeper) (K.faults self.new.keeper) }
+        ensures faults { CountsFaults (IsErrOf result SubmitFault.KeeperFault) (K.faults self.old.keeper) (K.faults self.new.keeper) }
         ensures sure { K.NeverFails → result ≢ Err SubmitFault.KeeperFault }
         ensures asked { IsErrOf result SubmitFault.KeeperFault
             → (kept_number (tables_of self.old) edit.now ≡ None) × (is_ok (step (tables_of self.old) edit.now).0 ≡ true) }

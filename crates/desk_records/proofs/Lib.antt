@@ -1,8 +1,14 @@
 pub mod Codes
 pub mod Distinct
+pub mod Few
+pub mod FirstRecords
+pub mod GatheredTables
+pub mod Gatherings
 pub mod InForm
 pub mod Moves
+pub mod OneDesk
 pub mod Planned
+pub mod PutIn
 pub mod RowsRecords
 pub mod Segments
 pub mod Tabled

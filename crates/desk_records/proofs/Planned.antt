@@ -6,7 +6,7 @@ use Rattle.std.specs.List.{AllByRecursion}
 use Rattle.std.specs.Prelude.{IfOk, Result, Ok, Err, option_map}
 use Rattle.desk_text.specs.Code.{code_cmp}
 use Rattle.desk_text.proofs.Fields.{Lacks, lacks_in_code}
-use Rattle.desk_edge.specs.Content.{IsChanged, changed as changed_at, changed_all, key_of, same_key}
+use Rattle.desk_edge.specs.Content.{IsChanged, body_after as changed_at, body_after_all, key_of, same_key}
 use Rattle.desk_edge.specs.declared.change.Change.{Change}
 use Rattle.desk_edge.specs.declared.change.Change.TheVariants.{Put, Drop}
 use Rattle.desk_edge.specs.declared.key.Key.{Key}
@@ -77,7 +77,7 @@ drop_kept t u dropped k e =
     ap (option_map (λ one. one.body)) e
     ∙ elim (same_key dropped k) as (λ b. option_map (λ one. one.body) (cond b None (look (records_of t) k)) ≡ cond b None (tables_content t k)) [ true ↦ refl | false ↦ refl ]
 
-all_appended : (some more : List Change) (k : Key) (body : Option (List ℕ)) → changed_all (some ++ more) k body ≡ changed_all more k (changed_all some k body)
+all_appended : (some more : List Change) (k : Key) (body : Option (List ℕ)) → body_after_all (some ++ more) k body ≡ body_after_all more k (body_after_all some k body)
 all_appended [] more k body = refl
 all_appended (change ∷ some) more k body = all_appended some more k (changed_at change k body)
 
@@ -205,11 +205,11 @@ drop_exemptions t code k ordered =
     (taken_out (λ row. row.terms.row) code_cmp code_cmp_total Exemption code (record { kind = 7; code = code }) t.exemptions ordered.exemptions (all_of _ (λ row. refl) t.exemptions) k))
 
 put_all_materials : (t : Lists) (rows : List MaterialRow) (k : Key)
-    → tables_content (record t { materials = with_rows (λ row. row.code) code_cmp rows t.materials }) k ≡ changed_all (map (λ row. Put (record_of (Material row))) rows) k (tables_content t k)
+    → tables_content (record t { materials = with_rows (λ row. row.code) code_cmp rows t.materials }) k ≡ body_after_all (map (λ row. Put (record_of (Material row))) rows) k (tables_content t k)
 put_all_materials t [] k = refl
 put_all_materials t (row ∷ rows) k =
     put_all_materials (record t { materials = with_row (λ row. row.code) code_cmp row t.materials }) rows k
-    ∙ ap (changed_all (map (λ row. Put (record_of (Material row))) rows) k) (put_materials t row k)
+    ∙ ap (body_after_all (map (λ row. Put (record_of (Material row))) rows) k) (put_materials t row k)
 
 module _ (t : Lists) (ticket : TicketRow) (ordered : IsOrdered t) (forms : FormsKept t) where
   members : AllByRecursion (λ r. is_member_row r ≡ true) t.members
@@ -221,7 +221,7 @@ module _ (t : Lists) (ticket : TicketRow) (ordered : IsOrdered t) (forms : Forms
   shipments : AllByRecursion (λ r. is_shipment_row r ≡ true) t.shipments
   shipments = each_from_all is_shipment_row t.shipments forms.shipments
 
-  rows_move : (change : RowChange) → FormsKept (entered_by t change ticket) → AreDropsInForm change → (k : Key) → tables_content (changed t change) k ≡ changed_all (row_changes change) k (tables_content t k)
+  rows_move : (change : RowChange) → FormsKept (entered_by t change ticket) → AreDropsInForm change → (k : Key) → tables_content (changed t change) k ≡ body_after_all (row_changes change) k (tables_content t k)
   unfolding changed row_changes AreDropsInForm
   rows_move (change.PutSubstance row room) new drops k = put_substances t row k
   rows_move (change.PutMember row room) new drops k =
@@ -259,7 +259,7 @@ same_tickets t (change.PutShipment row room) = refl
 same_tickets t (change.DropShipment year product) = refl
 
 enters : (t : Lists) (change : RowChange) (ticket : TicketRow) → Sound t → Sound (entered_by t change ticket) → AreDropsInForm change → (k : Key)
-    → tables_content (entered_by t change ticket) k ≡ changed_all (row_changes change ++ Put (record_of (Ticket ticket)) ∷ []) k (tables_content t k)
+    → tables_content (entered_by t change ticket) k ≡ body_after_all (row_changes change ++ Put (record_of (Ticket ticket)) ∷ []) k (tables_content t k)
 enters t change ticket old new drops k =
     ap (λ tickets. tables_content (record (changed t change) { tickets = with_row (λ row. row.code) code_cmp ticket tickets }) k) (sym (same_tickets t change))
     ∙ put_tickets (changed t change) ticket k

@@ -1,3 +1,6 @@
 pub mod Changes
+pub mod Damage
+pub mod Faults
+pub mod Gathered
 pub mod Laws
 pub mod Records

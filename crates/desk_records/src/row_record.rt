@@ -1,8 +1,8 @@
-ghost use Rattle.std.specs.Prelude.{◌≡◌, Err, IfErr, IfNone, IfOk, IfSome, true};
+ghost use Rattle.std.specs.Prelude.{◌≡◌, Err, IfOk, true};
 ghost use Rattle.desk_fields.specs.RowTexts.{HasVersion, has_texts};
 ghost use Rattle.desk_model.specs.declared.row.Row.{Row};
 ghost use Rattle.desk_model.specs.Rows.{table_number};
-ghost use Rattle.desk_records.specs.Records.{IsOfNoRow, IsRecordOf, record_of};
+ghost use Rattle.desk_records.specs.Records.{IsRecordOf, record_of};
 
 use crate::RecordFault;
 use desk_edge::Record;
@@ -61,20 +61,4 @@ pub fn read_record(alloc: Global, kept: &Record) -> Result<Row, RecordFault>
     ensures memory { result ≡ Err RecordFault.OutOfMemory → HasVersion kept.now.body × (has_texts kept.now.kind ≡ true) }
 {
     read_row(alloc, kept.kind, kept.code.as_slice(), kept.body.as_slice())
-}
-
-/// The row that has this record, if one does. It is for callers to whom it doesn't matter why no row has it.
-///
-/// `OutOfMemory`: there was no memory to read it; it comes only where `read_record` may tell it.
-pub fn row_of_record(alloc: Global, kept: &Record) -> Result<Option<Row>, OutOfMemory>
-    ensures some { IfOk result (λ found. IfSome found (λ row. IsRecordOf row kept.now)) }
-    ensures none { IfOk result (λ found. IfNone found (IsOfNoRow kept.now)) }
-    ensures memory { IfErr result (λ _. HasVersion kept.now.body × (has_texts kept.now.kind ≡ true)) }
-{
-    match read_record(alloc, kept) {
-        Ok(row) => Ok(Some(row)),
-        Err(RecordFault::Version) => Ok(None),
-        Err(RecordFault::Shape) => Ok(None),
-        Err(RecordFault::OutOfMemory) => Err(OutOfMemory),
-    }
 }

@@ -2,13 +2,13 @@
 use Rattle.std.proofs.Common.{◌≡◌, ℕ, ◌+◌, List, [], ◌∷◌, ◌++◌, length, map, refl, sym, ap, ◌∙◌, subst, append_assoc, append-nil}
 use Rattle.std.specs.List.{AllByRecursion}
 use Rattle.std.proofs.lemmas.List.Concat.{flat_map-append}
-use Rattle.desk_clerk.specs.Opening.{AreTablesOf}
+use Rattle.desk_records.specs.Damage.{AreTablesOf}
 use Rattle.desk_edge.specs.Content.{key_cmp, key_of}
 use Rattle.desk_edge.specs.declared.record.Record.{Record}
 use Rattle.desk_fields.specs.RowTexts.{IsRowInForm}
 use Rattle.desk_model.specs.Lists.{Lists}
 use Rattle.desk_model.specs.declared.row.Row.{Row}
-use Rattle.desk_records.specs.Records.{IsRecordOf, record_of}
+use Rattle.desk_records.specs.Records.{IsOfNoRow, IsRecordOf, record_of}
 use Rattle.desk_rows.specs.Rows.{IsByKey}
 use Rattle.desk_report.specs.Lines.{line_of, record_lines}
 use Rattle.desk_report.specs.Reading.{AreInOrder, HasBadLine, HasNoLineEnd}
@@ -54,6 +54,14 @@ bad_now read held records tables line by_key are one_line e number none = record
   number = number;
   is_bad = λ kept same more. let row = last_row records kept more.of_rows in none kept row.0 row.1 same more.by_key;
 }
+
+-- so it is where no row has the only record that it may be
+pub bad_record : (read held : List ℕ) (records : List Record) (tables : Lists) (line : ℕ) (kept : Record) → IsByKey key_of key_cmp records → AreTablesOf records tables
+    → HasNoLineEnd held → read ≡ record_lines records ++ held → line ≡ length records + 1
+    → ((other : Record) (row : Row) → IsRecordOf row other → line_of other ≡ held ++ 10 ∷ [] → kept ≡ other) → IsOfNoRow kept
+    → HasBadLine (read ++ 10 ∷ []) line
+bad_record read held records tables line kept by_key are one_line e number one none =
+    bad_now read held records tables line by_key are one_line e number (λ other row of same more. none row (subst (IsRecordOf row) (sym (one other row of same)) of))
 
 -- one more line of a record
 pub line_more : (read held : List ℕ) (records : List Record) (kept : Record) → read ≡ record_lines records ++ held → line_of kept ≡ held ++ 10 ∷ []

@@ -8,8 +8,8 @@ use Rattle.desk_edge.specs.declared.record.Record.{Record}
 use Rattle.desk_edge.proofs.Keys.{key_order}
 use Rattle.desk_rows.specs.Rows.{IsByKey}
 use Rattle.desk_rows.proofs.Order.{AllAbove, by_key, first_above, none_by_key, rest_by_key}
-use Rattle.desk_clerk.specs.Reading.{is_past_all}
-use Rattle.desk_clerk.proofs.FirstRecords.{by_key_append, past_last}
+use Rattle.desk_records.specs.Records.{is_past_all}
+use Rattle.desk_records.proofs.FirstRecords.{by_key_append, past_last}
 
 last_above : (k : Key) (records : List Record) (kept : Record) → AllAbove key_of key_cmp key_order k (records ++ kept ∷ []) → is_lt (key_cmp k (key_of kept)) ≡ true
 last_above k [] kept above = ap is_lt above.0

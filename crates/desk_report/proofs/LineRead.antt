@@ -12,7 +12,7 @@ use Rattle.desk_fields.proofs.Codec.{ok_of_some}
 use Rattle.desk_fields.proofs.RowFields.{number_lacks}
 use Rattle.desk_records.specs.Records.{IsRecordOf}
 use Rattle.desk_report.specs.Lines.{line_of}
-use Rattle.desk_report.specs.Reading.{kind_in, record_in, record_of_fields}
+use Rattle.desk_report.specs.Reading.{kind_written, record_in, record_of_fields}
 use Rattle.desk_report.proofs.CodesLack.{code_lacks_tab, table_small}
 
 -- a list with one more behind isn't empty
@@ -50,22 +50,22 @@ no_code line e = sym (ap record_of_fields e)
 pub no_body : (line kind rest : List ℕ) → slice_split (λ b. b == 9) line ≡ kind ∷ slice_split (λ b. b == 9) rest → slice_split (λ b. b == 9) rest ≡ rest ∷ [] → None ≡ record_in line
 no_body line kind rest e more = sym (ap record_of_fields (e ∙ ap (λ fields. kind ∷ fields) more))
 
-no_number : (kind code : List ℕ) (parts : List (List ℕ)) → kind_in kind ≡ None → record_of_fields (kind ∷ code ∷ parts) ≡ None
+no_number : (kind code : List ℕ) (parts : List (List ℕ)) → kind_written kind ≡ None → record_of_fields (kind ∷ code ∷ parts) ≡ None
 no_number kind code [] none = refl
 no_number kind code (field ∷ fields) none = ap (option_map (λ k. record { kind = k; code = code; body = join_with_byte 9 (field ∷ fields) })) none
 
 pub no_kind : (line kind rest code body : List ℕ) → slice_split (λ b. b == 9) line ≡ kind ∷ slice_split (λ b. b == 9) rest → slice_split (λ b. b == 9) rest ≡ code ∷ slice_split (λ b. b == 9) body
-    → None ≡ kind_in kind → None ≡ record_in line
+    → None ≡ kind_written kind → None ≡ record_in line
 no_kind line kind rest code body e more none =
     sym (ap record_of_fields (e ∙ ap (λ fields. kind ∷ fields) more) ∙ no_number kind code (slice_split (λ b. b == 9) body) (sym none))
 
-with_number : (kind code : List ℕ) (parts : List (List ℕ)) (k : ℕ) → 0 < length parts → kind_in kind ≡ Some k
+with_number : (kind code : List ℕ) (parts : List (List ℕ)) (k : ℕ) → 0 < length parts → kind_written kind ≡ Some k
     → record_of_fields (kind ∷ code ∷ parts) ≡ Some (record { kind = k; code = code; body = join_with_byte 9 parts })
 with_number kind code [] k some is = absurd (omega (arith, some))
 with_number kind code (field ∷ fields) k some is = ap (option_map (λ k. record { kind = k; code = code; body = join_with_byte 9 (field ∷ fields) })) is
 
 pub whole : (line kind rest code body : List ℕ) (k : ℕ) → slice_split (λ b. b == 9) line ≡ kind ∷ slice_split (λ b. b == 9) rest → slice_split (λ b. b == 9) rest ≡ code ∷ slice_split (λ b. b == 9) body
-    → Some k ≡ kind_in kind → Some (record { kind = k; code = code; body = body }) ≡ record_in line
+    → Some k ≡ kind_written kind → Some (record { kind = k; code = code; body = body }) ≡ record_in line
 whole line kind rest code body k e more is =
     sym (ap record_of_fields (e ∙ ap (λ fields. kind ∷ fields) more)
     ∙ with_number kind code (slice_split (λ b. b == 9) body) k (omega (arith, length-slice_split (λ b. b == 9) body)) (sym is)
@@ -75,7 +75,7 @@ whole line kind rest code body k e more is =
 read_front : (kept : Record) → kept.kind < 256 → Lacks 9 kept.code → record_in (front_of kept) ≡ Some kept
 read_front kept small lack =
     let tab = λ (b : ℕ). b == 9 in
-    let kind : kind_in (decimal kept.kind) ≡ Some kept.kind = ap result_ok ((number_reader 256 (omega arith)).back kept.kind small) in
+    let kind : kind_written (decimal kept.kind) ≡ Some kept.kind = ap result_ok ((number_reader 256 (omega arith)).back kept.kind small) in
     let parts : slice_split tab (front_of kept) ≡ decimal kept.kind ∷ kept.code ∷ slice_split tab kept.body =
     ap (slice_split tab) (append_assoc (decimal kept.kind) (9 ∷ kept.code) (9 ∷ kept.body))
     ∙ slice_split_at tab (decimal kept.kind) 9 (kept.code ++ 9 ∷ kept.body) (number_lacks 9 refl kept.kind (omega (arith, small))) refl
@@ -93,9 +93,9 @@ read_line kept row line is e =
 fields_front : (kind code : List ℕ) (parts : List (List ℕ)) (kept : Record) → record_of_fields (kind ∷ code ∷ parts) ≡ Some kept
     → (decimal kept.kind ≡ kind) × (kept.code ≡ code) × (kept.body ≡ join_with_byte 9 parts)
 fields_front kind code [] kept e = none_some e
-fields_front kind code (field ∷ fields) kept e = by (kind_in kind) refl e
+fields_front kind code (field ∷ fields) kept e = by (kind_written kind) refl e
   where
-    by : (o : Option ℕ) → kind_in kind ≡ o → option_map (λ k. record { kind = k; code = code; body = join_with_byte 9 (field ∷ fields) }) o ≡ Some kept
+    by : (o : Option ℕ) → kind_written kind ≡ o → option_map (λ k. record { kind = k; code = code; body = join_with_byte 9 (field ∷ fields) }) o ≡ Some kept
         → (decimal kept.kind ≡ kind) × (kept.code ≡ code) × (kept.body ≡ join_with_byte 9 (field ∷ fields))
     by None is e = none_some e
     by (Some k) is e =

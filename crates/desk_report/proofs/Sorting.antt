@@ -1,9 +1,9 @@
 -- Records that were sorted by keys of their own are the records that are put in one after the other.
 use Rattle.std.proofs.Common.{◌≡◌, ℕ, ◌+◌, ◌≤◌, Bool, true, false, cond, List, [], ◌∷◌, refl, ap, sym, ◌∙◌, subst, arith, Ordering, Less, Equal, Greater, is_eq, count_by, sum_by, IsPermutation, inl, inr}
 use Rattle.std.specs.Cmp.Lexicographic.{slice_cmp}
-use Rattle.std.specs.Ordering.{nat_cmp, ordering_then}
+use Rattle.std.specs.Ordering.{nat_cmp}
 use Rattle.std.proofs.lemmas.Bool.{cases_Bool, false≢true}
-use Rattle.std.proofs.lemmas.Cmp.{ranked, tied_itself}
+use Rattle.std.proofs.lemmas.Cmp.{tied_itself}
 use Rattle.std.proofs.lemmas.List.Sums.{sum_by-cons}
 use Rattle.std.proofs.lemmas.List.Sorted.{sum_by-IsPermutation}
 use Rattle.desk_text.proofs.CodeLemmas.{same_code-Decides}
@@ -14,6 +14,7 @@ use Rattle.desk_edge.proofs.Keys.{key_order}
 use Rattle.desk_rows.specs.Rows.{IsByKey, with_row, with_rows}
 use Rattle.desk_rows.proofs.Edits.{IsByKey-with_row}
 use Rattle.desk_rows.proofs.Order.{AllAbove, AllAbove-down, first_above, greater_back, less_back, none_by_key, rest_by_key}
+use Rattle.desk_records.proofs.FirstRecords.{one_key}
 use Rattle.desk_report.specs.Lines.{sorted}
 
 counted : (b : Bool) → b ≡ true → ◌≡◌ {A = ℕ} (cond b 1 0) 1
@@ -76,26 +77,6 @@ none_above key g (kept ∷ records) above =
     let first = sum_by-cons (λ r. cond (same_key (key_of r) key) (g r) 0) kept records in
     let none : cond (same_key (key_of kept) key) (g kept) 0 ≡ 0 = ap (λ o. cond (is_eq o) (g kept) 0) (greater_back key_of key_cmp key_order key (key_of kept) above.0) in
     omega (arith, later, first, none)
-
-is_equal : (a : Ordering) → is_eq a ≡ true → a ≡ Equal
-is_equal Less e = absurd (false≢true e)
-is_equal Equal e = refl
-is_equal Greater e = absurd (false≢true e)
-
--- keys that compare as equal are one
-one_key : (a b : Key) → same_key a b ≡ true → a ≡ b
-one_key a b e = by (nat_cmp a.kind b.kind) refl
-  where
-    then_codes : {c : Ordering} → c ≡ nat_cmp a.kind b.kind → is_eq (ordering_then c (slice_cmp nat_cmp a.code b.code)) ≡ true
-    then_codes s = ap (λ o. is_eq (ordering_then o (slice_cmp nat_cmp a.code b.code))) s ∙ e
-
-    by : (c : Ordering) → c ≡ nat_cmp a.kind b.kind → a ≡ b
-    by Less s = absurd (false≢true (then_codes s))
-    by Equal s =
-        let kind : a.kind ≡ b.kind = ranked a.kind b.kind Equal s in
-        let code : a.code ≡ b.code = (same_code-Decides a.code b.code).0 (then_codes s) in
-        λ i. record { kind = kind i; code = code i }
-    by Greater s = absurd (false≢true (then_codes s))
 
 same_record : (a b : Record) → key_of a ≡ key_of b → a.body ≡ b.body → a ≡ b
 same_record a b k e = λ i. record { kind = (k i).kind; code = (k i).code; body = e i }

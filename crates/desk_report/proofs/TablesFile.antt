@@ -25,11 +25,11 @@ use Rattle.desk_model.specs.Lists.{Lists}
 use Rattle.desk_model.specs.Rows.{rows_of, table_number}
 use Rattle.desk_model.specs.declared.row.Row.{Row}
 use Rattle.desk_model.specs.declared.row.Row.TheVariants.{Substance, Member, Material, Part, Line, Product, Exemption, Candidate, Shipment, Ticket}
-use Rattle.desk_records.specs.Records.{record_of, records_of, tables_content}
+use Rattle.desk_records.specs.Damage.{record_limit}
+use Rattle.desk_records.specs.Records.{content_in, record_of, records_of, tables_content}
 use Rattle.desk_records.proofs.Distinct.{Apart, apart, distinct}
-use Rattle.desk_clerk.specs.Opening.{content_in, record_limit}
-use Rattle.desk_clerk.proofs.Few.{few_of_sound}
-use Rattle.desk_clerk.proofs.PutIn.{puts}
+use Rattle.desk_records.proofs.Few.{few_of_sound}
+use Rattle.desk_records.proofs.PutIn.{puts}
 use Rattle.desk_report.specs.File.{AreAllOf, in_table, table_at, tables_in}
 use Rattle.desk_report.specs.Lines.{line_of, record_lines, sorted}
 use Rattle.desk_report.proofs.Parts.{parts_at}

@@ -1,12 +1,11 @@
 -- The export file of a desk: a line for each record, in the order of their keys.
 use Rattle.std.specs.Prelude.{◌≡◌, ℕ, List, [], ◌∷◌, length, map, slice_index_or}
-use Rattle.desk_clerk.specs.Opening.{content_in}
 use Rattle.desk_edge.specs.Content.{Content, IsSame, key_cmp, key_of}
 use Rattle.desk_edge.specs.declared.record.Record.{Record}
 use Rattle.desk_model.specs.Lists.{Lists}
 use Rattle.desk_model.specs.declared.row.Row.{Row}
 use Rattle.desk_model.specs.declared.row.Row.TheVariants.{Substance, Member, Material, Part, Line, Product, Exemption, Candidate, Shipment, Ticket}
-use Rattle.desk_records.specs.Records.{record_of, tables_content}
+use Rattle.desk_records.specs.Records.{content_in, record_of, tables_content}
 use Rattle.desk_rows.specs.Rows.{IsByKey}
 use Rattle.desk_report.specs.Lines.{record_lines}
 

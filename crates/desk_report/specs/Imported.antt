@@ -1,12 +1,9 @@
 -- What an import reads, and what it leaves.
 use Rattle.std.specs.Prelude.{◌≡◌, ◌≢◌, ◌⊎◌, ℕ, ◌+◌, ◌≤◌, List, [], ◌++◌, Option, length}
 use Rattle.std.specs.Io.KnownBytes.{Consumes, IsAtEnd}
-use Rattle.desk_clerk.specs.Opening.{content_in}
-use Rattle.desk_edge.specs.Content.{IsSame, key_cmp, key_of}
+use Rattle.desk_edge.specs.Content.{key_cmp, key_of}
 use Rattle.desk_edge.specs.declared.record.Record.{Record}
-use Rattle.desk_history.specs.Sound.{Sound}
-use Rattle.desk_model.specs.Lists.{Lists}
-use Rattle.desk_records.specs.Records.{tables_content}
+use Rattle.desk_records.specs.Damage.{AreOfNoTables, IsUnsoundAt}
 use Rattle.desk_rows.specs.Rows.{IsByKey}
 use Rattle.desk_report.specs.Lines.{record_lines}
 use Rattle.desk_report.specs.Reading.{AreInOrder, HasBadLine, HasNoLineEnd}
@@ -34,12 +31,15 @@ pub record EndsInside (bytes : List ℕ) (line : ℕ) : Type 0 where
   pub one_line : HasNoLineEnd held
   pub number : line ≡ length records + 1
 
--- all lines are good, but no sound tables have their records
+-- all lines are good, but some row breaks a clause of soundness, and no sound tables have their records
 pub record AreUnsound (bytes : List ℕ) : Type 0 where
   pub records : List Record
   pub before : AreInOrder records
   pub lines : bytes ≡ record_lines records
-  pub none : (t : Lists) → Sound t → IsSame (tables_content t) (content_in records) → ⊥
+  pub kind : ℕ
+  pub code : List ℕ
+  pub breach : IsUnsoundAt records kind code
+  pub none : AreOfNoTables records
 
 -- the bytes are no export file: the line of this number is the first that isn't a record's, or it is 0, and the records aren't those
 -- of sound tables

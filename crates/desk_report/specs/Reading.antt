@@ -16,13 +16,13 @@ abbrev pub HasNoLineEnd : List ℕ → Type 0
 HasNoLineEnd bytes = All (λ b. (b == 10) ≡ false) bytes
 
 -- the kind that the digits write: a number below 256
-abbrev pub kind_in : List ℕ → Option ℕ
-kind_in digits = result_ok (number_below 256 digits)
+abbrev pub kind_written : List ℕ → Option ℕ
+kind_written digits = result_ok (number_below 256 digits)
 
 -- the record of a line's fields: its kind, its code, and its body, which is the others
 abbrev pub record_of_fields : List (List ℕ) → Option Record
 record_of_fields (kind ∷ code ∷ field ∷ fields) =
-    option_map (λ k. record { kind = k; code = code; body = join_with_byte 9 (field ∷ fields) }) (kind_in kind)
+    option_map (λ k. record { kind = k; code = code; body = join_with_byte 9 (field ∷ fields) }) (kind_written kind)
 record_of_fields fields = None
 
 -- the record whose line, without its LF, these bytes are

@@ -1,7 +1,7 @@
-ghost use Rattle.std.specs.Prelude.{◌≡◌, ◌≢◌, ℕ, ◌≤◌, List, length, Err, IfOk, IsErrOf, OnErr, OnOk};
+ghost use Rattle.std.specs.Prelude.{◌≡◌, ◌≢◌, ℕ, List, length, Err, IfOk, IsErrOf, OnErr, OnOk};
 ghost use Rattle.std.specs.Io.KnownBytes.{Appends};
 ghost use Rattle.desk_edge.specs.Content.{HaveDistinctKeys};
-ghost use Rattle.desk_edge.specs.Faults.{Rose};
+ghost use Rattle.desk_edge.specs.Faults.{CountsFaults};
 ghost use Rattle.desk_edge.specs.Transfer.{AppendsBeginning};
 ghost use Rattle.desk_history.specs.Sound.{Sound};
 ghost use Rattle.desk_report.specs.File.{IsFileOf, table_at};
@@ -35,9 +35,7 @@ pub fn export<L: Link>(alloc: Global, tables: &Tables, link: &mut L) -> Result<u
     ensures causes { (result ≢ Err ReportFault.KeeperFault) × (result ≢ Err ReportFault.NotEmpty) × (result ≢ Err ReportFault.TooLong) }
     ensures undamaged { (n : ℕ) → result ≢ Err (ReportFault.Damaged n) }
     ensures input_stays { L.unread link.new ≡ L.unread link.old }
-    ensures never_falls { L.faults link.old ≤ L.faults link.new }
-    ensures steady { result ≢ Err ReportFault.LinkFault → L.faults link.new ≡ L.faults link.old }
-    ensures failed { IsErrOf result ReportFault.LinkFault → Rose (L.faults link.old) (L.faults link.new) }
+    ensures faults { CountsFaults (IsErrOf result ReportFault.LinkFault) (L.faults link.old) (L.faults link.new) }
 {
     let mut number = 0;
     for place in 0..TABLES {
@@ -61,9 +59,7 @@ fn write_table<L: Link>(
     ensures causes { (result ≢ Err ReportFault.KeeperFault) × (result ≢ Err ReportFault.NotEmpty) × (result ≢ Err ReportFault.TooLong) }
     ensures undamaged { (n : ℕ) → result ≢ Err (ReportFault.Damaged n) }
     ensures input_stays { L.unread link.new ≡ L.unread link.old }
-    ensures never_falls { L.faults link.old ≤ L.faults link.new }
-    ensures steady { result ≢ Err ReportFault.LinkFault → L.faults link.new ≡ L.faults link.old }
-    ensures failed { IsErrOf result ReportFault.LinkFault → Rose (L.faults link.old) (L.faults link.new) }
+    ensures faults { CountsFaults (IsErrOf result ReportFault.LinkFault) (L.faults link.old) (L.faults link.new) }
 {
     let records = in_order(table_records(alloc, tables, place)?);
     write_lines(alloc, records.as_slice(), link)?;
@@ -87,9 +83,7 @@ fn write_lines<L: Link>(alloc: Global, records: &[Record], link: &mut L) -> Resu
     ensures causes { (result ≢ Err ReportFault.KeeperFault) × (result ≢ Err ReportFault.NotEmpty) × (result ≢ Err ReportFault.TooLong) }
     ensures undamaged { (n : ℕ) → result ≢ Err (ReportFault.Damaged n) }
     ensures input_stays { L.unread link.new ≡ L.unread link.old }
-    ensures never_falls { L.faults link.old ≤ L.faults link.new }
-    ensures steady { result ≢ Err ReportFault.LinkFault → L.faults link.new ≡ L.faults link.old }
-    ensures failed { IsErrOf result ReportFault.LinkFault → Rose (L.faults link.old) (L.faults link.new) }
+    ensures faults { CountsFaults (IsErrOf result ReportFault.LinkFault) (L.faults link.old) (L.faults link.new) }
 {
     for few in records.chunks(LINES) {
         write_few(alloc, few, link)?;
@@ -104,9 +98,7 @@ fn write_few<L: Link>(alloc: Global, records: &[Record], link: &mut L) -> Result
     ensures causes { (result ≢ Err ReportFault.KeeperFault) × (result ≢ Err ReportFault.NotEmpty) × (result ≢ Err ReportFault.TooLong) }
     ensures undamaged { (n : ℕ) → result ≢ Err (ReportFault.Damaged n) }
     ensures input_stays { L.unread link.new ≡ L.unread link.old }
-    ensures never_falls { L.faults link.old ≤ L.faults link.new }
-    ensures steady { result ≢ Err ReportFault.LinkFault → L.faults link.new ≡ L.faults link.old }
-    ensures failed { IsErrOf result ReportFault.LinkFault → Rose (L.faults link.old) (L.faults link.new) }
+    ensures faults { CountsFaults (IsErrOf result ReportFault.LinkFault) (L.faults link.old) (L.faults link.new) }
 {
     let lines = lines_of(alloc, records)?;
     write_all(link, lines.as_slice())?;

@@ -1,6 +1,6 @@
 ghost use Rattle.std.specs.Prelude.{◌≡◌, ◌==◌, [], ◌∷◌, IfOk, MatchOption, position};
 ghost use Rattle.std.specs.List.{slice_split};
-ghost use Rattle.desk_report.specs.Reading.{kind_in, record_in};
+ghost use Rattle.desk_report.specs.Reading.{kind_written, record_in};
 
 use desk_edge::Record;
 use desk_text::{Bytes, OutOfMemory, read_u64};
@@ -18,7 +18,7 @@ pub(crate) fn record_in(alloc: Global, line: &[u8]) -> Result<Option<Record>, Ou
     let Some((code, body)) = cut(rest) else {
         return Ok(None);
     };
-    let Some(kind) = kind_in(kind) else {
+    let Some(kind) = kind_written(kind) else {
         return Ok(None);
     };
     Ok(Some(Record {
@@ -30,8 +30,8 @@ pub(crate) fn record_in(alloc: Global, line: &[u8]) -> Result<Option<Record>, Ou
 
 /// The kind that the digits write.
 #[tactic(auto, unfolding(desk_text::specs::Number::number_below))]
-fn kind_in(digits: &[u8]) -> Option<u8>
-    ensures { result ≡ kind_in digits.now }
+fn kind_written(digits: &[u8]) -> Option<u8>
+    ensures { result ≡ kind_written digits.now }
 {
     match read_u64(digits) {
         Ok(number) => u8::try_from(number).ok(),

@@ -1,16 +1,16 @@
 ghost use Rattle.std.specs.Prelude.{◌≡◌, ◌≢◌, ℕ, ◌+◌, [], ◌∷◌, ◌++◌, Err, IfNone, IfOk, IfSome, List, length};
-ghost use Rattle.desk_clerk.specs.Opening.{content_in};
 ghost use Rattle.desk_edge.specs.Content.{IsSame, key_cmp, key_of};
 ghost use Rattle.desk_history.specs.Sound.{Sound};
 ghost use Rattle.desk_model.specs.Lists.{Lists};
-ghost use Rattle.desk_records.specs.Records.{tables_content};
+ghost use Rattle.desk_records.specs.Records.{content_in, tables_content};
 ghost use Rattle.desk_report.specs.Imported.{IsDamagedLine};
 ghost use Rattle.desk_report.specs.Reading.{HasBadLine, HasNoLineEnd, IsReadTo};
 ghost use Rattle.desk_rows.specs.Rows.{IsByKey};
 
-use crate::next_row::next_row;
+use crate::next_record::next_record;
 use crate::report_fault::ReportFault;
 use desk_edge::Record;
+use desk_records::{RecordFault, put_record, sound_tables};
 use desk_tables::{Gathering, SoundFault};
 use desk_text::{Bytes, OutOfMemory};
 use std::alloc::Global;
@@ -35,8 +35,8 @@ impl Drop for GoodLines {
 }
 
 impl Model for GoodLines {
-    ghost use Rattle.desk_clerk.specs.Opening.{AreTablesOf};
     ghost use Rattle.desk_edge.specs.Content.{key_cmp, key_of};
+    ghost use Rattle.desk_records.specs.Damage.{AreTablesOf};
     ghost use Rattle.desk_report.specs.Reading.{GoodRead, HasNoLineEnd};
     ghost use Rattle.desk_rows.specs.Rows.{IsByKey};
 
@@ -90,16 +90,22 @@ impl GoodLines {
             held,
         } = self;
         let (mut records, mut tables) = (records, tables);
-        let Some((kept, row)) = next_row(alloc, records.as_slice(), held.as_slice())? else {
+        let Some(kept) = next_record(alloc, records.as_slice(), held.as_slice())? else {
             return Ok(None);
         };
-        records.push(kept)?;
-        tables.put(row)?;
-        Ok(Some(GoodLines {
-            records,
-            tables,
-            held: Bytes::start(alloc),
-        }))
+        match put_record(alloc, &mut tables, &kept) {
+            Ok(()) => {
+                records.push(kept)?;
+                Ok(Some(GoodLines {
+                    records,
+                    tables,
+                    held: Bytes::start(alloc),
+                }))
+            }
+            Err(RecordFault::Version) => Ok(None),
+            Err(RecordFault::Shape) => Ok(None),
+            Err(RecordFault::OutOfMemory) => Err(OutOfMemory),
+        }
     }
 
     /// The records of the lines, at the end of the input: no line is begun, and the records are those of sound tables.
@@ -128,11 +134,8 @@ impl GoodLines {
                 line: records.len() as u64 + 1,
             });
         }
-        let tables = tables.into_tables();
-        // The call does nothing but say that the lists stand in order.
-        tables.in_order();
-        match tables.is_sound(alloc) {
-            Ok(()) => Ok(records),
+        match sound_tables(alloc, tables) {
+            Ok(_) => Ok(records),
             Err(SoundFault::Unsound { .. }) => Err(ReportFault::Damaged { line: 0 }),
             Err(SoundFault::OutOfMemory) => Err(ReportFault::OutOfMemory),
         }

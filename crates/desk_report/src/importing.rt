@@ -1,9 +1,7 @@
-ghost use Rattle.std.specs.Prelude.{◌≡◌, ◌≢◌, ℕ, ◌+◌, ◌≤◌, List, length, map, true, false, Err, IfOk, IsErrOf, OnErr};
+ghost use Rattle.std.specs.Prelude.{◌≡◌, ◌≢◌, ℕ, ◌+◌, ◌≤◌, List, length, true, false, Err, IfOk, IsErrOf, OnErr};
 ghost use Rattle.std.specs.Io.KnownBytes.{Consumes, IsAtEnd};
-ghost use Rattle.desk_clerk.specs.Opening.{IsEmpty};
-ghost use Rattle.desk_edge.specs.Content.{IsSame};
-ghost use Rattle.desk_edge.specs.Faults.{Rose};
-ghost use Rattle.desk_edge.specs.declared.change.Change.TheVariants.{Put};
+ghost use Rattle.desk_edge.specs.Content.{IsEmpty, IsSame};
+ghost use Rattle.desk_edge.specs.Faults.{CountsFaults};
 ghost use Rattle.desk_history.specs.Sound.{Sound};
 ghost use Rattle.desk_model.specs.Lists.{Lists};
 ghost use Rattle.desk_records.specs.Records.{tables_content};
@@ -12,8 +10,8 @@ ghost use Rattle.desk_report.specs.Imported.{IsDamagedLine, import_limit};
 
 use crate::reading::read_file;
 use crate::report_fault::ReportFault;
-use desk_edge::{Change, KeepFault, Keeper, Link, Record};
-use desk_text::OutOfMemory;
+use desk_edge::{KeepFault, Keeper, Link};
+use desk_records::puts;
 use std::alloc::Global;
 
 /// Reads the link to its end as an export file, puts its records into the store, which has none before, in one commit, and answers
@@ -47,12 +45,8 @@ pub fn import<K: Keeper, L: Link>(
     ensures err { OnErr result (K.Tells keeper.new → IsSame (K.content keeper.old) (K.content keeper.new)) }
     ensures told { K.Tells keeper.new → K.Tells keeper.old }
     ensures output_stays { L.written link.new ≡ L.written link.old }
-    ensures keeper_never_falls { K.faults keeper.old ≤ K.faults keeper.new }
-    ensures keeper_steady { result ≢ Err ReportFault.KeeperFault → K.faults keeper.new ≡ K.faults keeper.old }
-    ensures keeper_failed { IsErrOf result ReportFault.KeeperFault → Rose (K.faults keeper.old) (K.faults keeper.new) }
-    ensures link_never_falls { L.faults link.old ≤ L.faults link.new }
-    ensures link_steady { result ≢ Err ReportFault.LinkFault → L.faults link.new ≡ L.faults link.old }
-    ensures link_failed { IsErrOf result ReportFault.LinkFault → Rose (L.faults link.old) (L.faults link.new) }
+    ensures keeper_faults { CountsFaults (IsErrOf result ReportFault.KeeperFault) (K.faults keeper.old) (K.faults keeper.new) }
+    ensures link_faults { CountsFaults (IsErrOf result ReportFault.LinkFault) (L.faults link.old) (L.faults link.new) }
 {
     if !is_empty(alloc, keeper)? {
         return Err(ReportFault::NotEmpty);
@@ -73,23 +67,10 @@ fn is_empty<K: Keeper>(alloc: Global, keeper: &mut K) -> Result<bool, KeepFault>
     ensures no { IfOk result (λ is. is ≡ false → K.Tells keeper.new → IsEmpty (K.content keeper.new) → ⊥) }
     ensures told { K.Tells keeper.new → K.Tells keeper.old }
     ensures stays { K.Tells keeper.new → IsSame (K.content keeper.old) (K.content keeper.new) }
-    ensures never_falls { K.faults keeper.old ≤ K.faults keeper.new }
-    ensures steady { result ≢ Err KeepFault.Failed → K.faults keeper.new ≡ K.faults keeper.old }
-    ensures failed { IsErrOf result KeepFault.Failed → Rose (K.faults keeper.old) (K.faults keeper.new) }
+    ensures faults { CountsFaults (IsErrOf result KeepFault.Failed) (K.faults keeper.old) (K.faults keeper.new) }
 {
     match keeper.next_record(alloc, None)? {
         Some(_) => Ok(false),
         None => Ok(true),
     }
-}
-
-/// Each of the records is put.
-fn puts(alloc: Global, records: Vec<Record>) -> Result<Vec<Change>, OutOfMemory>
-    ensures { IfOk result (λ changes. changes.items ≡ map (λ kept. Put kept) records.items) }
-{
-    let mut changes = Vec::new(alloc);
-    for kept in records {
-        changes.push(Change::Put(kept))?;
-    }
-    Ok(changes)
 }

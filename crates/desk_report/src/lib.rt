@@ -7,7 +7,7 @@ mod good_lines;
 mod importing;
 mod line;
 mod lines;
-mod next_row;
+mod next_record;
 mod reading;
 mod report_fault;
 mod table_records;

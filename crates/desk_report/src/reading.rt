@@ -1,11 +1,10 @@
 ghost use Rattle.std.specs.Prelude.{◌≡◌, ◌≢◌, ℕ, ◌+◌, ◌≤◌, List, length, Err, IfOk, IsErrOf};
 ghost use Rattle.std.specs.Io.KnownBytes.{Consumes, IsAtEnd};
-ghost use Rattle.desk_clerk.specs.Opening.{content_in};
 ghost use Rattle.desk_edge.specs.Content.{IsSame};
-ghost use Rattle.desk_edge.specs.Faults.{Rose};
+ghost use Rattle.desk_edge.specs.Faults.{CountsFaults};
 ghost use Rattle.desk_history.specs.Sound.{Sound};
 ghost use Rattle.desk_model.specs.Lists.{Lists};
-ghost use Rattle.desk_records.specs.Records.{tables_content};
+ghost use Rattle.desk_records.specs.Records.{content_in, tables_content};
 ghost use Rattle.desk_report.specs.Imported.{IsDamagedLine, IsRead, import_limit};
 ghost use Rattle.desk_report.specs.ReadLines.{AreLinesOf};
 
@@ -36,9 +35,7 @@ pub(crate) fn read_file<L: Link>(alloc: Global, link: &mut L) -> Result<Vec<Reco
     ensures taken { (bytes : List ℕ) × Consumes (L.unread link.old) (L.unread link.new) bytes × (length bytes ≤ import_limit + 1) }
     ensures causes { (result ≢ Err ReportFault.KeeperFault) × (result ≢ Err ReportFault.NotEmpty) }
     ensures output_stays { L.written link.new ≡ L.written link.old }
-    ensures never_falls { L.faults link.old ≤ L.faults link.new }
-    ensures steady { result ≢ Err ReportFault.LinkFault → L.faults link.new ≡ L.faults link.old }
-    ensures failed { IsErrOf result ReportFault.LinkFault → Rose (L.faults link.old) (L.faults link.new) }
+    ensures faults { CountsFaults (IsErrOf result ReportFault.LinkFault) (L.faults link.old) (L.faults link.new) }
 {
     match read_lines(alloc, link) {
         Ok(Lines::Good(good)) => good.into_records(alloc),
@@ -59,9 +56,7 @@ fn read_lines<L: Link>(alloc: Global, link: &mut L) -> Result<Lines, ReportFault
     ensures causes { (result ≢ Err ReportFault.KeeperFault) × (result ≢ Err ReportFault.NotEmpty) }
     ensures undamaged { (n : ℕ) → result ≢ Err (ReportFault.Damaged n) }
     ensures output_stays { L.written link.new ≡ L.written link.old }
-    ensures never_falls { L.faults link.old ≤ L.faults link.new }
-    ensures steady { result ≢ Err ReportFault.LinkFault → L.faults link.new ≡ L.faults link.old }
-    ensures failed { IsErrOf result ReportFault.LinkFault → Rose (L.faults link.old) (L.faults link.new) }
+    ensures faults { CountsFaults (IsErrOf result ReportFault.LinkFault) (L.faults link.old) (L.faults link.new) }
 {
     let mut lines = Lines::Good(GoodLines::start(alloc));
     let mut chunk = [0; CHUNK];

@@ -4,9 +4,9 @@ use Rattle.desk_model.specs.Lists.{Lists}
 use Rattle.desk_history.specs.Sound.{Sound}
 use Rattle.desk_records.specs.Records.{tables_content}
 use Rattle.desk_records.proofs.InForm.{all_in_form}
+use Rattle.desk_records.proofs.GatheredTables.{form_of}
+use Rattle.desk_records.proofs.OneDesk.{one_desk}
 use Rattle.desk_clerk.specs.Opening.{IsOpenedAs}
-use Rattle.desk_clerk.proofs.OneDesk.{one_desk}
-use Rattle.desk_clerk.proofs.Unsound.{form_of}
 use Rattle.desk_clerk.proofs.laws.stores_tell_one_desk.Goals as goal
 
 -- sound tables that keep the same records are the same tables

@@ -30,19 +30,19 @@ pub returns-else-number-eq0-clause-opened : goal.returns-else-number-eq0-clause-
 returns-else-number-eq0-clause-opened g c =
     let (records, number, made, were) = c.in_ok-number.ensures.read in
     let content = g.K.Keeper.content c.args.keeper.now in
-    if_ok c.into_engine.result
+    if_ok c.engine_of.result
     (λ tables sound same t.
     let read = is_read content (g.K.Keeper.content c.read_stored.new.keeper) records (c.read_stored.ensures.stays t) (were.first t) in
     opened_as content records (lists_of tables) read (some_read records c.in_ok-number.number number c.if-number-eq0.false) were.by_key sound (same records were.by_key made))
-    c.into_engine.ensures.sound c.into_engine.ensures.same
+    c.engine_of.ensures.sound c.engine_of.ensures.same
 
 pub returns-else-number-eq0-clause-kept : goal.returns-else-number-eq0-clause-kept
 returns-else-number-eq0-clause-kept g c =
     let (records, number, made, were) = c.in_ok-number.ensures.read in
     let content = g.K.Keeper.content c.read_stored.new.keeper in
-    if_ok c.into_engine.result
+    if_ok c.engine_of.result
     (λ tables sound same t. same_kept content records (lists_of tables) (is_read content content records (λ key. refl) (were.first t)) were.by_key sound (same records were.by_key made))
-    c.into_engine.ensures.sound c.into_engine.ensures.same
+    c.engine_of.ensures.sound c.engine_of.ensures.same
 
 pub returns-else-number-eq0-clause-damaged : goal.returns-else-number-eq0-clause-damaged
 returns-else-number-eq0-clause-damaged g c = λ kind code e.
@@ -52,7 +52,7 @@ returns-else-number-eq0-clause-damaged g c = λ kind code e.
       by_key = were.by_key;
       within = were.within;
       read = λ t. is_read (g.K.Keeper.content c.args.keeper.now) (g.K.Keeper.content c.read_stored.new.keeper) records (c.read_stored.ensures.stays t) (were.first t);
-      damage = c.into_engine.ensures.damage kind code e records were.by_key made;
+      damage = c.engine_of.ensures.damage kind code e records were.by_key made;
     }
 
 pub returns-else-number-eq0-clause-not_sound : goal.returns-else-number-eq0-clause-not_sound
@@ -61,4 +61,4 @@ returns-else-number-eq0-clause-not_sound g c = λ kind code e t.
     not_opened (g.K.Keeper.content c.args.keeper.now) records
     (is_read (g.K.Keeper.content c.args.keeper.now) (g.K.Keeper.content c.read_stored.new.keeper) records (c.read_stored.ensures.stays t) (were.first t))
     (some_read records c.in_ok-number.number number c.if-number-eq0.false)
-    were.by_key (c.into_engine.ensures.not_sound kind code e records were.by_key made)
+    were.by_key (c.engine_of.ensures.not_sound kind code e records were.by_key made)

@@ -5,9 +5,8 @@ use Rattle.desk_edge.specs.Content.{key_cmp, key_of, is_past, IsFirstPast}
 use Rattle.desk_edge.specs.declared.key.Key.{Key}
 use Rattle.desk_edge.proofs.Keys.{key_order}
 use Rattle.desk_rows.proofs.Order.{none_by_key}
-use Rattle.desk_clerk.specs.Opening.{content_in}
-use Rattle.desk_clerk.specs.Reading.{is_past_all}
-use Rattle.desk_clerk.proofs.FirstRecords.{by_key_append, none_where, nothing_before, past_last, read_on, read_whole}
+use Rattle.desk_records.specs.Records.{content_in, is_past_all}
+use Rattle.desk_records.proofs.FirstRecords.{by_key_append, none_where, nothing_before, past_last, read_on, read_whole}
 use Rattle.desk_clerk.proofs.reading.read_stored.Goals as goal
 
 pub reading-init : goal.reading-init
@@ -16,7 +15,7 @@ reading-init g c = record {
   by_key = none_by_key key_of key_cmp key_order;
   number = refl;
   within = omega arith;
-  made = c.start-stored.ensures;
+  made = c.start-gathered.ensures;
   after = λ key. refl;
   so_far = λ t key before. nothing_before (g.K.Keeper.content c.args.keeper.now) [] key refl before;
   told = λ t. t;
@@ -58,8 +57,8 @@ reading-preserved g c =
       by_key = by_key_append records kept c.reading.invariant.by_key past;
       number = omega (arith, c.reading.invariant.number, length-append records (kept ∷ []));
       within = omega (arith, c.reading-test.true);
-      made = c.in_ok-stored.ensures.made records c.reading.invariant.made;
-      after = λ key. ap (λ j. is_lt (key_cmp j key)) c.in_ok-key.ensures ∙ past_last records kept key past;
+      made = c.in_ok-gathered.ensures.gathered records c.reading.invariant.made;
+      after = λ key. ap (λ j. is_lt (key_cmp j key)) c.in_ok-copied_key.ensures ∙ past_last records kept key past;
       so_far = λ t.
           let first : IsFirstPast content c.reading.after (Some kept) =
           subst (λ after. IsFirstPast content after (Some kept)) c.as_ref.ensures.value
@@ -69,7 +68,7 @@ reading-preserved g c =
           read_on content c.reading.after records kept c.reading.invariant.after later first so;
       told = λ t. c.reading.invariant.told (c.next_record.ensures.told t);
       stays = λ t key. c.next_record.ensures.stays t key ∙ c.reading.invariant.stays (c.next_record.ensures.told t) key;
-      count = c.next_record.ensures.steady (λ e. not_ok (sym c.in_ok-kept.was ∙ e)) ∙ c.reading.invariant.count;
+      count = c.next_record.ensures.faults.steady (λ e. not_ok (sym c.in_ok-kept.was ∙ e)) ∙ c.reading.invariant.count;
     }
   where
     not_ok : {X : Type 0} {E : Type 0} {x : X} {e : E} → Ok x ≡ Err e → ⊥

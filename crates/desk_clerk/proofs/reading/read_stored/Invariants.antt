@@ -4,9 +4,8 @@ use Rattle.desk_edge.specs.Content.{IsSame, is_past, key_cmp, key_of}
 use Rattle.desk_edge.specs.declared.key.Key.{Key}
 use Rattle.desk_edge.specs.declared.record.Record.{Record}
 use Rattle.desk_rows.specs.Rows.{IsByKey}
-use Rattle.desk_clerk.specs.Opening.{content_in}
-use Rattle.desk_clerk.specs.Reading.{is_past_all}
-use Rattle.desk_clerk.specs.Stored.{IsMadeOf}
+use Rattle.desk_records.specs.Gathered.{IsGatheredOf}
+use Rattle.desk_records.specs.Records.{content_in, is_past_all}
 use Rattle.desk_clerk.proofs.reading.read_stored.Given as goal
 
 abbrev pub invariant-reading : goal.invariant-reading
@@ -15,7 +14,7 @@ invariant-reading g l = record {
   by_key : IsByKey key_of key_cmp records;
   number : l.number ≡ length records;
   within : l.number ≤ l.most;
-  made : IsMadeOf records l.stored;
+  made : IsGatheredOf records l.gathered;
   after : (key : Key) → is_past l.after key ≡ is_past_all records key;
   so_far : g.K.Keeper.Tells l.keeper → (key : Key) → is_past_all records key ≡ false → g.K.Keeper.content l.keeper key ≡ content_in records key;
   told : g.K.Keeper.Tells l.keeper → g.K.Keeper.Tells l.fn.keeper;

@@ -45,7 +45,7 @@ loop-place-preserved g c =
           (Appends-trans _ _ _ (record_lines (flat_map sorted (take place (tables_in t)))) (record_lines (sorted (table_at t place))) so_far c.in_ok-number.ensures.ok),
       (λ i. number i + c.in_ok-number.ensures.number i) ∙ sym (number_more t place inside),
       c.write_table.ensures.input_stays ∙ input,
-      c.in_ok-number.ensures.steady (λ other. cc other) ∙ count,
+      c.in_ok-number.ensures.faults.steady (λ failed. cc) ∙ count,
     )
 
 pub returns-clause-file : goal.returns-clause-file

@@ -29,7 +29,7 @@ loop-few-preserved g c =
             ∙ sym (append_assoc front (record_lines few) (record_lines rest)),
       ),
       c.write_few.ensures.input_stays ∙ input,
-      c.in_ok-write_few.ensures.steady (λ other. cc other) ∙ count,
+      c.in_ok-write_few.ensures.faults.steady (λ failed. cc) ∙ count,
     )
 
 pub returns-in_err-write_few-clause-beginning : goal.returns-in_err-write_few-clause-beginning

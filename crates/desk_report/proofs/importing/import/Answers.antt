@@ -1,7 +1,7 @@
 -- The records that were read are put where nothing was kept, so that they are what is kept then.
 use Rattle.std.proofs.Common.{◌∙◌, None, ap, sym}
-use Rattle.desk_edge.specs.Content.{changed_all}
-use Rattle.desk_clerk.proofs.PutIn.{apart_by_key, puts}
+use Rattle.desk_edge.specs.Content.{body_after_all}
+use Rattle.desk_records.proofs.PutIn.{apart_by_key, puts}
 use Rattle.desk_report.proofs.importing.import.Goals as goal
 
 pub returns-clause-file : goal.returns-clause-file
@@ -23,8 +23,8 @@ returns-clause-file g c =
       },
       λ tells key.
           c.in_ok-commit.ensures.ok tells key
-          ∙ ap (changed_all c.as_slice.result.now key) (c.in_ok-is_empty.ensures.yes c.if-not-branch.false (c.commit.ensures.told tells) key)
-          ∙ ap (λ batch. changed_all batch key None) (c.as_slice.ensures.value ∙ c.in_ok-changes.ensures)
+          ∙ ap (body_after_all c.as_slice.result.now key) (c.in_ok-is_empty.ensures.yes c.if-not-branch.false (c.commit.ensures.told tells) key)
+          ∙ ap (λ batch. body_after_all batch key None) (c.as_slice.ensures.value ∙ c.in_ok-changes.ensures)
           ∙ puts records key (apart_by_key records file.by_key)
           ∙ same key,
     )

@@ -32,5 +32,5 @@ reading-preserved g c =
       simp length-append (omega (arith, length-take {A = ℕ}, len, c.in_ok-given.ensures.within)),
       with_given bytes c.read.new.into _ c.in_ok-given.given c.in_ok-lines.lines c.in_ok-given.ensures.within (c.in_ok-lines.ensures bytes are),
       c.read.ensures.output_stays ∙ written,
-      c.in_ok-given.ensures.steady ∙ count,
+      c.in_ok-given.ensures.faults.steady (λ failed. cc) ∙ count,
     )

@@ -1,5 +1,5 @@
 -- What an edit with a plan leaves.
-use Rattle.std.proofs.Common.{◌≡◌, None, Some, Err, is_ok, true, sym, ap, subst, ◌∙◌}
+use Rattle.std.proofs.Common.{◌≡◌, None, Some, Err, is_ok, true, sym, ap, subst, rules, ◌∙◌}
 use Rattle.desk_edge.specs.Content.{IsSame}
 use Rattle.desk_history.specs.Sound.{Sound}
 use Rattle.desk_history.specs.Step.{kept_number, step}
@@ -30,9 +30,13 @@ pub returns-in-Err-clause-no_rule : goal.returns-in-Err-clause-no_rule
 returns-in-Err-clause-no_rule g c = λ fault n told.
     c.keep.ensures.no_rule fault n (c.in-Err.is ∙ ap (λ f. Err f) (handed c.in-Err.fault (submit_fault.Rule fault n) told))
 
-pub returns-in-Err-clause-steady : goal.returns-in-Err-clause-steady
-returns-in-Err-clause-steady g c = λ other.
-    c.keep.ensures.steady (not_failed c.keep.result c.in-Err.fault c.in-Err.is other) ∙ ap (λ desk. g.K.Keeper.faults desk.keeper) c.self.view_is
+pub returns-in-Err-clause-faults : goal.returns-in-Err-clause-faults
+returns-in-Err-clause-faults g c = record {
+  never_falls = search rules;
+  steady = λ other.
+      c.keep.ensures.faults.steady (not_failed c.keep.result c.in-Err.fault c.in-Err.is other) ∙ ap (λ desk. g.K.Keeper.faults desk.keeper) c.self.view_is;
+  rises = search rules;
+}
 
 pub returns-in-Err-clause-asked : goal.returns-in-Err-clause-asked
 returns-in-Err-clause-asked g c = λ failed.

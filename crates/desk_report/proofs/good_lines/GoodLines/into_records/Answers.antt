@@ -1,9 +1,6 @@
 -- The input ends inside a line, or its records are those of the gathered tables, and of no others.
 use Rattle.std.proofs.Common.{◌∙◌, ◌+◌, ◌++◌, Err, ap, append-nil, inl, inr, subst, sym}
 use Rattle.std.proofs.lemmas.Bool.{false≢true}
-use Rattle.desk_clerk.specs.Opening.{AreTablesOf}
-use Rattle.desk_clerk.proofs.Unsound.{gathered_same, gathered_sound}
-use Rattle.desk_history.specs.Sound.{Sound}
 use Rattle.desk_report.specs.Lines.{record_lines}
 use Rattle.desk_report.specs.Reading.{IsReadTo}
 use Rattle.desk_report.proofs.BadLines.{in_order}
@@ -30,14 +27,16 @@ pub returns-in-Ok-clause-sound : goal.returns-in-Ok-clause-sound
 returns-in-Ok-clause-sound c =
     let (by_key, are, one_line) = c.self.invariant in
     let inside = c.self.inside in
-    (inside.tables, subst Sound c.into_tables-tables.ensures c.in-Ok.ensures.sound, λ key. sym (gathered_same inside.records.items inside.tables by_key are key))
+    (c.in-Ok.field-0.lists, c.in-Ok.ensures.sound, λ key. sym (c.in-Ok.ensures.same inside.records.items by_key are key))
 
 pub returns-in-Err-Unsound-clause-damaged : goal.returns-in-Err-Unsound-clause-damaged
 returns-in-Err-Unsound-clause-damaged c = λ line e bytes read.
     let (by_key, are, one_line) = c.self.invariant in
     let inside = c.self.inside in
     let front = record_lines inside.records.items in
-    let lists = c.into_tables-tables.result.lists in
+    let kind = c.in-Err-Unsound.field-0-0 in
+    let code = c.in-Err-Unsound.field-0-1 in
+    let refused = c.in-Err-Unsound.is ∙ ap (λ f. Err f) c.in-Err-Unsound.field-0-is in
     inr
     (inr (
       sym (same_line 0 line e),
@@ -45,8 +44,9 @@ returns-in-Err-Unsound-clause-damaged c = λ line e bytes read.
         records = inside.records.items;
         before = in_order inside.records.items inside.tables by_key are;
         lines = subst (IsReadTo bytes) (sym c.self.view_is) read ∙ ap (λ held. front ++ held) (c.is_empty.ensures.0 c.if-not-is_empty.false) ∙ append-nil front;
-        none = λ t sound same.
-            c.is_sound.ensures.unsound c.in-Err-Unsound.field-0-0 c.in-Err-Unsound.field-0-1 (c.in-Err-Unsound.is ∙ ap (λ f. Err f) c.in-Err-Unsound.field-0-is)
-            (gathered_sound inside.records.items lists by_key (subst (AreTablesOf inside.records.items) (sym c.into_tables-tables.ensures) are) c.in_order.ensures t sound (λ key. sym (same key)));
+        kind = kind;
+        code = code;
+        breach = c.sound_tables.ensures.told kind code refused inside.records.items by_key are;
+        none = c.sound_tables.ensures.not_sound kind code refused inside.records.items by_key are;
       },
     ))

@@ -4,8 +4,8 @@ use Rattle.std.specs.List.{All}
 use Rattle.std.proofs.lemmas.List.Elements.{All-nil}
 use Rattle.desk_edge.specs.Content.{key_cmp, key_of}
 use Rattle.desk_edge.proofs.Keys.{key_order}
-use Rattle.desk_clerk.specs.Opening.{AreTablesOf}
-use Rattle.desk_clerk.proofs.Making.{no_tables}
+use Rattle.desk_records.specs.Damage.{AreTablesOf}
+use Rattle.desk_records.proofs.Gatherings.{no_tables}
 use Rattle.desk_rows.specs.Rows.{IsByKey}
 use Rattle.desk_rows.proofs.Order.{none_by_key}
 use Rattle.desk_report.proofs.good_lines.GoodLines.start.Goals as goal
