@@ -8,8 +8,8 @@ use Rattle.desk_graph.specs.Reaches.{has_node, is_affected as is_affected_node, 
 use Rattle.desk_graph.proofs.Reached.{any_node-out, same_test}
 use Rattle.desk_rollup.proofs.Lists.{each_line, is_found}
 use Rattle.desk_rollup.proofs.OneNode.{step_stays}
-use Rattle.desk_rollup.specs.Plan.{CanPrepare, nodes_of}
-use Rattle.desk_rollup.specs.Values.{Kept, OwnValues, amount_of, own_at, own_with}
+use Rattle.desk_rollup.specs.Plan.{CanPrepare, nodes_of_owns}
+use Rattle.desk_rollup.specs.Values.{KeptValues, OwnValues, amount_of, own_at, own_with}
 use Rattle.desk_model.specs.declared.edit.Edit.{Edit}
 use Rattle.desk_model.specs.Effect.{entered}
 use Rattle.desk_model.specs.Lists.{Lists, is_kept}
@@ -38,7 +38,7 @@ none_of None e = refl
 none_of (Some x) e = absurd (true≢false e)
 
 -- the own values of a node that is given none
-own_kept : (owns kept : List OwnValues) (node : ℕ) → has_node (nodes_of owns) node ≡ false → own_with owns kept node ≡ own_at kept node
+own_kept : (owns kept : List OwnValues) (node : ℕ) → has_node (nodes_of_owns owns) node ≡ false → own_with owns kept node ≡ own_at kept node
 own_kept owns kept node e =
     ap (λ o. unwrap_or o (own_at kept node))
     (none_of (find (λ own. own.node == node) owns) (is_found (λ own. own.node == node) owns ∙ sym (any-map (λ other. other == node) (λ own. own.node) owns) ∙ e))
@@ -77,7 +77,7 @@ module _ (labels new : List (List ℕ)) (grown : length labels ≤ length new) (
 pub node_of : (t : Lists) (g : Graph) → IsBridge t g → (code : List ℕ) → is_kept t code ≡ true → (node : ℕ) × (node < length g.labels) × (label_of g.labels node ≡ code)
 node_of t g bridge code kept = label_place t g.labels (labels_of t g bridge) code kept
 
-module _ (t : Lists) (edit : Edit) (g new : Graph) (kept : Kept) (owns : List OwnValues) (edited : IsEdited t edit g new kept owns) where
+module _ (t : Lists) (edit : Edit) (g new : Graph) (kept : KeptValues) (owns : List OwnValues) (edited : IsEdited t edit g new kept owns) where
   abbrev u : Lists
   u = entered t edit
 
@@ -87,11 +87,11 @@ module _ (t : Lists) (edit : Edit) (g new : Graph) (kept : Kept) (owns : List Ow
   after_right : IsRight (entered t edit)
   after_right = right_tables (entered t edit) after_consistent
 
-  pub affected_agree : (node : ℕ) → node < length new.labels → is_affected_node new.lines (nodes_of owns) node ≡ is_affected t edit (label_of new.labels node)
+  pub affected_agree : (node : ℕ) → node < length new.labels → is_affected_node new.lines (nodes_of_owns owns) node ≡ is_affected t edit (label_of new.labels node)
   affected_agree node inside =
-      same_test (is_affected_node new.lines (nodes_of owns) node) (is_affected t edit (label_of new.labels node))
+      same_test (is_affected_node new.lines (nodes_of_owns owns) node) (is_affected t edit (label_of new.labels node))
       (λ e.
-      let found = any_node-out (λ seed. node_is_or_reaches new.lines node seed) (nodes_of owns) e in
+      let found = any_node-out (λ seed. node_is_or_reaches new.lines node seed) (nodes_of_owns owns) e in
       let at = edited.renewed.inside found.0 found.1 in
       let seed : is_affected t edit (label_of new.labels found.0) ≡ true = edited.renewed.affected found.0 found.1 in
       elim (or_cases (node == found.0) (node_reaches new.lines node found.0) found.2) [
@@ -100,10 +100,10 @@ module _ (t : Lists) (edit : Edit) (g new : Graph) (kept : Kept) (owns : List Ow
             rises t edit after_consistent (label_of new.labels node) (label_of new.labels found.0)
             (sym (reached_agree (entered t edit) after_right new edited.after found.0 at node inside) ∙ there) seed
       ])
-      (into_nodes t edit after_consistent new edited.after edited.passes.is_new (nodes_of owns) edited.renewed.seeds node inside)
+      (into_nodes t edit after_consistent new edited.after edited.passes.is_new (nodes_of_owns owns) edited.renewed.seeds node inside)
 
   -- what stays at a node that gets no own values
-  module _ (node : ℕ) (inside : node < length new.labels) (other : has_node (nodes_of owns) node ≡ false) where
+  module _ (node : ℕ) (inside : node < length new.labels) (other : has_node (nodes_of_owns owns) node ≡ false) where
     stay : KeepsOwn t edit (label_of new.labels node)
     stay = edited.renewed.others node inside other
 
@@ -142,10 +142,10 @@ module _ (t : Lists) (edit : Edit) (g new : Graph) (kept : Kept) (owns : List Ow
         })
 
   pub owns_after : (number : Finding → ℕ) (name : ℕ → List ℕ) → AreOwnOf t g number name (own_at kept.owns) →
-      ((node : ℕ) → has_node (nodes_of owns) node ≡ true → IsOwnOf (entered t edit) number name (label_of new.labels node) (own_with owns kept.owns node)) →
+      ((node : ℕ) → has_node (nodes_of_owns owns) node ≡ true → IsOwnOf (entered t edit) number name (label_of new.labels node) (own_with owns kept.owns node)) →
       AreOwnOf (entered t edit) new number name (own_with owns kept.owns)
   owns_after number name own given node inside =
-      elim (cases_Bool (has_node (nodes_of owns) node)) [
+      elim (cases_Bool (has_node (nodes_of_owns owns) node)) [
         | inl here ↦ given node here
         | inr other ↦ own_stays node inside other number name own
       ]
@@ -156,7 +156,7 @@ module _ (t : Lists) (edit : Edit) (g new : Graph) (kept : Kept) (owns : List Ow
     nodes = edited.renewed.inside;
     kept_nodes = omega (arith, edited.rolled.rolled_size, edited.nodes);
     new_nodes = λ node past inside.
-        elim (cases_Bool (has_node (nodes_of owns) node)) [
+        elim (cases_Bool (has_node (nodes_of_owns owns) node)) [
           | inl here ↦ here
           | inr other ↦ absurd (omega (arith, old node inside other, past, edited.rolled.rolled_size))
         ];

@@ -18,7 +18,7 @@ use Rattle.desk_graph.specs.declared.line.BillLine.{BillLine}
 use Rattle.desk_graph.specs.Bill.{IsBill}
 use Rattle.desk_graph.specs.Edits.{is_taken}
 use Rattle.desk_graph.specs.Graph.{Graph, label_of, lines_of as node_lines}
-use Rattle.desk_bridge.specs.Bridge.{IsBridge, row_at}
+use Rattle.desk_bridge.specs.Bridge.{IsBridge, line_row_at}
 use Rattle.desk_bridge.proofs.Nodes.{node_of_taken}
 
 -- where lines lead, and how often
@@ -52,7 +52,7 @@ once (label ∷ labels) unique code =
       | inr away ↦ count_by-cons (λ listed. same_code listed code) label labels ∙ rw (away, rest) (omega arith)
     ]
 
-same_ends : (labels : List (List ℕ)) (node : ℕ) (lines : List BillLine) → ends_at labels lines ≡ ends_of (map (row_at labels node) lines)
+same_ends : (labels : List (List ℕ)) (node : ℕ) (lines : List BillLine) → ends_at labels lines ≡ ends_of (map (line_row_at labels node) lines)
 same_ends labels node [] = refl
 same_ends labels node (line ∷ lines) = ap (λ rest. (label_of labels line.node, line.count) ∷ rest) (same_ends labels node lines)
 
@@ -96,15 +96,15 @@ row_by : List ℕ → List ℕ × ℕ → LineRow
 row_by parent end = record { parent = parent; child = end.0; count = end.1 }
 
 -- rows of one parent are told by their ends
-rows_by : (labels : List (List ℕ)) (node : ℕ) (lines : List BillLine) (rows : List LineRow) → AllByRecursion (λ row. row.parent ≡ label_of labels node) rows → ends_at labels lines ≡ ends_of rows → rows ≡ map (row_at labels node) lines
+rows_by : (labels : List (List ℕ)) (node : ℕ) (lines : List BillLine) (rows : List LineRow) → AllByRecursion (λ row. row.parent ≡ label_of labels node) rows → ends_at labels lines ≡ ends_of rows → rows ≡ map (line_row_at labels node) lines
 unfolding row_by
 rows_by labels node [] [] a e = refl
 rows_by labels node [] (row ∷ rows) a e = none_some (row.child, row.count) (ends_of rows) e
 rows_by labels node (line ∷ lines) [] a e = some_none (label_of labels line.node, line.count) (ends_at labels lines) e
 rows_by labels node (line ∷ lines) (row ∷ rows) a e =
     let first : (label_of labels line.node, line.count) ≡ (row.child, row.count) = first_same (label_of labels line.node, line.count) (row.child, row.count) (ends_at labels lines) (ends_of rows) e in
-    let rest : rows ≡ map (row_at labels node) lines = rows_by labels node lines rows a.1 (rest_same (label_of labels line.node, line.count) (row.child, row.count) (ends_at labels lines) (ends_of rows) e) in
-    let same : row ≡ row_at labels node line = ap (λ parent. row_by parent (row.child, row.count)) a.0 ∙ ap (row_by (label_of labels node)) (sym first) in
+    let rest : rows ≡ map (line_row_at labels node) lines = rows_by labels node lines rows a.1 (rest_same (label_of labels line.node, line.count) (row.child, row.count) (ends_at labels lines) (ends_of rows) e) in
+    let same : row ≡ line_row_at labels node line = ap (λ parent. row_by parent (row.child, row.count)) a.0 ∙ ap (row_by (label_of labels node)) (sym first) in
     λ i. same i ∷ rest i
 
 -- a bill whose labels and ends are those of the tables is that of the tables

@@ -22,7 +22,7 @@ use Rattle.desk_graph.proofs.Ends.{lines_of-more}
 use Rattle.desk_bridge.specs.declared.node_index.NodeRow.{NodeRow}
 use Rattle.desk_bridge.specs.Bridge.{IsBillOf, node_of}
 use Rattle.desk_bridge.specs.Building.{IsFilled, node_or_none, row_without_node, with_first}
-use Rattle.desk_bridge.specs.Index.{IsIndex, index_with, row_if}
+use Rattle.desk_bridge.specs.Index.{IsIndex, index_with, node_row_if}
 use Rattle.desk_bridge.proofs.Bridges.{once, right_tables, taken_by}
 use Rattle.desk_bridge.proofs.Cycles.{fit_bill}
 use Rattle.desk_bridge.proofs.Found.{node_of-taken}
@@ -33,24 +33,24 @@ or_assoc true b c = refl
 or_assoc false b c = refl
 
 -- rows without nodes are found by their codes, where the others are such rows too
-found_without : (more : List (List ℕ)) (rows : List NodeRow) (there : List ℕ → Bool) → ((code : List ℕ) → row_of (λ row. row.code) code_cmp code rows ≡ row_if (there code) code 24576) →
-    (code : List ℕ) → row_of (λ row. row.code) code_cmp code (with_rows (λ row. row.code) code_cmp (map row_without_node more) rows) ≡ row_if (there code || is_taken more code) code 24576
-found_without [] rows there found code = found code ∙ ap (λ b. row_if b code 24576) (sym (or_no (there code)))
+found_without : (more : List (List ℕ)) (rows : List NodeRow) (there : List ℕ → Bool) → ((code : List ℕ) → row_of (λ row. row.code) code_cmp code rows ≡ node_row_if (there code) code 24576) →
+    (code : List ℕ) → row_of (λ row. row.code) code_cmp code (with_rows (λ row. row.code) code_cmp (map row_without_node more) rows) ≡ node_row_if (there code || is_taken more code) code 24576
+found_without [] rows there found code = found code ∙ ap (λ b. node_row_if b code 24576) (sym (or_no (there code)))
 found_without (new ∷ more) rows there found code =
     found_without more (with_row (λ row. row.code) code_cmp (row_without_node new) rows) (λ other. there other || same_code new other) next code
-    ∙ ap (λ b. row_if b code 24576) (or_assoc (there code) (same_code new code) (is_taken more code))
+    ∙ ap (λ b. node_row_if b code 24576) (or_assoc (there code) (same_code new code) (is_taken more code))
   where
-    next : (other : List ℕ) → row_of (λ row. row.code) code_cmp other (with_row (λ row. row.code) code_cmp (row_without_node new) rows) ≡ row_if (there other || same_code new other) other 24576
+    next : (other : List ℕ) → row_of (λ row. row.code) code_cmp other (with_row (λ row. row.code) code_cmp (row_without_node new) rows) ≡ node_row_if (there other || same_code new other) other 24576
     next other =
         elim (cases_Bool (same_code new other)) [
           | inl same ↦
-              subst (λ c. row_of (λ row. row.code) code_cmp c (with_row (λ row. row.code) code_cmp (row_without_node new) rows) ≡ row_if (there c || same_code new c) c 24576) (same_code-true new other same)
+              subst (λ c. row_of (λ row. row.code) code_cmp c (with_row (λ row. row.code) code_cmp (row_without_node new) rows) ≡ node_row_if (there c || same_code new c) c 24576) (same_code-true new other same)
               (row_of-with_row (λ row. row.code) code_cmp code_cmp_total (row_without_node new) rows
-              ∙ ap (λ b. row_if b new 24576) (sym (ap (λ b. there new || b) (same_code_itself new) ∙ or_yes (there new))))
+              ∙ ap (λ b. node_row_if b new 24576) (sym (ap (λ b. there new || b) (same_code_itself new) ∙ or_yes (there new))))
           | inr away ↦
               row_of-with_row_other (λ row. row.code) code_cmp code_cmp_total (row_without_node new) other rows away
               ∙ found other
-              ∙ ap (λ b. row_if b other 24576) (sym (ap (λ b. there other || b) away ∙ or_no (there other)))
+              ∙ ap (λ b. node_row_if b other 24576) (sym (ap (λ b. there other || b) away ∙ or_no (there other)))
         ]
 
 module _ (t : Lists) (s : IsConsistent t) where
@@ -75,7 +75,7 @@ module _ (t : Lists) (s : IsConsistent t) where
     where
       none : IsFilled t (record { labels = []; lines = [] }) (with_rows (λ row. row.code) code_cmp (map row_without_node codes) [])
       none = record {
-        index = λ code. found_without codes [] (λ other. false) (λ other. refl) code ∙ ap (λ b. row_if b code 24576) (ap (λ list. is_taken list code) codes_are ∙ taken_nodes code);
+        index = λ code. found_without codes [] (λ other. false) (λ other. refl) code ∙ ap (λ b. node_row_if b code 24576) (ap (λ list. is_taken list code) codes_are ∙ taken_nodes code);
         kept = λ code e. absurd (false≢true e);
         bare = λ node. Rattle.std.proofs.lemmas.List.get_or_past {X = List Rattle.desk_graph.specs.declared.line.BillLine.BillLine} [] node [] (omega arith);
       }
@@ -121,11 +121,11 @@ module _ (t : Lists) (s : IsConsistent t) where
   filled_more g rows new is_there free filled = record {
     index = λ code.
         elim (cases_Bool (same_code new code)) [
-          | inl same ↦ subst (λ c. row_of (λ row. row.code) code_cmp c (index_with new (length g.labels) rows) ≡ row_if (is_kept t c) c (node_or_none (g.labels ++ new ∷ []) c)) (same_code-true new code same) here
+          | inl same ↦ subst (λ c. row_of (λ row. row.code) code_cmp c (index_with new (length g.labels) rows) ≡ node_row_if (is_kept t c) c (node_or_none (g.labels ++ new ∷ []) c)) (same_code-true new code same) here
           | inr away ↦
               row_of-with_row_other (λ row. row.code) code_cmp code_cmp_total (record { code = new; node = length g.labels }) code rows away
               ∙ filled.index code
-              ∙ ap (row_if (is_kept t code) code) (other code away (is_taken g.labels code) refl)
+              ∙ ap (node_row_if (is_kept t code) code) (other code away (is_taken g.labels code) refl)
         ];
     kept = λ code e.
         elim (or_cases (is_taken g.labels code) (same_code new code) (sym (taken-more g.labels new code) ∙ e)) [
@@ -138,11 +138,11 @@ module _ (t : Lists) (s : IsConsistent t) where
       now_taken : is_taken (g.labels ++ new ∷ []) new ≡ true
       now_taken = taken-more g.labels new new ∙ ap (λ b. is_taken g.labels new || b) (same_code_itself new) ∙ or_yes (is_taken g.labels new)
 
-      here : row_of (λ row. row.code) code_cmp new (index_with new (length g.labels) rows) ≡ row_if (is_kept t new) new (node_or_none (g.labels ++ new ∷ []) new)
+      here : row_of (λ row. row.code) code_cmp new (index_with new (length g.labels) rows) ≡ node_row_if (is_kept t new) new (node_or_none (g.labels ++ new ∷ []) new)
       here =
           row_of-with_row (λ row. row.code) code_cmp code_cmp_total (record { code = new; node = length g.labels }) rows
-          ∙ ap (row_if true new) (sym (ap (λ b. cond b (node_of (g.labels ++ new ∷ []) new) 24576) now_taken ∙ node_of-new g.labels new free))
-          ∙ ap (λ b. row_if b new (node_or_none (g.labels ++ new ∷ []) new)) (sym is_there)
+          ∙ ap (node_row_if true new) (sym (ap (λ b. cond b (node_of (g.labels ++ new ∷ []) new) 24576) now_taken ∙ node_of-new g.labels new free))
+          ∙ ap (λ b. node_row_if b new (node_or_none (g.labels ++ new ∷ []) new)) (sym is_there)
 
       still : (code : List ℕ) → same_code new code ≡ false → is_taken (g.labels ++ new ∷ []) code ≡ is_taken g.labels code
       still code away = taken-more g.labels new code ∙ ap (λ b. is_taken g.labels code || b) away ∙ or_no (is_taken g.labels code)
@@ -158,7 +158,7 @@ module _ (t : Lists) (s : IsConsistent t) where
 
   -- a look-up tells whether a node is still missing
   module _ (g : Graph) (bill : IsBill g) (rows : List NodeRow) (filled : IsFilled t g rows) (code : List ℕ) (found : Option ℕ) (is : found ≡ option_map (λ row. row.node) (row_of (λ row. row.code) code_cmp code rows)) where
-    found_by : found ≡ option_map (λ row. row.node) (row_if (is_kept t code) code (node_or_none g.labels code))
+    found_by : found ≡ option_map (λ row. row.node) (node_row_if (is_kept t code) code (node_or_none g.labels code))
     found_by = is ∙ ap (option_map (λ row. row.node)) (filled.index code)
 
     some_inside : (m n : ℕ) → Some m ≡ Some n → m ≡ n
@@ -180,7 +180,7 @@ module _ (t : Lists) (s : IsConsistent t) where
     pub missing_kept : found ≡ Some 24576 → is_kept t code ≡ true
     missing_kept e = there (is_kept t code) (sym found_by ∙ e)
       where
-        there : (b : Bool) → option_map (λ row. row.node) (row_if b code (node_or_none g.labels code)) ≡ Some 24576 → b ≡ true
+        there : (b : Bool) → option_map (λ row. row.node) (node_row_if b code (node_or_none g.labels code)) ≡ Some 24576 → b ≡ true
         there true h = refl
         there false h = none_some 24576 h
 
@@ -188,7 +188,7 @@ module _ (t : Lists) (s : IsConsistent t) where
     missing_free e = there (is_taken g.labels code) refl
       where
         node : node_or_none g.labels code ≡ 24576
-        node = some_inside (node_or_none g.labels code) 24576 (sym (found_by ∙ ap (λ b. option_map (λ row. row.node) (row_if b code (node_or_none g.labels code))) (missing_kept e)) ∙ e)
+        node = some_inside (node_or_none g.labels code) 24576 (sym (found_by ∙ ap (λ b. option_map (λ row. row.node) (node_row_if b code (node_or_none g.labels code))) (missing_kept e)) ∙ e)
 
         there : (b : Bool) → is_taken g.labels code ≡ b → is_taken g.labels code ≡ false
         there false h = h
@@ -209,7 +209,7 @@ module _ (t : Lists) (s : IsConsistent t) where
             let is_other = same_code-true code other se in
             let kept_here : is_kept t code ≡ true = ap (is_kept t) is_other ∙ ke in
             let free_here : is_taken g.labels code ≡ false = ap (is_taken g.labels) is_other ∙ e in
-            absurd (away (found_by ∙ ap (λ b. option_map (λ row. row.node) (row_if b code (node_or_none g.labels code))) kept_here ∙ ap (λ b. Some (cond b (node_of g.labels code) 24576)) free_here))
+            absurd (away (found_by ∙ ap (λ b. option_map (λ row. row.node) (node_row_if b code (node_or_none g.labels code))) kept_here ∙ ap (λ b. Some (cond b (node_of g.labels code) 24576)) free_here))
 
   -- what is taken with one more node
   pub taken_with : (labels : List (List ℕ)) (new : List ℕ) → is_kept t new ≡ true → (other : List ℕ) → is_taken (labels ++ new ∷ []) other ≡ (is_taken labels other || (is_kept t other && is_taken (new ∷ []) other))
@@ -243,15 +243,15 @@ module _ (t : Lists) (s : IsConsistent t) where
         taken = all_taken;
         count = label_count t s.ordered (right_tables t s) g.labels (λ code. label_once g bill code ∙ ap (λ b. cond b 1 0) (all_taken code));
       };
-      lines = λ node inside. sym (ap (map (Rattle.desk_bridge.specs.Bridge.row_at g.labels node)) (filled.bare node));
+      lines = λ node inside. sym (ap (map (Rattle.desk_bridge.specs.Bridge.line_row_at g.labels node)) (filled.bare node));
     }
 
     pub filled_index : IsIndex g.labels rows
     filled_index code =
         filled.index code
-        ∙ ap (λ b. row_if b code (node_or_none g.labels code)) (sym (all_taken code))
+        ∙ ap (λ b. node_row_if b code (node_or_none g.labels code)) (sym (all_taken code))
         ∙ by_taken (is_taken g.labels code) refl
       where
-        by_taken : (b : Bool) → is_taken g.labels code ≡ b → row_if (is_taken g.labels code) code (node_or_none g.labels code) ≡ row_if (is_taken g.labels code) code (node_of g.labels code)
-        by_taken true e = ap (λ b. row_if (is_taken g.labels code) code (cond b (node_of g.labels code) 24576)) e
-        by_taken false e = ap (λ b. row_if b code (node_or_none g.labels code)) e ∙ sym (ap (λ b. row_if b code (node_of g.labels code)) e)
+        by_taken : (b : Bool) → is_taken g.labels code ≡ b → node_row_if (is_taken g.labels code) code (node_or_none g.labels code) ≡ node_row_if (is_taken g.labels code) code (node_of g.labels code)
+        by_taken true e = ap (λ b. node_row_if (is_taken g.labels code) code (cond b (node_of g.labels code) 24576)) e
+        by_taken false e = ap (λ b. node_row_if b code (node_or_none g.labels code)) e ∙ sym (ap (λ b. node_row_if b code (node_of g.labels code)) e)

@@ -11,11 +11,11 @@ use Rattle.desk_rollup.proofs.Counts.{times}
 use Rattle.desk_rollup.proofs.Lists.{each_line, find_same}
 use Rattle.desk_rollup.proofs.MarkCount.{once_once}
 use Rattle.desk_rollup.proofs.Ranked.{gathered-step}
-use Rattle.desk_rollup.specs.Chain.{chain as node_chain, next_to as node_next, way}
+use Rattle.desk_rollup.specs.Chain.{hop_chain as node_chain, next_hop as node_next, way}
 use Rattle.desk_rollup.specs.Numbers.{has, mark_numbers}
 use Rattle.desk_rollup.specs.Plan.{AreRolledUp}
-use Rattle.desk_rollup.specs.Rolled.{gathered, mark_count, marks}
-use Rattle.desk_rollup.specs.Values.{Kept, OwnValues, own_at}
+use Rattle.desk_rollup.specs.Rolled.{gathered, mark_count, mark_numbers_below}
+use Rattle.desk_rollup.specs.Values.{KeptValues, OwnValues, own_at}
 use Rattle.desk_model.specs.Lists.{IsOrdered, Lists, is_kept}
 use Rattle.desk_model.proofs.Elements.{any_of_all, any_same, each_map}
 use Rattle.desk_findings.specs.Chain.{chain}
@@ -52,9 +52,9 @@ module _ (t : Lists) (right : IsRight t) (g : Graph) (bridge : IsBridge t g) (or
   code_of node = label_of g.labels node
 
   module _ (own : ℕ → OwnValues) (owned : AreOwnMarks t g number own) where
-    pub marks_as_many : (node : ℕ) → node < length g.labels → length (marks g.lines own node) ≡ length (findings_at t (code_of node))
+    pub marks_as_many : (node : ℕ) → node < length g.labels → length (mark_numbers_below g.lines own node) ≡ length (findings_at t (code_of node))
     marks_as_many node inside =
-        as_many t ordered (bill t right g bridge) right.apart number numbered (code_of node) (marks g.lines own node)
+        as_many t ordered (bill t right g bridge) right.apart number numbered (code_of node) (mark_numbers_below g.lines own node)
         (λ n.
         subst (λ ns. times n ns ≤ 1) (sym (gathered-step g.lines bridge.bill.ranked.0 bridge.bill.ranked.1 (λ m. mark_numbers (own m).marks) node))
         (once_once n (mark_numbers (own node).marks ++ flat_map (λ line. gathered g.lines (λ m. mark_numbers (own m).marks) line.node) (node_lines g.lines node))))
@@ -68,8 +68,8 @@ module _ (t : Lists) (right : IsRight t) (g : Graph) (bridge : IsBridge t g) (or
 
     pub all_marks : mark_count g.lines own ≡ finding_count t
     all_marks =
-        ap (λ n. sum_by (λ node. if length (node_lines g.lines node) == 0 then 0 else length (marks g.lines own node)) (range_with_len 0 n)) bridge.bill.sizes
-        ∙ counted t ordered right g.labels (labels_of t g bridge) (λ node. length (node_lines g.lines node)) (λ node. length (marks g.lines own node)) lines_as_many marks_as_many
+        ap (λ n. sum_by (λ node. if length (node_lines g.lines node) == 0 then 0 else length (mark_numbers_below g.lines own node)) (range_with_len 0 n)) bridge.bill.sizes
+        ∙ counted t ordered right g.labels (labels_of t g bridge) (λ node. length (node_lines g.lines node)) (λ node. length (mark_numbers_below g.lines own node)) lines_as_many marks_as_many
 
   -- a finding is found by its number
   module _ (finding : Finding) (there : is_found t finding ≡ true) where
@@ -96,7 +96,7 @@ module _ (t : Lists) (right : IsRight t) (g : Graph) (bridge : IsBridge t g) (or
         (λ other f. let here = f (same_finding other) (same_itself other) in subst (λ c. is_in other (own_findings t c) ≡ true) (own_held t other code here) here)
         (own_findings t code) (any_of_all (own_findings t code)))
 
-  module _ (kept : Kept) (rolled : AreRolledUp g kept) (owned : AreOwnMarks t g number (own_at kept.owns)) (finding : Finding) where
+  module _ (kept : KeptValues) (rolled : AreRolledUp g kept) (owned : AreOwnMarks t g number (own_at kept.owns)) (finding : Finding) where
     found_of : (code : List ℕ) → is_in finding (findings_at t code) ≡ true → is_found t finding ≡ true
     found_of code found = (and_parts (is_or_reaches t code (holder finding)) (is_found t finding) (sym (held t ordered (bill t right g bridge) finding code) ∙ found)).1
 
@@ -115,11 +115,11 @@ module _ (t : Lists) (right : IsRight t) (g : Graph) (bridge : IsBridge t g) (or
         node_next kept.rolled (number finding) node ≡ (if is_in finding (own_findings t (code_of node)) then None else option_map (λ line. line.node) (find (λ line. is_in finding (findings_at t (code_of line.node))) (node_lines g.lines node)))
     hop_next node inside there =
         ap (λ o. unwrap_or o None) ((rolled.rolled node inside).hops (number finding))
-        ∙ unwrapped (has (mark_numbers (own_at kept.owns node).marks) (number finding)) (find (λ line. has (marks g.lines (own_at kept.owns) line.node) (number finding)) (node_lines g.lines node))
-        ∙ ap (λ b. if b then None else option_map (λ line. line.node) (find (λ line. has (marks g.lines (own_at kept.owns) line.node) (number finding)) (node_lines g.lines node))) (owned node inside (number finding) ∙ own_number finding there (code_of node))
+        ∙ unwrapped (has (mark_numbers (own_at kept.owns node).marks) (number finding)) (find (λ line. has (mark_numbers_below g.lines (own_at kept.owns) line.node) (number finding)) (node_lines g.lines node))
+        ∙ ap (λ b. if b then None else option_map (λ line. line.node) (find (λ line. has (mark_numbers_below g.lines (own_at kept.owns) line.node) (number finding)) (node_lines g.lines node))) (owned node inside (number finding) ∙ own_number finding there (code_of node))
         ∙ ap (λ o. if is_in finding (own_findings t (code_of node)) then None else option_map (λ line. line.node) o)
-        (find_same (λ line. has (marks g.lines (own_at kept.owns) line.node) (number finding)) (λ line. is_in finding (findings_at t (code_of line.node))) (node_lines g.lines node)
-        (each_line (λ child. has (marks g.lines (own_at kept.owns) child) (number finding) ≡ is_in finding (findings_at t (code_of child))) (node_lines g.lines node)
+        (find_same (λ line. has (mark_numbers_below g.lines (own_at kept.owns) line.node) (number finding)) (λ line. is_in finding (findings_at t (code_of line.node))) (node_lines g.lines node)
+        (each_line (λ child. has (mark_numbers_below g.lines (own_at kept.owns) child) (number finding) ≡ is_in finding (findings_at t (code_of child))) (node_lines g.lines node)
         (λ child line. marked t right g bridge ordered number (own_at kept.owns) owned child (bridge.bill.children node child line) (number finding) ∙ at_number finding there (code_of child))))
 
     pub next_agrees : (node : ℕ) → node < length g.labels → is_in finding (findings_at t (code_of node)) ≡ true → option_map (label_of g.labels) (node_next kept.rolled (number finding) node) ≡ next_of t finding (code_of node)

@@ -25,11 +25,11 @@ use Rattle.desk_findings.specs.Reaches.{is_or_reaches, reaches}
 use Rattle.desk_findings.specs.Share.{is_over_limit}
 use Rattle.desk_findings.proofs.FindingsOnce.{same_finding-true}
 use Rattle.desk_findings.proofs.Numbering.{same_itself}
-use Rattle.desk_bridge.specs.Order.{candidate_of, finding_cmp, kind_of, rule_of}
+use Rattle.desk_bridge.specs.Order.{finding_candidate, finding_cmp, finding_kind, finding_rule}
 use Rattle.desk_bridge.proofs.Sorted.{all_both, sorted_alike, sorted_both, sorted_flat, sorted_map, sorted_rows}
 
 finding_cmp_total : IsTotalOrder finding_cmp
-finding_cmp_total = then_total (on_total kind_of nat_cmp_total) (then_total (on_total holder code_cmp_total) (then_total (on_total rule_of nat_cmp_total) (on_total candidate_of code_cmp_total)))
+finding_cmp_total = then_total (on_total finding_kind nat_cmp_total) (then_total (on_total holder code_cmp_total) (then_total (on_total finding_rule nat_cmp_total) (on_total finding_candidate code_cmp_total)))
 
 by_rule : (material : List ℕ) (a b : Rule) → nat_cmp (rule_number a) (rule_number b) ≡ Less → finding_cmp (over material a) (over material b) ≡ Less
 by_rule material a b e = rw (tied_itself code_cmp_total material, e) refl
@@ -44,10 +44,10 @@ rules_rise = sorted_from_rises (on rule_number nat_cmp) all_rules refl
 module _ (t : Lists) (ordered : IsOrdered t) where
   -- what is of a material, and of an article
   abbrev IsOn : MaterialRow → Finding → Type 0
-  IsOn material finding = (kind_of finding ≡ 0) × (holder finding ≡ material.code)
+  IsOn material finding = (finding_kind finding ≡ 0) × (holder finding ≡ material.code)
 
   abbrev IsOf : PartRow → Finding → Type 0
-  IsOf article finding = (kind_of finding ≡ 1) × (holder finding ≡ article.code)
+  IsOf article finding = (finding_kind finding ≡ 1) × (holder finding ≡ article.code)
 
   by_material : (a b : MaterialRow) (x y : Finding) → code_cmp a.code b.code ≡ Less → IsOn a x → IsOn b y → finding_cmp x y ≡ Less
   by_material a b x y e of_x of_y = rw (of_x.0, of_y.0, of_x.1, of_y.1, e) refl

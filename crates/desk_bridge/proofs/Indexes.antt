@@ -10,7 +10,7 @@ use Rattle.desk_model.proofs.Kept.{code_cmp_total, same_code-true}
 use Rattle.desk_graph.specs.Edits.{is_taken}
 use Rattle.desk_bridge.specs.Bridge.{node_of}
 use Rattle.desk_bridge.specs.declared.node_index.NodeRow.{NodeRow}
-use Rattle.desk_bridge.specs.Index.{IsIndex, index_with, node_if, row_if}
+use Rattle.desk_bridge.specs.Index.{IsIndex, index_with, node_if, node_row_if}
 use Rattle.desk_bridge.proofs.Found.{node_of-found, node_of-most, node_of-taken}
 use Rattle.desk_bridge.proofs.Nodes.{taken_of_node}
 
@@ -50,26 +50,26 @@ pub index_more : (labels : List (List ℕ)) (rows : List NodeRow) (new : List �
 index_more labels rows new free index code =
     elim (cases_Bool (same_code new code)) [
       | inl same ↦
-          subst (λ c. row_of (λ row. row.code) code_cmp c (index_with new (length labels) rows) ≡ row_if (is_taken (labels ++ new ∷ []) c) c (node_of (labels ++ new ∷ []) c)) (same_code-true new code same)
+          subst (λ c. row_of (λ row. row.code) code_cmp c (index_with new (length labels) rows) ≡ node_row_if (is_taken (labels ++ new ∷ []) c) c (node_of (labels ++ new ∷ []) c)) (same_code-true new code same)
           (row_of-with_row (λ row. row.code) code_cmp code_cmp_total (record { code = new; node = length labels }) rows
-          ∙ ap (row_if true new) (sym (node_of-new labels new free))
-          ∙ ap (λ b. row_if b new (node_of (labels ++ new ∷ []) new)) (sym (taken-more labels new new ∙ ap (λ b. is_taken labels new || b) (same_code_itself new) ∙ or_yes (is_taken labels new))))
+          ∙ ap (node_row_if true new) (sym (node_of-new labels new free))
+          ∙ ap (λ b. node_row_if b new (node_of (labels ++ new ∷ []) new)) (sym (taken-more labels new new ∙ ap (λ b. is_taken labels new || b) (same_code_itself new) ∙ or_yes (is_taken labels new))))
       | inr other ↦
           row_of-with_row_other (λ row. row.code) code_cmp code_cmp_total (record { code = new; node = length labels }) code rows other
           ∙ index code
           ∙ by_taken (is_taken labels code) refl
-          ∙ ap (λ b. row_if b code (node_of (labels ++ new ∷ []) code)) (sym (taken-more labels new code ∙ ap (λ b. is_taken labels code || b) other ∙ or_no (is_taken labels code)))
+          ∙ ap (λ b. node_row_if b code (node_of (labels ++ new ∷ []) code)) (sym (taken-more labels new code ∙ ap (λ b. is_taken labels code || b) other ∙ or_no (is_taken labels code)))
     ]
   where
-    by_taken : (b : Bool) → is_taken labels code ≡ b → row_if (is_taken labels code) code (node_of labels code) ≡ row_if (is_taken labels code) code (node_of (labels ++ new ∷ []) code)
-    by_taken true e = ap (row_if (is_taken labels code) code) (sym (node_of-kept labels new code e))
-    by_taken false e = ap (λ b. row_if b code (node_of labels code)) e ∙ ap (λ b. row_if b code (node_of (labels ++ new ∷ []) code)) (sym e)
+    by_taken : (b : Bool) → is_taken labels code ≡ b → node_row_if (is_taken labels code) code (node_of labels code) ≡ node_row_if (is_taken labels code) code (node_of (labels ++ new ∷ []) code)
+    by_taken true e = ap (node_row_if (is_taken labels code) code) (sym (node_of-kept labels new code e))
+    by_taken false e = ap (λ b. node_row_if b code (node_of labels code)) e ∙ ap (λ b. node_row_if b code (node_of (labels ++ new ∷ []) code)) (sym e)
 
 -- what a look-up finds by an index
 pub found_by : (labels : List (List ℕ)) (rows : List NodeRow) → IsIndex labels rows → (code : List ℕ) → option_map (λ row. row.node) (row_of (λ row. row.code) code_cmp code rows) ≡ node_if labels code
 found_by labels rows index code = ap (option_map (λ row. row.node)) (index code) ∙ there (is_taken labels code)
   where
-    there : (b : Bool) → option_map (λ row. row.node) (row_if b code (node_of labels code)) ≡ cond b (Some (node_of labels code)) None
+    there : (b : Bool) → option_map (λ row. row.node) (node_row_if b code (node_of labels code)) ≡ cond b (Some (node_of labels code)) None
     there true = refl
     there false = refl
 

@@ -12,8 +12,8 @@ use Rattle.desk_law.specs.declared.rule.Rule.TheVariants.{Lead, Mercury, Cadmium
 use Rattle.desk_law.specs.Rule.{rule_number}
 use Rattle.desk_graph.specs.Graph.{Graph, label_of}
 use Rattle.desk_graph.specs.Reaches.{has_node}
-use Rattle.desk_rollup.specs.Plan.{CanPrepare, nodes_of}
-use Rattle.desk_rollup.specs.Values.{Kept, OwnValues, own_at, own_with}
+use Rattle.desk_rollup.specs.Plan.{CanPrepare, nodes_of_owns}
+use Rattle.desk_rollup.specs.Values.{KeptValues, OwnValues, own_at, own_with}
 use Rattle.desk_model.specs.declared.edit.Edit.{Edit}
 use Rattle.desk_model.specs.declared.rows.material.MaterialRow.{MaterialRow}
 use Rattle.desk_model.specs.declared.rows.part.PartRow.{PartRow}
@@ -205,11 +205,11 @@ module _ (t : Lists) where
           loads = λ n. was.loads n ∙ load_stays n (label_of g.labels node);
         }
 
-pub values_kept : (t : Lists) (edit : Edit) (g new : Graph) (kept : Kept) (owns : List OwnValues) → IsEdited t edit g new kept owns →
+pub values_kept : (t : Lists) (edit : Edit) (g new : Graph) (kept : KeptValues) (owns : List OwnValues) → IsEdited t edit g new kept owns →
     (more : List (List ℕ)) → new.labels ≡ g.labels ++ more → (names others : List (List ℕ)) → AreNames t names → AreNames (entered t edit) (names ++ others) →
     AllByRecursion (λ substance. is_candidate t substance ≡ false) others →
     AreOwnOf t g (finding_number g.labels names) (label_of names) (own_at kept.owns) →
-    ((node : ℕ) → has_node (nodes_of owns) node ≡ true → IsOwnOf (entered t edit) (finding_number new.labels (names ++ others)) (label_of (names ++ others)) (label_of new.labels node) (own_with owns kept.owns node)) →
+    ((node : ℕ) → has_node (nodes_of_owns owns) node ≡ true → IsOwnOf (entered t edit) (finding_number new.labels (names ++ others)) (label_of (names ++ others)) (label_of new.labels node) (own_with owns kept.owns node)) →
     CanPrepare new owns kept × HasOwnValues (entered t edit) new (finding_number new.labels (names ++ others)) (label_of (names ++ others)) (own_with owns kept.owns)
 values_kept t edit g new kept owns edited more grown names others named named_after fresh own given =
     let number = finding_number new.labels (names ++ others) in

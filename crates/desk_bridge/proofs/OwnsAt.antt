@@ -5,7 +5,7 @@ use Rattle.std.proofs.lemmas.Bool.{cases_Bool, eqb-true, false≢true}
 use Rattle.std.proofs.lemmas.List.{take_more}
 use Rattle.desk_graph.specs.Graph.{label_of}
 use Rattle.desk_graph.specs.Reaches.{has_node}
-use Rattle.desk_rollup.specs.Plan.{nodes_of}
+use Rattle.desk_rollup.specs.Plan.{nodes_of_owns}
 use Rattle.desk_rollup.specs.Values.{OwnValues, own_with}
 use Rattle.desk_model.specs.Lists.{Lists}
 use Rattle.desk_bridge.specs.AfterEdit.{IsOwnOf}
@@ -20,7 +20,7 @@ if_ok P Q (Ok x) p f = f x p
 if_ok P Q (Err e) p f = tt
 
 -- own values that are found by their node
-found_own : (t : Lists) (labels names : List (List ℕ)) (kept : List OwnValues) (node : ℕ) (owns : List OwnValues) → AllByRecursion (λ own. IsOwnOf t (finding_number labels names) (label_of names) (label_of labels own.node) own) owns → has_node (nodes_of owns) node ≡ true →
+found_own : (t : Lists) (labels names : List (List ℕ)) (kept : List OwnValues) (node : ℕ) (owns : List OwnValues) → AllByRecursion (λ own. IsOwnOf t (finding_number labels names) (label_of names) (label_of labels own.node) own) owns → has_node (nodes_of_owns owns) node ≡ true →
     IsOwnOf t (finding_number labels names) (label_of names) (label_of labels node) (own_with owns kept node)
 found_own t labels names kept node [] right has = absurd (false≢true has)
 found_own t labels names kept node (own ∷ owns) right has =
@@ -29,7 +29,7 @@ found_own t labels names kept node (own ∷ owns) right has =
       | inr away ↦ rw away (found_own t labels names kept node owns right.1 (rw away at has))
     ]
 
-pub are_own_at : (t : Lists) (labels names : List (List ℕ)) (nodes : List ℕ) (owns : List OwnValues) → nodes_of owns ≡ nodes →
+pub are_own_at : (t : Lists) (labels names : List (List ℕ)) (nodes : List ℕ) (owns : List OwnValues) → nodes_of_owns owns ≡ nodes →
     AllByRecursion (λ own. IsOwnOf t (finding_number labels names) (label_of names) (label_of labels own.node) own) owns → AreOwnAt t labels names nodes owns
 are_own_at t labels names nodes owns these right = record {
   these = these;
@@ -44,13 +44,13 @@ each_push P (first ∷ xs) x a p = (a.0, each_push P xs x a.1 p)
 pub pushed_right : (P : OwnValues → Type 0) (old new : List OwnValues) (own : OwnValues) → new ≡ old ++ own ∷ [] → AllByRecursion P old → P own → AllByRecursion P new
 pushed_right P old new own e a p = subst (AllByRecursion P) (sym e) (each_push P old own a p)
 
-nodes_push : (owns : List OwnValues) (own : OwnValues) → nodes_of (owns ++ own ∷ []) ≡ nodes_of owns ++ own.node ∷ []
+nodes_push : (owns : List OwnValues) (own : OwnValues) → nodes_of_owns (owns ++ own ∷ []) ≡ nodes_of_owns owns ++ own.node ∷ []
 nodes_push [] own = refl
 nodes_push (first ∷ owns) own = ap (λ rest. first.node ∷ rest) (nodes_push owns own)
 
-pub pushed_nodes : (nodes : List ℕ) (i d : ℕ) (old new : List OwnValues) (own : OwnValues) → i < length nodes → new ≡ old ++ own ∷ [] → nodes_of old ≡ take i nodes → own.node ≡ get_or nodes i d → nodes_of new ≡ take (i + 1) nodes
+pub pushed_nodes : (nodes : List ℕ) (i d : ℕ) (old new : List OwnValues) (own : OwnValues) → i < length nodes → new ≡ old ++ own ∷ [] → nodes_of_owns old ≡ take i nodes → own.node ≡ get_or nodes i d → nodes_of_owns new ≡ take (i + 1) nodes
 pushed_nodes nodes i d old new own h e before node =
-    ap nodes_of e ∙ nodes_push old own ∙ ap (λ ns. ns ++ own.node ∷ []) before ∙ ap (λ n. take i nodes ++ n ∷ []) node ∙ sym (take_more nodes i d h)
+    ap nodes_of_owns e ∙ nodes_push old own ∙ ap (λ ns. ns ++ own.node ∷ []) before ∙ ap (λ n. take i nodes ++ n ∷ []) node ∙ sym (take_more nodes i d h)
 
 -- own values of a label are those of its node
 pub own_right_at : (t : Lists) (labels names : List (List ℕ)) → ((a b : ℕ) → a < length labels → b < length labels → label_of labels a ≡ label_of labels b → a ≡ b) → (node : ℕ) → node < length labels → (code : List ℕ) → code ≡ label_of labels node →

@@ -2,7 +2,7 @@
 use Rattle.std.proofs.Common.{◌≡◌, ℕ, ◌<◌, ◌≤◌, true, false, List, Some, None, map, option_map, refl, sym, ap, ◌∙◌}
 use Rattle.std.proofs.lemmas.Bool.{le-ltb, lt-ltb}
 use Rattle.desk_graph.specs.Graph.{Graph, label_of}
-use Rattle.desk_rollup.specs.Plan.{AllFit, IsAccepted, IsFirstTooLarge}
+use Rattle.desk_rollup.specs.Plan.{AllFit, IsWithinLimits, IsFirstTooLarge}
 use Rattle.desk_rollup.specs.Rolled.{mark_count}
 use Rattle.desk_rollup.specs.Values.{OwnValues}
 use Rattle.desk_tonnage.specs.Years.{too_heavy_year as too_heavy_entries}
@@ -48,13 +48,13 @@ module _ (t : Lists) (edit : Edit) (g : Graph) (own : ℕ → OwnValues) (is : I
       let full : has_too_many_findings (entered t edit) ≡ true = too_many (entered t edit) g is.number is.name own is.values ∙ lt-ltb 4194304 (mark_count g.lines own) many in
       rw (is.passes.by_cycle, light fit, full) refl
 
-  pub by_year : IsAccepted g own → (year : ℕ) → too_heavy_entries (entries_of (entered t edit)) ≡ Some year → refused_by_bill t edit ≡ Some (YearTooLarge year)
+  pub by_year : IsWithinLimits g own → (year : ℕ) → too_heavy_entries (entries_of (entered t edit)) ≡ Some year → refused_by_bill t edit ≡ Some (YearTooLarge year)
   unfolding refused_by_bill total_too_large findings_full year_too_large
   by_year accepted year e =
       let told : too_heavy_year (entered t edit) ≡ Some year = sym (heavy (entered t edit)) ∙ e in
       rw (is.passes.by_cycle, light accepted.fit, few_marks accepted.count, told) refl
 
-  pub by_none : IsAccepted g own → too_heavy_entries (entries_of (entered t edit)) ≡ None → refused_by_bill t edit ≡ None
+  pub by_none : IsWithinLimits g own → too_heavy_entries (entries_of (entered t edit)) ≡ None → refused_by_bill t edit ≡ None
   unfolding refused_by_bill total_too_large findings_full year_too_large
   by_none accepted e =
       let told : too_heavy_year (entered t edit) ≡ None = sym (heavy (entered t edit)) ∙ e in

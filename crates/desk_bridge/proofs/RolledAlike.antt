@@ -11,7 +11,7 @@ use Rattle.desk_graph.specs.Reaches.{Falls, is_or_reaches as node_is_or_reaches,
 use Rattle.desk_rollup.proofs.Lists.{any_same, each_as, each_line, sum_same}
 use Rattle.desk_rollup.proofs.Ranked.{by_children, gathered_has, goes_up, rolled-step as node_rolled-step}
 use Rattle.desk_rollup.specs.Numbers.{has, mark_numbers}
-use Rattle.desk_rollup.specs.Rolled.{marks, rolled as node_rolled}
+use Rattle.desk_rollup.specs.Rolled.{mark_numbers_below, rolled as node_rolled}
 use Rattle.desk_rollup.specs.Values.{OwnValues}
 use Rattle.desk_model.specs.Lists.{IsOrdered, Lists}
 use Rattle.desk_model.proofs.Elements.{any-map}
@@ -141,14 +141,14 @@ module _ (t : Lists) (right : IsRight t) (g : Graph) (bridge : IsBridge t g) whe
 
   -- marks are findings
   module _ (ordered : IsOrdered t) (number : Finding → ℕ) (own : ℕ → OwnValues) (owned : AreOwnMarks t g number own) where
-    pub marked : (node : ℕ) → node < length g.labels → (n : ℕ) → has (marks g.lines own node) n ≡ has_numbered number (findings_at t (code_of node)) n
+    pub marked : (node : ℕ) → node < length g.labels → (n : ℕ) → has (mark_numbers_below g.lines own node) n ≡ has_numbered number (findings_at t (code_of node)) n
     marked =
-        nodes_up (λ node. (n : ℕ) → has (marks g.lines own node) n ≡ has_numbered number (findings_at t (code_of node)) n)
+        nodes_up (λ node. (n : ℕ) → has (mark_numbers_below g.lines own node) n ≡ has_numbered number (findings_at t (code_of node)) n)
         (λ node inside below n.
         gathered_has g.lines bridge.bill.ranked.0 bridge.bill.ranked.1 (λ m. mark_numbers (own m).marks) node n
-        ∙ ap (λ b. b || list_any (λ line. has (marks g.lines own line.node) n) (node_lines g.lines node)) (owned node inside n)
+        ∙ ap (λ b. b || list_any (λ line. has (mark_numbers_below g.lines own line.node) n) (node_lines g.lines node)) (owned node inside n)
         ∙ ap (λ b. has_numbered number (own_findings t (code_of node)) n || b)
-        (any_same (λ line. has (marks g.lines own line.node) n) (λ line. has_numbered number (findings_at t (code_of line.node)) n) (node_lines g.lines node)
-        (each_as (λ line. (m : ℕ) → has (marks g.lines own line.node) m ≡ has_numbered number (findings_at t (code_of line.node)) m) (λ line. has (marks g.lines own line.node) n ≡ has_numbered number (findings_at t (code_of line.node)) n) (λ line h. h n) (node_lines g.lines node) below)
+        (any_same (λ line. has (mark_numbers_below g.lines own line.node) n) (λ line. has_numbered number (findings_at t (code_of line.node)) n) (node_lines g.lines node)
+        (each_as (λ line. (m : ℕ) → has (mark_numbers_below g.lines own line.node) m ≡ has_numbered number (findings_at t (code_of line.node)) m) (λ line. has (mark_numbers_below g.lines own line.node) n ≡ has_numbered number (findings_at t (code_of line.node)) n) (λ line h. h n) (node_lines g.lines node) below)
         ∙ any_lines (λ code. has_numbered number (findings_at t code) n) node inside)
         ∙ sym (any_by_lines t ordered bill (λ finding. number finding == n) (code_of node)))

@@ -6,8 +6,8 @@ use Rattle.desk_graph.specs.Graph.{Graph, label_of}
 use Rattle.desk_graph.specs.Reaches.{has_node}
 use Rattle.desk_rollup.proofs.MarkCount.{hop_count}
 use Rattle.desk_rollup.proofs.Rolls.{carried_is, has_marks}
-use Rattle.desk_rollup.specs.Plan.{AreDistinct, AreRolledUp, CanPrepare, nodes_of}
-use Rattle.desk_rollup.specs.Values.{Kept, OwnValues, amount_of, own_at, own_with, rolled_at}
+use Rattle.desk_rollup.specs.Plan.{AreDistinct, AreRolledUp, CanPrepare, nodes_of_owns}
+use Rattle.desk_rollup.specs.Values.{KeptValues, OwnValues, amount_of, own_at, own_with, rolled_at}
 use Rattle.desk_model.specs.Lists.{Lists}
 use Rattle.desk_findings.specs.Carried.{own_load}
 use Rattle.desk_findings.specs.Findings.{Finding}
@@ -18,7 +18,7 @@ use Rattle.desk_bridge.proofs.RolledAlike.{marked, rolled_agree}
 use Rattle.desk_bridge.proofs.Bridges.{right_tables}
 use Rattle.desk_bridge.proofs.Hops.{marks_as_many}
 
-pub values_of : (t : Lists) (g : Graph) (number : Finding → ℕ) (name : ℕ → List ℕ) (kept : Kept) → HasOwnValues t g number name (own_at kept.owns) → AreRolledUp g kept → (node : ℕ) → node < length g.labels → AreValuesOf t g number name kept node
+pub values_of : (t : Lists) (g : Graph) (number : Finding → ℕ) (name : ℕ → List ℕ) (kept : KeptValues) → HasOwnValues t g number name (own_at kept.owns) → AreRolledUp g kept → (node : ℕ) → node < length g.labels → AreValuesOf t g number name kept node
 values_of t g number name kept is rolled node inside =
     let right = right_tables t is.consistent in
     let values = rolled_at kept.rolled node in
@@ -37,7 +37,7 @@ values_of t g number name kept is rolled node inside =
     }
 
 pub start_prepared : (t : Lists) (g : Graph) (number : Finding → ℕ) (name : ℕ → List ℕ) (owns : List OwnValues) → HasOwnValues t g number name (own_with owns []) →
-    AreDistinct (nodes_of owns) → ((node : ℕ) → has_node (nodes_of owns) node ≡ nat_lt node (length g.labels)) →
+    AreDistinct (nodes_of_owns owns) → ((node : ℕ) → has_node (nodes_of_owns owns) node ≡ nat_lt node (length g.labels)) →
     CanPrepare g owns (record { owns = []; rolled = [] })
 start_prepared t g number name owns is distinct all =
     let right = right_tables t is.consistent in record {

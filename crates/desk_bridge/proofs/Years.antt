@@ -35,7 +35,7 @@ use Rattle.desk_tonnage.specs.Edits.{HasMass, lowered, with_entry, with_units, w
 use Rattle.desk_tonnage.specs.Entries.{entry_key, entry_key_cmp, entry_of, units_of as entry_units}
 use Rattle.desk_tonnage.specs.Masses.{with_masses}
 use Rattle.desk_tonnage.specs.Years.{too_heavy_year as too_heavy_entries, year_mass as entries_mass}
-use Rattle.desk_bridge.specs.Years.{AreNewMasses, entries_of, entry_by}
+use Rattle.desk_bridge.specs.Years.{AreNewMasses, entries_of, shipment_entry}
 
 -- rows that are turned into others of the same keys
 module _ {R S K : Type 0} (key : R → K) (other : S → K) (cmp : K → K → Ordering) (f : R → S) (same : (row : R) → other (f row) ≡ key row) where
@@ -68,7 +68,7 @@ module _ {R S K : Type 0} (key : R → K) (other : S → K) (cmp : K → K → O
         | false ↦ ap (λ rest. f row ∷ rest) (without_row-map k rows)
       ]
 
-map_keys : (weigh : List ℕ → ℕ) (rows : List ShipmentRow) → map entry_key (map (entry_by weigh) rows) ≡ map shipment_key rows
+map_keys : (weigh : List ℕ → ℕ) (rows : List ShipmentRow) → map entry_key (map (shipment_entry weigh) rows) ≡ map shipment_key rows
 map_keys weigh [] = refl
 map_keys weigh (row ∷ rows) = ap (λ keys. shipment_key row ∷ keys) (map_keys weigh rows)
 
@@ -76,17 +76,17 @@ pub order : (t : Lists) → IsOrdered t → IsByKey entry_key entry_key_cmp (ent
 order t ordered = subst (IsStrictlySortedBy entry_key_cmp) (sym (map_keys (mass t) t.shipments)) ordered.shipments
 
 -- the entry of a year and product
-found_entry : (weigh : List ℕ → ℕ) (year : ℕ) (product : List ℕ) (rows : List ShipmentRow) → entry_of year product (map (entry_by weigh) rows) ≡ option_map (entry_by weigh) (row_of shipment_key shipment_key_cmp (year, product) rows)
-found_entry weigh year product rows = row_of-map shipment_key entry_key shipment_key_cmp (entry_by weigh) (λ row. refl) (year, product) rows
+found_entry : (weigh : List ℕ → ℕ) (year : ℕ) (product : List ℕ) (rows : List ShipmentRow) → entry_of year product (map (shipment_entry weigh) rows) ≡ option_map (shipment_entry weigh) (row_of shipment_key shipment_key_cmp (year, product) rows)
+found_entry weigh year product rows = row_of-map shipment_key entry_key shipment_key_cmp (shipment_entry weigh) (λ row. refl) (year, product) rows
 
-units_by : (weigh : List ℕ → ℕ) (o : Option ShipmentRow) → option_map_or (λ (entry : Entry). entry.units) (option_map (entry_by weigh) o) 0 ≡ option_map_or (λ row. row.units) o 0
+units_by : (weigh : List ℕ → ℕ) (o : Option ShipmentRow) → option_map_or (λ (entry : Entry). entry.units) (option_map (shipment_entry weigh) o) 0 ≡ option_map_or (λ row. row.units) o 0
 units_by weigh None = refl
 units_by weigh (Some row) = refl
 
 pub units : (t : Lists) (year : ℕ) (product : List ℕ) → entry_units year product (entries_of t) ≡ units_of t year product
 units t year product = ap (λ (o : Option Entry). option_map_or (λ entry. entry.units) o 0) (found_entry (mass t) year product t.shipments) ∙ units_by (mass t) (shipment_row t year product)
 
-weighs_by : (weigh : List ℕ → ℕ) (year : ℕ) (product : List ℕ) (o : Option ShipmentRow) → ((row : ShipmentRow) → o ≡ Some row → (row.year ≡ year) × (row.product ≡ product)) → IfSome (option_map (entry_by weigh) o) (λ entry. entry.mass ≡ weigh product)
+weighs_by : (weigh : List ℕ → ℕ) (year : ℕ) (product : List ℕ) (o : Option ShipmentRow) → ((row : ShipmentRow) → o ≡ Some row → (row.year ≡ year) × (row.product ≡ product)) → IfSome (option_map (shipment_entry weigh) o) (λ entry. entry.mass ≡ weigh product)
 weighs_by weigh year product None found = tt
 weighs_by weigh year product (Some row) found = ap weigh (found row refl).1
 
@@ -95,7 +95,7 @@ weighs t year product =
     subst (λ (o : Option Entry). IfSome o (λ entry. entry.mass ≡ mass t product)) (sym (found_entry (mass t) year product t.shipments))
     (weighs_by (mass t) year product (shipment_row t year product) (found_key year product t.shipments))
 
-masses_by : (weigh : List ℕ → ℕ) (year : ℕ) (rows : List ShipmentRow) → entries_mass year (map (entry_by weigh) rows) ≡ sum_by (λ row. row.units * weigh row.product) (filter (λ row. row.year == year) rows)
+masses_by : (weigh : List ℕ → ℕ) (year : ℕ) (rows : List ShipmentRow) → entries_mass year (map (shipment_entry weigh) rows) ≡ sum_by (λ row. row.units * weigh row.product) (filter (λ row. row.year == year) rows)
 masses_by weigh year [] = refl
 masses_by weigh year (row ∷ rows) =
     elim (cases_Bool (row.year == year)) [
@@ -103,7 +103,7 @@ masses_by weigh year (row ∷ rows) =
           rw here
           (omega (
             arith,
-            sum_by-cons (λ (entry : Entry). entry.units * entry.mass) (entry_by weigh row) (filter (λ (entry : Entry). entry.year == year) (map (entry_by weigh) rows)),
+            sum_by-cons (λ (entry : Entry). entry.units * entry.mass) (shipment_entry weigh row) (filter (λ (entry : Entry). entry.year == year) (map (shipment_entry weigh) rows)),
             sum_by-cons (λ (shipment : ShipmentRow). shipment.units * weigh shipment.product) row (filter (λ (shipment : ShipmentRow). shipment.year == year) rows),
             masses_by weigh year rows,
           ))
@@ -114,11 +114,11 @@ pub masses : (t : Lists) (year : ℕ) → entries_mass year (entries_of t) ≡ y
 masses t year = masses_by (mass t) year t.shipments
 
 -- the first year that is too heavy
-first_year : (t : Lists) (rows : List ShipmentRow) → option_map (λ (entry : Entry). entry.year) (find (λ entry. nat_le (2 ^ 128) (entries_mass entry.year (entries_of t))) (map (entry_by (mass t)) rows)) ≡ option_map (λ row. row.year) (find (λ row. nat_le (2 ^ 128) (year_mass t row.year)) rows)
+first_year : (t : Lists) (rows : List ShipmentRow) → option_map (λ (entry : Entry). entry.year) (find (λ entry. nat_le (2 ^ 128) (entries_mass entry.year (entries_of t))) (map (shipment_entry (mass t)) rows)) ≡ option_map (λ row. row.year) (find (λ row. nat_le (2 ^ 128) (year_mass t row.year)) rows)
 first_year t [] = refl
 first_year t (row ∷ rows) =
-    ap (λ m. option_map (λ (entry : Entry). entry.year) (cond (nat_le (2 ^ 128) m) (Some (entry_by (mass t) row)) (find (λ entry. nat_le (2 ^ 128) (entries_mass entry.year (entries_of t))) (map (entry_by (mass t)) rows)))) (masses t row.year)
-    ∙ elim (nat_le (2 ^ 128) (year_mass t row.year)) as (λ b. option_map (λ (entry : Entry). entry.year) (cond b (Some (entry_by (mass t) row)) (find (λ entry. nat_le (2 ^ 128) (entries_mass entry.year (entries_of t))) (map (entry_by (mass t)) rows))) ≡ option_map (λ (shipment : ShipmentRow). shipment.year) (cond b (Some row) (find (λ shipment. nat_le (2 ^ 128) (year_mass t shipment.year)) rows))) [
+    ap (λ m. option_map (λ (entry : Entry). entry.year) (cond (nat_le (2 ^ 128) m) (Some (shipment_entry (mass t) row)) (find (λ entry. nat_le (2 ^ 128) (entries_mass entry.year (entries_of t))) (map (shipment_entry (mass t)) rows)))) (masses t row.year)
+    ∙ elim (nat_le (2 ^ 128) (year_mass t row.year)) as (λ b. option_map (λ (entry : Entry). entry.year) (cond b (Some (shipment_entry (mass t) row)) (find (λ entry. nat_le (2 ^ 128) (entries_mass entry.year (entries_of t))) (map (shipment_entry (mass t)) rows))) ≡ option_map (λ (shipment : ShipmentRow). shipment.year) (cond b (Some row) (find (λ shipment. nat_le (2 ^ 128) (year_mass t shipment.year)) rows))) [
       | true ↦ refl
       | false ↦ first_year t rows
     ]
@@ -132,12 +132,12 @@ abbrev of_mass : ShipmentRow → ℕ → Entry
 of_mass row n = record { year = row.year; product = row.product; units = row.units; mass = n }
 
 -- entries by two masses that agree are the same
-same_entries : (old new : List ℕ → ℕ) → ((product : List ℕ) → new product ≡ old product) → (rows : List ShipmentRow) → map (entry_by new) rows ≡ map (entry_by old) rows
+same_entries : (old new : List ℕ → ℕ) → ((product : List ℕ) → new product ≡ old product) → (rows : List ShipmentRow) → map (shipment_entry new) rows ≡ map (shipment_entry old) rows
 same_entries old new same [] = refl
 same_entries old new same (row ∷ rows) = λ i. of_mass row (same row.product i) ∷ same_entries old new same rows i
 
 module _ (t : Lists) (s : IsConsistent t) where
-  by_old : (edit : Edit) → PassesRows t edit → seeds_of_new t edit ≡ [] → entries_of (entered t edit) ≡ map (entry_by (mass t)) (entered t edit).shipments
+  by_old : (edit : Edit) → PassesRows t edit → seeds_of_new t edit ≡ [] → entries_of (entered t edit) ≡ map (shipment_entry (mass t)) (entered t edit).shipments
   by_old edit passed none = same_entries (mass t) (mass (entered t edit)) (λ product. mass_stays t s edit passed product (unaffected t edit none product)) (entered t edit).shipments
 
   some_units : (year : ℕ) (product : List ℕ) (units : ℕ) → 1 ≤ units → (shipped_units t year product units).shipments ≡ with_row shipment_key shipment_key_cmp (record { year = year; product = product; units = units }) t.shipments
@@ -145,8 +145,8 @@ module _ (t : Lists) (s : IsConsistent t) where
   some_units year product (suc fewer) some = refl
 
   -- the entries with another entry
-  put : (year : ℕ) (product : List ℕ) (n : ℕ) → map (entry_by (mass t)) (with_row shipment_key shipment_key_cmp (record { year = year; product = product; units = n }) t.shipments) ≡ with_entry (record { year = year; product = product; units = n; mass = mass t product }) (entries_of t)
-  put year product n = sym (with_row-map shipment_key entry_key shipment_key_cmp (entry_by (mass t)) (λ row. refl) (record { year = year; product = product; units = n }) t.shipments)
+  put : (year : ℕ) (product : List ℕ) (n : ℕ) → map (shipment_entry (mass t)) (with_row shipment_key shipment_key_cmp (record { year = year; product = product; units = n }) t.shipments) ≡ with_entry (record { year = year; product = product; units = n; mass = mass t product }) (entries_of t)
+  put year product n = sym (with_row-map shipment_key entry_key shipment_key_cmp (shipment_entry (mass t)) (λ row. refl) (record { year = year; product = product; units = n }) t.shipments)
 
   shipments_of_ship : (ticket product : List ℕ) (year units : ℕ) → (entered t (Ship ticket product year units)).shipments ≡ (shipped_units t year product (units_of t year product + units)).shipments
   unfolding entered made
@@ -176,7 +176,7 @@ module _ (t : Lists) (s : IsConsistent t) where
   shipped ticket product year more passed =
       let some = some_shipped ticket product year more passed.in_form in
       by_old (Ship ticket product year more) passed (no_seeds_of_ship ticket product year more)
-      ∙ ap (map (entry_by (mass t))) (shipments_of_ship ticket product year more ∙ some_units year product (units_of t year product + more) (omega (arith, some)))
+      ∙ ap (map (shipment_entry (mass t))) (shipments_of_ship ticket product year more ∙ some_units year product (units_of t year product + more) (omega (arith, some)))
       ∙ put year product (units_of t year product + more)
       ∙ ap (λ n. with_entry (record { year = year; product = product; units = n + more; mass = mass t product }) (entries_of t)) (sym (units t year product))
 
@@ -188,7 +188,7 @@ module _ (t : Lists) (s : IsConsistent t) where
 
   -- the entries with fewer units of one that is kept
   lowered_by : (year : ℕ) (product : List ℕ) (fewer : ℕ) → 1 ≤ fewer → (o : Option ShipmentRow) → shipment_row t year product ≡ o → fewer ≤ option_map_or (λ row. row.units) o 0 →
-      map (entry_by (mass t)) (shipped_units t year product (option_map_or (λ row. row.units) o 0 - fewer)).shipments ≡ lowered (option_map (entry_by (mass t)) o) fewer (entries_of t)
+      map (shipment_entry (mass t)) (shipped_units t year product (option_map_or (λ row. row.units) o 0 - fewer)).shipments ≡ lowered (option_map (shipment_entry (mass t)) o) fewer (entries_of t)
   lowered_by year product fewer some None e enough = absurd (omega (arith, some, enough))
   lowered_by year product fewer some (Some row) e enough =
       let key = found_key year product t.shipments row e in
@@ -196,16 +196,16 @@ module _ (t : Lists) (s : IsConsistent t) where
         | inl same ↦
             let equal = eqb-true row.units fewer same in
             let none : row.units - fewer ≡ 0 = omega (arith, equal) in
-            ap (λ n. map (entry_by (mass t)) (shipped_units t year product n).shipments) none
-            ∙ sym (without_row-map shipment_key entry_key shipment_key_cmp (entry_by (mass t)) (λ row. refl) (year, product) t.shipments)
+            ap (λ n. map (shipment_entry (mass t)) (shipped_units t year product n).shipments) none
+            ∙ sym (without_row-map shipment_key entry_key shipment_key_cmp (shipment_entry (mass t)) (λ row. refl) (year, product) t.shipments)
             ∙ (λ i. without_row entry_key entry_key_cmp (sym key.0 i, sym key.1 i) (entries_of t))
-            ∙ sym (lowered-all (entry_by (mass t) row) fewer (entries_of t) same)
+            ∙ sym (lowered-all (shipment_entry (mass t) row) fewer (entries_of t) same)
         | inr other ↦
             let differ : row.units ≡ fewer → ⊥ = eqb-false row.units fewer other in
-            ap (map (entry_by (mass t))) (some_units year product (row.units - fewer) (left row.units fewer enough differ))
+            ap (map (shipment_entry (mass t))) (some_units year product (row.units - fewer) (left row.units fewer enough differ))
             ∙ put year product (row.units - fewer)
             ∙ (λ i. with_entry (record { year = sym key.0 i; product = sym key.1 i; units = row.units - fewer; mass = mass t (sym key.1 i) }) (entries_of t))
-            ∙ sym (lowered-some (entry_by (mass t) row) fewer (entries_of t) other)
+            ∙ sym (lowered-some (shipment_entry (mass t) row) fewer (entries_of t) other)
       ]
     where
       left : (a b : ℕ) → b ≤ a → (a ≡ b → ⊥) → 1 ≤ a - b
@@ -217,7 +217,7 @@ module _ (t : Lists) (s : IsConsistent t) where
       let kept = units_of t year product in
       let enough = ltb-false kept fewer (refuse_if-none (nat_lt kept fewer) _ (unrefused t (Unship ticket product year fewer) passed).ship_below_zero) in
       by_old (Unship ticket product year fewer) passed (no_seeds_of_unship ticket product year fewer)
-      ∙ ap (map (entry_by (mass t))) (shipments_of_unship ticket product year fewer)
+      ∙ ap (map (shipment_entry (mass t))) (shipments_of_unship ticket product year fewer)
       ∙ lowered_by year product fewer (some_taken ticket product year fewer passed.in_form) (shipment_row t year product) refl enough
       ∙ ap (λ o. lowered o fewer (entries_of t)) (sym (found_entry (mass t) year product t.shipments))
 
@@ -227,11 +227,11 @@ module _ (t : Lists) (s : IsConsistent t) where
   new_mass edit passed weighed are product None e = mass_stays t s edit passed product (are.others product e)
   new_mass edit passed weighed are product (Some w) e = sym (are.new product w e)
 
-  weighed_rows : (edit : Edit) → PassesRows t edit → (weighed : List ProductMass) → AreNewMasses t edit weighed → (rows : List ShipmentRow) → map (entry_by (mass (entered t edit))) rows ≡ with_masses weighed (map (entry_by (mass t)) rows)
+  weighed_rows : (edit : Edit) → PassesRows t edit → (weighed : List ProductMass) → AreNewMasses t edit weighed → (rows : List ShipmentRow) → map (shipment_entry (mass (entered t edit))) rows ≡ with_masses weighed (map (shipment_entry (mass t)) rows)
   weighed_rows edit passed weighed are [] = refl
   weighed_rows edit passed weighed are (row ∷ rows) =
       let same = new_mass edit passed weighed are row.product (row_of (λ w. w.product) code_cmp row.product weighed) refl in
       λ i. of_mass row (same i) ∷ weighed_rows edit passed weighed are rows i
 
   pub reweighed : (edit : Edit) → PassesRows t edit → changes_shipments edit ≡ false → (weighed : List ProductMass) → AreNewMasses t edit weighed → entries_of (entered t edit) ≡ with_masses weighed (entries_of t)
-  reweighed edit passed none weighed are = ap (map (entry_by (mass (entered t edit)))) (same_shipments t edit none) ∙ weighed_rows edit passed weighed are t.shipments
+  reweighed edit passed none weighed are = ap (map (shipment_entry (mass (entered t edit)))) (same_shipments t edit none) ∙ weighed_rows edit passed weighed are t.shipments

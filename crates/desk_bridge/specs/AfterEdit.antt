@@ -6,8 +6,8 @@ use Rattle.desk_text.specs.Code.{same_code}
 use Rattle.desk_graph.specs.Graph.{Graph, label_of}
 use Rattle.desk_graph.specs.Reaches.{has_node, is_affected as is_affected_node}
 use Rattle.desk_rollup.specs.Numbers.{has, mark_numbers}
-use Rattle.desk_rollup.specs.Plan.{AreDistinct, AreRolledUp, CanPrepare, nodes_of}
-use Rattle.desk_rollup.specs.Values.{Kept, OwnValues, amount_of, own_at, own_with}
+use Rattle.desk_rollup.specs.Plan.{AreDistinct, AreRolledUp, CanPrepare, nodes_of_owns}
+use Rattle.desk_rollup.specs.Values.{KeptValues, OwnValues, amount_of, own_at, own_with}
 use Rattle.desk_model.specs.declared.edit.Edit.{Edit}
 use Rattle.desk_model.specs.Effect.{entered}
 use Rattle.desk_model.specs.Lists.{Lists, is_kept}
@@ -50,7 +50,7 @@ pub record AreRenewed (t : Lists) (edit : Edit) (g : Graph) (nodes : List ℕ) :
 
 -- an edit that passes the rules 1 to 20; the bills before and after it are those of the tables, and the nodes stay; what is kept is right
 -- before it; and new own values are given of the nodes that have to have them
-pub record IsEdited (t : Lists) (edit : Edit) (g new : Graph) (kept : Kept) (owns : List OwnValues) : Type 0 where
+pub record IsEdited (t : Lists) (edit : Edit) (g new : Graph) (kept : KeptValues) (owns : List OwnValues) : Type 0 where
   pub consistent : IsConsistent t
   pub passes : PassesRows t edit
   pub before : IsBridge t g
@@ -58,17 +58,17 @@ pub record IsEdited (t : Lists) (edit : Edit) (g new : Graph) (kept : Kept) (own
   pub nodes : length g.labels ≤ length new.labels
   pub labels : (node : ℕ) → node < length g.labels → label_of new.labels node ≡ label_of g.labels node
   pub rolled : AreRolledUp g kept
-  pub renewed : AreRenewed t edit new (nodes_of owns)
+  pub renewed : AreRenewed t edit new (nodes_of_owns owns)
 
 -- then the nodes that the bill tells to be affected are those of the edit; where the new own values are right, those of all nodes are; and
 -- the roll-ups may be prepared
 pub record EditsArePrepared : Type 0 where
-  pub affected : (t : Lists) (edit : Edit) (g new : Graph) (kept : Kept) (owns : List OwnValues) → IsEdited t edit g new kept owns →
-      (node : ℕ) → node < length new.labels → is_affected_node new.lines (nodes_of owns) node ≡ is_affected t edit (label_of new.labels node)
-  pub owns : (t : Lists) (edit : Edit) (g new : Graph) (kept : Kept) (owns : List OwnValues) → IsEdited t edit g new kept owns →
+  pub affected : (t : Lists) (edit : Edit) (g new : Graph) (kept : KeptValues) (owns : List OwnValues) → IsEdited t edit g new kept owns →
+      (node : ℕ) → node < length new.labels → is_affected_node new.lines (nodes_of_owns owns) node ≡ is_affected t edit (label_of new.labels node)
+  pub owns : (t : Lists) (edit : Edit) (g new : Graph) (kept : KeptValues) (owns : List OwnValues) → IsEdited t edit g new kept owns →
       (number : Finding → ℕ) (name : ℕ → List ℕ) → AreOwnOf t g number name (own_at kept.owns) →
-      ((node : ℕ) → has_node (nodes_of owns) node ≡ true → IsOwnOf (entered t edit) number name (label_of new.labels node) (own_with owns kept.owns node)) →
+      ((node : ℕ) → has_node (nodes_of_owns owns) node ≡ true → IsOwnOf (entered t edit) number name (label_of new.labels node) (own_with owns kept.owns node)) →
       AreOwnOf (entered t edit) new number name (own_with owns kept.owns)
-  pub prepared : (t : Lists) (edit : Edit) (g new : Graph) (kept : Kept) (owns : List OwnValues) → IsEdited t edit g new kept owns →
+  pub prepared : (t : Lists) (edit : Edit) (g new : Graph) (kept : KeptValues) (owns : List OwnValues) → IsEdited t edit g new kept owns →
       (number : Finding → ℕ) (name : ℕ → List ℕ) → AreOwnOf (entered t edit) new number name (own_with owns kept.owns) →
       CanPrepare new owns kept

@@ -19,12 +19,12 @@ pub record IsNumbered (t : Lists) (labels : List (List ℕ)) : Type 0 where
   pub count : length labels ≡ length t.materials + length t.parts
 
 -- a line of a node as the tables keep it
-abbrev pub row_at : List (List ℕ) → ℕ → BillLine → LineRow
-row_at labels parent line = record { parent = label_of labels parent; child = label_of labels line.node; count = line.count }
+abbrev pub line_row_at : List (List ℕ) → ℕ → BillLine → LineRow
+line_row_at labels parent line = record { parent = label_of labels parent; child = label_of labels line.node; count = line.count }
 
 -- the lines of a node as the tables keep them
 abbrev pub rows_at : Graph → ℕ → List LineRow
-rows_at g node = map (row_at g.labels node) (graph.lines_of g.lines node)
+rows_at g node = map (line_row_at g.labels node) (graph.lines_of g.lines node)
 
 -- the lines of each node are the tables' lines of its code, child by child
 abbrev pub HasSameLines : Lists → Graph → Type 0

@@ -30,11 +30,11 @@ use Rattle.desk_graph.specs.Edits.{line_answer}
 use Rattle.desk_graph.specs.Graph.{Graph, count_at, label_of, line_count, lines_of as node_lines}
 use Rattle.desk_graph.specs.Reaches.{chain, is_affected}
 use Rattle.desk_rollup.specs.declared.hop.Hop.{Hop}
-use Rattle.desk_rollup.specs.Chain.{chain as node_chain, next_to}
+use Rattle.desk_rollup.specs.Chain.{hop_chain as node_chain, next_hop}
 use Rattle.desk_rollup.specs.Numbers.{hop_numbers, mark_numbers}
-use Rattle.desk_rollup.specs.Plan.{nodes_of}
-use Rattle.desk_rollup.specs.Rolled.{amount, mark_count, marks, weight}
-use Rattle.desk_rollup.specs.Values.{OwnValues, RolledValues, amount_of, carried as node_carried, own_at, own_with, rolled_at}
+use Rattle.desk_rollup.specs.Plan.{nodes_of_owns}
+use Rattle.desk_rollup.specs.Rolled.{amount, mark_count, mark_numbers_below, weight}
+use Rattle.desk_rollup.specs.Values.{OwnValues, RolledValues, amount_of, carried_in as node_carried, own_at, own_with, rolled_at}
 use Rattle.desk_tonnage.specs.declared.entry.Entry.{Entry}
 use Rattle.desk_tonnage.specs.Edits.{with_units, without_units}
 use Rattle.desk_tonnage.specs.Entries.{units_of}
@@ -180,7 +180,7 @@ number = finding_number lighter_bill.labels (codes "dehp" ∷ codes "lead" ∷ c
 
 -- the own values of codes, before the lighter brass and after it, are those of their nodes
 pub record OwnExamples : Type 0 where
-  pub all_nodes : nodes_of gateway_owns ≡ range_with_len 0 7
+  pub all_nodes : nodes_of_owns gateway_owns ≡ range_with_len 0 7
   pub weights : map (own_mass desk) gateway.labels ≡ map (λ own. own.weight) gateway_owns
   pub marks : map (λ code. map number (own_findings desk code)) gateway.labels ≡ map (λ own. mark_numbers own.marks) gateway_owns
   pub leads : map (own_load desk (codes "lead")) gateway.labels ≡ map (λ own. amount_of own.loads 1) gateway_owns
@@ -220,9 +220,9 @@ pub record RollUpExamples : Type 0 where
   pub amounts : map (λ node. amount gateway.lines (own_at gateway_owns) node 1) (range_with_len 0 7) ≡ map (λ values. node_carried values.loads 1) gateway_rolled
   pub pin_findings : map number (findings_at desk (codes "PIN")) ≡ 1 ∷ 12884901889 ∷ []
   pub pin_hops : hop_numbers (rolled_at gateway_rolled 3).hops ≡ 1 ∷ 12884901889 ∷ []
-  pub pin_marks : marks gateway.lines (own_at gateway_owns) 3 ≡ 12884901889 ∷ 1 ∷ []
+  pub pin_marks : mark_numbers_below gateway.lines (own_at gateway_owns) 3 ≡ 12884901889 ∷ 1 ∷ []
   pub as_many : map (λ code. length (findings_at desk code)) gateway.labels ≡ map (λ values. length values.hops) gateway_rolled
-  pub next : next_to gateway_rolled 1 6 ≡ Some 5
+  pub next : next_hop gateway_rolled 1 6 ≡ Some 5
   pub brass_chain : node_chain gateway_rolled 1 6 ≡ 6 ∷ 5 ∷ 3 ∷ 0 ∷ []
 
 -- a hundred gateways more
@@ -238,20 +238,20 @@ abbrev pub third_cable : Edit
 third_cable = Line (codes "t20") (codes "GATEWAY") (codes "CABLE") 3
 
 -- the entry of so many gateways in 2024 that weigh so much each
-abbrev pub entry_by : ℕ → ℕ → Entry
-entry_by units mass = record { year = 2024; product = codes "GATEWAY"; units = units; mass = mass }
+abbrev pub gateway_entry : ℕ → ℕ → Entry
+gateway_entry units mass = record { year = 2024; product = codes "GATEWAY"; units = units; mass = mass }
 
 -- the year's units and mass, and the entries after an edit: those of the tables, and what becomes of the entries from before
 pub record YearExamples : Type 0 where
   pub units : units_of 2024 (codes "GATEWAY") (entries_of desk) ≡ 500000
   pub kept_year : year_mass desk 2024 ≡ 51000000000000
   pub year : entries_mass 2024 (entries_of desk) ≡ 51000000000000
-  pub shipped : entries_of (entered desk more) ≡ entry_by 500100 102000000 ∷ []
-  pub units_added : with_units 2024 (codes "GATEWAY") 100 102000000 (entries_of desk) ≡ entry_by 500100 102000000 ∷ []
-  pub taken_off : entries_of (entered desk fewer) ≡ entry_by 499000 102000000 ∷ []
-  pub units_taken : without_units 2024 (codes "GATEWAY") 1000 (entries_of desk) ≡ entry_by 499000 102000000 ∷ []
-  pub heavier : entries_of (entered desk third_cable) ≡ entry_by 500000 113000000 ∷ []
-  pub new_mass : with_masses (record { product = codes "GATEWAY"; mass = 113000000 } ∷ []) (entries_of desk) ≡ entry_by 500000 113000000 ∷ []
+  pub shipped : entries_of (entered desk more) ≡ gateway_entry 500100 102000000 ∷ []
+  pub units_added : with_units 2024 (codes "GATEWAY") 100 102000000 (entries_of desk) ≡ gateway_entry 500100 102000000 ∷ []
+  pub taken_off : entries_of (entered desk fewer) ≡ gateway_entry 499000 102000000 ∷ []
+  pub units_taken : without_units 2024 (codes "GATEWAY") 1000 (entries_of desk) ≡ gateway_entry 499000 102000000 ∷ []
+  pub heavier : entries_of (entered desk third_cable) ≡ gateway_entry 500000 113000000 ∷ []
+  pub new_mass : with_masses (record { product = codes "GATEWAY"; mass = 113000000 } ∷ []) (entries_of desk) ≡ gateway_entry 500000 113000000 ∷ []
 
 -- the plan of a hundred gateways more: the year's entry and the ticket that it puts in
 abbrev pub plan_of_more : TablesPlan

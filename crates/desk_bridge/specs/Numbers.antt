@@ -5,8 +5,8 @@ use Rattle.desk_text.specs.Code.{same_code}
 use Rattle.desk_law.specs.Rule.{rule_number}
 use Rattle.desk_graph.specs.Graph.{Graph, label_of}
 use Rattle.desk_graph.specs.Reaches.{has_node}
-use Rattle.desk_rollup.specs.Plan.{CanPrepare, nodes_of}
-use Rattle.desk_rollup.specs.Values.{Kept, OwnValues, own_at, own_with}
+use Rattle.desk_rollup.specs.Plan.{CanPrepare, nodes_of_owns}
+use Rattle.desk_rollup.specs.Values.{KeptValues, OwnValues, own_at, own_with}
 use Rattle.desk_model.specs.declared.edit.Edit.{Edit}
 use Rattle.desk_model.specs.Effect.{entered}
 use Rattle.desk_model.specs.Lists.{Lists}
@@ -36,11 +36,12 @@ pub record NumbersServe : Type 0 where
       AllByRecursion (λ substance. is_candidate t substance ≡ false) others → (own : ℕ → OwnValues) →
       AreOwnOf t g (finding_number g.labels names) (label_of names) own → AreOwnOf t g (finding_number (g.labels ++ more) (names ++ others)) (label_of (names ++ others)) own
 
--- an edit, with the own values of the nodes that it affects: the roll-ups may be prepared, and all own values are right then
+-- an edit, with new own values of the nodes that it affects, but for assemblies whose lines stay: the roll-ups may be prepared, and all own
+-- values are right then
 abbrev pub EditsKeepValues : Type 0
-EditsKeepValues = (t : Lists) (edit : Edit) (g new : Graph) (kept : Kept) (owns : List OwnValues) → IsEdited t edit g new kept owns →
+EditsKeepValues = (t : Lists) (edit : Edit) (g new : Graph) (kept : KeptValues) (owns : List OwnValues) → IsEdited t edit g new kept owns →
     (more : List (List ℕ)) → new.labels ≡ g.labels ++ more → (names others : List (List ℕ)) → AreNames t names → AreNames (entered t edit) (names ++ others) →
     AllByRecursion (λ substance. is_candidate t substance ≡ false) others →
     AreOwnOf t g (finding_number g.labels names) (label_of names) (own_at kept.owns) →
-    ((node : ℕ) → has_node (nodes_of owns) node ≡ true → IsOwnOf (entered t edit) (finding_number new.labels (names ++ others)) (label_of (names ++ others)) (label_of new.labels node) (own_with owns kept.owns node)) →
+    ((node : ℕ) → has_node (nodes_of_owns owns) node ≡ true → IsOwnOf (entered t edit) (finding_number new.labels (names ++ others)) (label_of (names ++ others)) (label_of new.labels node) (own_with owns kept.owns node)) →
     CanPrepare new owns kept × HasOwnValues (entered t edit) new (finding_number new.labels (names ++ others)) (label_of (names ++ others)) (own_with owns kept.owns)

@@ -10,24 +10,24 @@ use Rattle.desk_findings.specs.Findings.{Finding, above, findings, is_in, over}
 use Rattle.desk_findings.specs.Holders.{holder}
 
 -- 0 for a finding in a material, 1 for one on an article
-abbrev pub kind_of : Finding → ℕ
-kind_of (over material rule) = 0
-kind_of (above article substance) = 1
+abbrev pub finding_kind : Finding → ℕ
+finding_kind (over material rule) = 0
+finding_kind (above article substance) = 1
 
 -- the number of the rule whose limit is passed; 0 where it is that of candidates
-abbrev pub rule_of : Finding → ℕ
-rule_of (over material rule) = rule_number rule
-rule_of (above article substance) = 0
+abbrev pub finding_rule : Finding → ℕ
+finding_rule (over material rule) = rule_number rule
+finding_rule (above article substance) = 0
 
 -- the candidate that is above; no code where it is no candidate
-abbrev pub candidate_of : Finding → List ℕ
-candidate_of (over material rule) = []
-candidate_of (above article substance) = substance
+abbrev pub finding_candidate : Finding → List ℕ
+finding_candidate (over material rule) = []
+finding_candidate (above article substance) = substance
 
 -- those in materials stand before those on articles; then they go by the code of the material or the article; and then by the number of
 -- the rule, or the code of the candidate
 abbrev pub finding_cmp : Finding → Finding → Ordering
-finding_cmp = then_cmp (on kind_of nat_cmp) (then_cmp (on holder code_cmp) (then_cmp (on rule_of nat_cmp) (on candidate_of code_cmp)))
+finding_cmp = then_cmp (on finding_kind nat_cmp) (then_cmp (on holder code_cmp) (then_cmp (on finding_rule nat_cmp) (on finding_candidate code_cmp)))
 
 -- just the findings of a part, each once and in that order, are the list of its findings that answers tell
 abbrev pub FindingsAreOrdered : Type 0

@@ -2,7 +2,7 @@
 -- year that is too heavy.
 use Rattle.std.specs.Prelude.{◌≡◌, ℕ, ◌<◌, true, List, Some, None, map}
 use Rattle.desk_graph.specs.Graph.{Graph, label_of}
-use Rattle.desk_rollup.specs.Plan.{AllFit, IsAccepted, IsFirstTooLarge}
+use Rattle.desk_rollup.specs.Plan.{AllFit, IsWithinLimits, IsFirstTooLarge}
 use Rattle.desk_rollup.specs.Rolled.{mark_count}
 use Rattle.desk_rollup.specs.Values.{OwnValues}
 use Rattle.desk_tonnage.specs.Years.{too_heavy_year}
@@ -37,7 +37,7 @@ pub record PartsRefuse : Type 0 where
       refused_by_bill t edit ≡ Some (TotalTooLarge (label_of g.labels node))
   pub many : (t : Lists) (edit : Edit) (g : Graph) (own : ℕ → OwnValues) → IsPassed t edit g own → AllFit g own → 4194304 < mark_count g.lines own →
       refused_by_bill t edit ≡ Some FindingsFull
-  pub heavy : (t : Lists) (edit : Edit) (g : Graph) (own : ℕ → OwnValues) → IsPassed t edit g own → IsAccepted g own → (year : ℕ) →
+  pub heavy : (t : Lists) (edit : Edit) (g : Graph) (own : ℕ → OwnValues) → IsPassed t edit g own → IsWithinLimits g own → (year : ℕ) →
       too_heavy_year (entries_of (entered t edit)) ≡ Some year → refused_by_bill t edit ≡ Some (YearTooLarge year)
-  pub none : (t : Lists) (edit : Edit) (g : Graph) (own : ℕ → OwnValues) → IsPassed t edit g own → IsAccepted g own →
+  pub none : (t : Lists) (edit : Edit) (g : Graph) (own : ℕ → OwnValues) → IsPassed t edit g own → IsWithinLimits g own →
       too_heavy_year (entries_of (entered t edit)) ≡ None → refused_by_bill t edit ≡ None

@@ -3,9 +3,9 @@ use Rattle.std.specs.Prelude.{◌≡◌, ℕ, ◌<◌, List, [], Some, None, len
 use Rattle.desk_graph.specs.Graph.{Graph, label_of}
 use Rattle.desk_graph.specs.Reaches.{has_node}
 use Rattle.desk_rollup.specs.Numbers.{has, hop_numbers}
-use Rattle.desk_rollup.specs.Plan.{AllFit, AreDistinct, AreRolledUp, CanPrepare, IsFirstTooLarge, nodes_of}
+use Rattle.desk_rollup.specs.Plan.{AllFit, AreDistinct, AreRolledUp, CanPrepare, IsFirstTooLarge, nodes_of_owns}
 use Rattle.desk_rollup.specs.Rolled.{mark_count}
-use Rattle.desk_rollup.specs.Values.{Kept, OwnValues, carried as node_carried, own_at, own_with, rolled_at}
+use Rattle.desk_rollup.specs.Values.{KeptValues, OwnValues, carried_in as node_carried, own_at, own_with, rolled_at}
 use Rattle.desk_model.specs.Lists.{Lists}
 use Rattle.desk_findings.specs.Carried.{carried}
 use Rattle.desk_findings.specs.Findings.{Finding, findings_at}
@@ -33,7 +33,7 @@ pub record RefusalsAgree : Type 0 where
       has_too_many_findings t ≡ nat_lt 4194304 (mark_count g.lines own)
 
 -- these values are those of a code
-pub record AreValuesOf (t : Lists) (g : Graph) (number : Finding → ℕ) (name : ℕ → List ℕ) (kept : Kept) (node : ℕ) : Type 0 where
+pub record AreValuesOf (t : Lists) (g : Graph) (number : Finding → ℕ) (name : ℕ → List ℕ) (kept : KeptValues) (node : ℕ) : Type 0 where
   pub weight : (rolled_at kept.rolled node).weight ≡ mass t (label_of g.labels node)
   pub found : (n : ℕ) → has (hop_numbers (rolled_at kept.rolled node).hops) n ≡ has_numbered number (findings_at t (label_of g.labels node)) n
   pub as_many : length (rolled_at kept.rolled node).hops ≡ length (findings_at t (label_of g.labels node))
@@ -41,11 +41,11 @@ pub record AreValuesOf (t : Lists) (g : Graph) (number : Finding → ℕ) (name 
 
 -- the kept values of a node are those of its code
 abbrev pub ValuesTell : Type 0
-ValuesTell = (t : Lists) (g : Graph) (number : Finding → ℕ) (name : ℕ → List ℕ) (kept : Kept) → HasOwnValues t g number name (own_at kept.owns) → AreRolledUp g kept →
+ValuesTell = (t : Lists) (g : Graph) (number : Finding → ℕ) (name : ℕ → List ℕ) (kept : KeptValues) → HasOwnValues t g number name (own_at kept.owns) → AreRolledUp g kept →
     (node : ℕ) → node < length g.labels → AreValuesOf t g number name kept node
 
 -- from nothing the roll-ups may be prepared with the own values of all nodes
 abbrev pub StartIsPrepared : Type 0
 StartIsPrepared = (t : Lists) (g : Graph) (number : Finding → ℕ) (name : ℕ → List ℕ) (owns : List OwnValues) → HasOwnValues t g number name (own_with owns []) →
-    AreDistinct (nodes_of owns) → ((node : ℕ) → has_node (nodes_of owns) node ≡ nat_lt node (length g.labels)) →
+    AreDistinct (nodes_of_owns owns) → ((node : ℕ) → has_node (nodes_of_owns owns) node ≡ nat_lt node (length g.labels)) →
     CanPrepare g owns (record { owns = []; rolled = [] })

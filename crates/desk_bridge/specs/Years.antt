@@ -21,12 +21,12 @@ use Rattle.desk_tonnage.specs.Masses.{with_masses}
 use Rattle.desk_tonnage.specs.Years.{too_heavy_year as too_heavy_entries, year_mass as entries_mass}
 
 -- the entry of a shipment, by what a product weighs
-abbrev pub entry_by : (List ℕ → ℕ) → ShipmentRow → Entry
-entry_by weigh shipment = record { year = shipment.year; product = shipment.product; units = shipment.units; mass = weigh shipment.product }
+abbrev pub shipment_entry : (List ℕ → ℕ) → ShipmentRow → Entry
+shipment_entry weigh shipment = record { year = shipment.year; product = shipment.product; units = shipment.units; mass = weigh shipment.product }
 
 -- the entries of the shipments
 abbrev pub entries_of : Lists → List Entry
-entries_of t = map (entry_by (mass t)) t.shipments
+entries_of t = map (shipment_entry (mass t)) t.shipments
 
 -- the new masses are those after the edit, and the products that have none of them are not affected
 pub record AreNewMasses (t : Lists) (edit : Edit) (masses : List ProductMass) : Type 0 where

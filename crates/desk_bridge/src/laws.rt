@@ -47,7 +47,7 @@ pub fn roll_ups_agree()
     ensures { RollUpsAgree }
 {}
 
-/// With the own values of the affected nodes the roll-ups may be prepared after an edit.
+/// With new own values of the affected nodes, but for assemblies whose lines stay, the roll-ups may be prepared after an edit.
 pub fn edits_are_prepared()
     ensures { EditsArePrepared }
 {}
@@ -72,7 +72,8 @@ pub fn numbers_serve()
     ensures { NumbersServe }
 {}
 
-/// After an edit, with new own values of the nodes that it affects, the own values of all nodes are right.
+/// After an edit, with new own values of the nodes that it affects, but for assemblies whose lines stay, the own values of all nodes are
+/// right.
 pub fn edits_keep_values()
     ensures { EditsKeepValues }
 {}

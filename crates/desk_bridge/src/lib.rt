@@ -8,6 +8,7 @@ mod holdings;
 mod judging;
 pub mod laws;
 mod lines_after;
+mod new_edit;
 mod node_index;
 mod own;
 mod own_after;
@@ -20,6 +21,7 @@ mod tables_after;
 
 pub use building::{IndexedBill, bill_of};
 pub use judging::plan_bill;
+pub use new_edit::NewEdit;
 pub use node_index::{NodeIndex, NodeRow};
 pub use own::own_of;
 pub use own_after::{owns_after, owns_of_all};

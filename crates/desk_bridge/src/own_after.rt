@@ -11,9 +11,9 @@ ghost use Rattle.desk_model.specs.Effect.{entered, made};
 ghost use Rattle.desk_history.specs.History.{PassesRows};
 ghost use Rattle.desk_history.specs.Sound.{IsConsistent, Sound};
 ghost use Rattle.desk_tables.specs.Change.{changed};
-ghost use Rattle.desk_tables.specs.Sums.{is_of_sums, may_raise_sums};
 
 use crate::judging::code_at;
+use crate::new_edit::NewEdit;
 use crate::node_index::NodeIndex;
 use crate::own::own_of;
 use crate::pushing::push_if;
@@ -23,37 +23,39 @@ use crate::tables_after::TablesAfter;
 use desk_graph::{Bill, BillView, NodeId, PlannedBill};
 use desk_model::Edit;
 use desk_rollup::Own;
-use desk_tables::{RowChange, Tables};
+use desk_tables::Tables;
 use desk_text::{Code, OutOfMemory};
 use std::alloc::Global;
 
-/// The own values that the edit may change, by the tables after it. `bill` is the bill after it, and `before` with its `index` the bill as
+/// The own values that the new edit may change, by the tables after it. `bill` is the bill after it, and `before` with its `index` the bill as
 /// it stands.
 ///
 /// Of the nodes that the edit affects these are all but the assemblies whose lines stay: those have nothing of their own, and what is kept
 /// of them can be rolled up anew from what changes below.
-pub fn owns_after<'a>(
+pub fn owns_after<'a, 'b>(
     alloc: Global,
-    tables: &Tables,
+    new: &NewEdit<'a>,
     before: &Bill,
     index: &NodeIndex,
-    bill: &PlannedBill<'a>,
+    bill: &PlannedBill<'b>,
     names: &[Code],
-    edit: &Edit,
-    change: &RowChange,
 ) -> Result<Vec<Own>, OutOfMemory>
-    requires sound { Sound tables.now.lists }
-    requires passes { PassesRows tables.now.lists edit.now }
-    requires made { changed tables.now.lists change.now ≡ made tables.now.lists edit.now }
-    requires sums { may_raise_sums edit.now ≡ true → is_of_sums change.now ≡ true }
+    requires sound { Sound new.now.tables.now.lists }
+    requires passes { PassesRows new.now.tables.now.lists new.now.edit.now }
+    requires made { changed new.now.tables.now.lists new.now.change.now ≡ made new.now.tables.now.lists new.now.edit.now }
     requires index { IsIndex before.now.labels index.now.rows }
     requires grows { (more : List (List ℕ)) × (bill.now.labels ≡ before.now.labels ++ more) }
-    requires of { IsBillOf (entered tables.now.lists edit.now) bill.now }
-    requires named { AreNames (entered tables.now.lists edit.now) names.now }
-    ensures { IfOk result (λ owns. AreOwnAfter tables.now.lists edit.now bill.now names.now owns.items) }
+    requires of { IsBillOf (entered new.now.tables.now.lists new.now.edit.now) bill.now }
+    requires named { AreNames (entered new.now.tables.now.lists new.now.edit.now) names.now }
+    ensures { IfOk result (λ owns. AreOwnAfter new.now.tables.now.lists new.now.edit.now bill.now names.now owns.items) }
 {
     // A bill tells what holds of every bill.
     bill.node_count();
+    let NewEdit {
+        tables,
+        edit,
+        change,
+    } = *new;
     let codes = seed_codes(alloc, tables, edit)?;
     let seeds = nodes_of(alloc, before, index, bill, codes.as_slice())?;
     let nodes = affected(alloc, bill, seeds.as_slice())?;

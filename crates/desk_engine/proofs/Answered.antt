@@ -3,8 +3,8 @@ use Rattle.std.proofs.Common.{◌≡◌, ℕ, ◌<◌, true, List, length, sym, 
 use Rattle.std.proofs.lemmas.Bool.{or_right}
 use Rattle.desk_graph.specs.Bill.{IsBill}
 use Rattle.desk_graph.specs.Graph.{label_of}
-use Rattle.desk_rollup.specs.Numbers.{Rises, has, hop_numbers, substances}
-use Rattle.desk_rollup.specs.Values.{RolledValues, carried as node_carried, own_at, rolled_at}
+use Rattle.desk_rollup.specs.Numbers.{Rises, has, hop_numbers, load_numbers}
+use Rattle.desk_rollup.specs.Values.{RolledValues, carried_in as node_carried, own_at, rolled_at}
 use Rattle.desk_model.specs.Lists.{Lists, is_kept, is_material, is_part}
 use Rattle.desk_findings.specs.Findings.{findings_at}
 use Rattle.desk_findings.specs.Carried.{carried}
@@ -45,6 +45,6 @@ module _ (t : Lists) (s : Sound t) (stored : Stored) (bill : IsBill stored.bill)
         weight = ap (λ v. v.weight) kept ∙ told.weight ∙ ap (mass t) label;
         rise = subst (λ v. Rises (hop_numbers v.hops)) (sym kept) rolled.hops_rise;
         found = λ n. ap (λ v. has (hop_numbers v.hops) n) kept ∙ told.found n ∙ ap (λ c. has_numbered (finding_number stored.bill.labels stored.names) (findings_at t c) n) label;
-        loads_rise = subst (λ v. Rises (substances v.loads)) (sym kept) rolled.loads_rise;
+        loads_rise = subst (λ v. Rises (load_numbers v.loads)) (sym kept) rolled.loads_rise;
         loads = λ n. ap (λ v. node_carried v.loads n) kept ∙ told.loads n ∙ ap (carried t (label_of stored.names n)) label;
       }

@@ -5,7 +5,7 @@ use Rattle.std.proofs.lemmas.List.{drop_all, drop_more}
 use Rattle.desk_graph.specs.Graph.{label_of}
 use Rattle.desk_graph.specs.Reaches.{has_node}
 use Rattle.desk_bridge.specs.declared.node_index.NodeRow.{NodeRow}
-use Rattle.desk_engine.specs.Planned.{rows_from}
+use Rattle.desk_engine.specs.Planned.{node_rows_from}
 
 -- a node more
 pub has_push : (nodes : List ℕ) (new node : ℕ) → has_node (nodes ++ new ∷ []) node ≡ (has_node nodes node || new == node)
@@ -47,13 +47,13 @@ append_none [] = refl
 append_none (x ∷ xs) = ap (λ rest. x ∷ rest) (append_none xs)
 
 -- the rows of nodes from one on
-pub rows_more : (labels : List (List ℕ)) (id : ℕ) (held new whole : List NodeRow) → id < length labels → held ++ rows_from id (drop id labels) ≡ whole → new ≡ held ++ record { code = label_of labels id; node = id } ∷ [] →
-    new ++ rows_from (id + 1) (drop (id + 1) labels) ≡ whole
+pub rows_more : (labels : List (List ℕ)) (id : ℕ) (held new whole : List NodeRow) → id < length labels → held ++ node_rows_from id (drop id labels) ≡ whole → new ≡ held ++ record { code = label_of labels id; node = id } ∷ [] →
+    new ++ node_rows_from (id + 1) (drop (id + 1) labels) ≡ whole
 rows_more labels id held new whole low e is =
-    ap (λ l. l ++ rows_from (id + 1) (drop (id + 1) labels)) is
-    ∙ append_assoc held (record { code = label_of labels id; node = id } ∷ []) (rows_from (id + 1) (drop (id + 1) labels))
-    ∙ ap (λ rest. held ++ rows_from id rest) (sym (drop_more labels id [] low))
+    ap (λ l. l ++ node_rows_from (id + 1) (drop (id + 1) labels)) is
+    ∙ append_assoc held (record { code = label_of labels id; node = id } ∷ []) (node_rows_from (id + 1) (drop (id + 1) labels))
+    ∙ ap (λ rest. held ++ node_rows_from id rest) (sym (drop_more labels id [] low))
     ∙ e
 
-pub rows_all : (labels : List (List ℕ)) (id : ℕ) (held whole : List NodeRow) → length labels ≤ id → held ++ rows_from id (drop id labels) ≡ whole → held ≡ whole
-rows_all labels id held whole h e = sym (append_none held) ∙ ap (λ rest. held ++ rows_from id rest) (sym (drop_all id labels h)) ∙ e
+pub rows_all : (labels : List (List ℕ)) (id : ℕ) (held whole : List NodeRow) → length labels ≤ id → held ++ node_rows_from id (drop id labels) ≡ whole → held ≡ whole
+rows_all labels id held whole h e = sym (append_none held) ∙ ap (λ rest. held ++ node_rows_from id rest) (sym (drop_all id labels h)) ∙ e

@@ -26,7 +26,7 @@ use Rattle.desk_history.specs.Limits.{if_over, tables_over}
 use Rattle.desk_history.specs.Sound.{IsConsistent, Sound}
 use Rattle.desk_history.proofs.SoundClauses.{forms_of}
 use Rattle.desk_history.proofs.SoundSteps.{IsConsistent-entered}
-use Rattle.desk_engine.specs.Names.{AreFewNames, GrowTo, candidate_of}
+use Rattle.desk_engine.specs.Names.{AreFewNames, GrowTo, new_candidate}
 
 append_none : {X : Type 0} (xs : List X) → xs ++ [] ≡ xs
 append_none [] = refl
@@ -54,8 +54,8 @@ units_leave t year product zero = refl
 units_leave t year product (suc fewer) = refl
 
 -- another edit leaves the candidates
-candidates_stay : (t : Lists) (edit : Edit) → candidate_of edit ≡ None → (entered t edit).candidates ≡ t.candidates
-unfolding entered made candidate_of
+candidates_stay : (t : Lists) (edit : Edit) → new_candidate edit ≡ None → (entered t edit).candidates ≡ t.candidates
+unfolding entered made new_candidate
 candidates_stay t (Candidate ticket substance day) e = cc
 candidates_stay t (Substance ticket code name cas) e = refl
 candidates_stay t (Member ticket substance rule factor) e = factor_leaves t substance rule factor
@@ -82,7 +82,7 @@ same_names t u names e few = record {
   few = subst (λ rows. length names ≤ length rows) (sym e) few.few;
 }
 
-pub stay : (t : Lists) (edit : Edit) → candidate_of edit ≡ None → (names : List (List ℕ)) → AreFewNames t names → GrowTo t (entered t edit) names names
+pub stay : (t : Lists) (edit : Edit) → new_candidate edit ≡ None → (names : List (List ℕ)) → AreFewNames t names → GrowTo t (entered t edit) names names
 stay t edit e names named = record {
   others = [];
   grown = sym (append_none names);
@@ -188,9 +188,9 @@ module _ (t : Lists) (s : Sound t) (ticket substance : List ℕ) (day : Date) (p
   grow new is = grow_by (list_any (λ listed. same_code listed substance) names) refl new is
 
 -- by the substance that an edit puts on the list
-grow_with : (t : Lists) → Sound t → (edit : Edit) (substance : List ℕ) → candidate_of edit ≡ Some substance → PassesRows t edit → (names : List (List ℕ)) → AreFewNames t names → (new : List (List ℕ)) →
+grow_with : (t : Lists) → Sound t → (edit : Edit) (substance : List ℕ) → new_candidate edit ≡ Some substance → PassesRows t edit → (names : List (List ℕ)) → AreFewNames t names → (new : List (List ℕ)) →
     new ≡ (if list_any (λ listed. same_code listed substance) names then names else names ++ substance ∷ []) → GrowTo t (entered t edit) names new
-unfolding candidate_of
+unfolding new_candidate
 grow_with t s (Candidate ticket own day) substance e passes names named new is =
     let same : own ≡ substance = some_inside e in
     grow t s ticket own day passes names named new (is ∙ ap (λ c. if list_any (λ listed. same_code listed c) names then names else names ++ c ∷ []) (sym same))
@@ -209,7 +209,7 @@ grow_with t s (Unexempt ticket row) substance e passes names named new is = cc
 grow_with t s (Ship ticket product year units) substance e passes names named new is = cc
 grow_with t s (Unship ticket product year units) substance e passes names named new is = cc
 
-pub grow_ok : (t : Lists) → Sound t → (edit : Edit) (substance : List ℕ) → candidate_of edit ≡ Some substance → PassesRows t edit → (names : List (List ℕ)) → AreFewNames t names → {E : Type 0} (r : Result (Option (List (List ℕ))) E) →
+pub grow_ok : (t : Lists) → Sound t → (edit : Edit) (substance : List ℕ) → new_candidate edit ≡ Some substance → PassesRows t edit → (names : List (List ℕ)) → AreFewNames t names → {E : Type 0} (r : Result (Option (List (List ℕ))) E) →
     IfOk r (λ new. unwrap_or new names ≡ (if list_any (λ listed. same_code listed substance) names then names else names ++ substance ∷ [])) → IfOk r (λ new. GrowTo t (entered t edit) names (unwrap_or new names))
 grow_ok t s edit substance e passes names named (Ok new) is = grow_with t s edit substance e passes names named (unwrap_or new names) is
 grow_ok t s edit substance e passes names named (Err fault) is = tt

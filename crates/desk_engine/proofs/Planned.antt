@@ -11,7 +11,7 @@ use Rattle.desk_graph.specs.Graph.{Graph, label_of}
 use Rattle.desk_graph.specs.Planned.{AreFree, BillEdit, IsBillPlan, changed_lines, planned}
 use Rattle.desk_graph.specs.Reaches.{AreAffected, has_node}
 use Rattle.desk_graph.proofs.ChangedLines.{with_labels, with_nodes-is}
-use Rattle.desk_rollup.specs.Plan.{AllFit, CanPrepare, IsAccepted, IsFirstTooLarge, IsRollPlan, Planned, nodes_of}
+use Rattle.desk_rollup.specs.Plan.{AllFit, CanPrepare, IsWithinLimits, IsFirstTooLarge, IsRollPlan, PlannedValues, nodes_of_owns}
 use Rattle.desk_rollup.specs.Rolled.{mark_count}
 use Rattle.desk_rollup.specs.Values.{OwnValues, own_with}
 use Rattle.desk_rollup.proofs.Frame.{affected_had}
@@ -44,7 +44,7 @@ use Rattle.desk_bridge.proofs.Refused.{by_marks, by_none, by_weight, by_year}
 use Rattle.desk_engine.specs.declared.stored.Stored.{Stored}
 use Rattle.desk_engine.specs.declared.years.YearsPlan.{YearsPlan}
 use Rattle.desk_engine.specs.Names.{GrowTo}
-use Rattle.desk_engine.specs.Planned.{IsRolledFor, LeavesStored, nodes_with, rows_from}
+use Rattle.desk_engine.specs.Planned.{IsRolledFor, LeavesStored, nodes_with, node_rows_from}
 use Rattle.desk_engine.specs.Stored.{IsStoredOf}
 use Rattle.desk_engine.specs.Years.{LeavesEntries}
 use Rattle.desk_engine.proofs.Ticks.{above, as_many, none_beyond, within}
@@ -62,11 +62,11 @@ pub planned_labels : (plan : BillEdit) (g : Graph) → (planned plan g).labels �
 planned_labels plan g = ap (λ h. h.labels) (with_nodes-is plan.labels (record { labels = g.labels; lines = changed_lines plan.line g.lines })) ∙ labels_behind plan.labels g.labels
 
 -- the index stays one when nodes are added
-index_all : (more labels : List (List ℕ)) (rows : List NodeRow) → AreFree more labels → IsIndex labels rows → IsIndex (labels ++ more) (nodes_with (rows_from (length labels) more) rows)
+index_all : (more labels : List (List ℕ)) (rows : List NodeRow) → AreFree more labels → IsIndex labels rows → IsIndex (labels ++ more) (nodes_with (node_rows_from (length labels) more) rows)
 index_all [] labels rows free index = subst (λ ls. IsIndex ls rows) (sym (append_none labels)) index
 index_all (label ∷ more) labels rows free index =
-    subst (λ ls. IsIndex ls (nodes_with (rows_from (length labels + 1) more) (index_with label (length labels) rows))) (append_assoc labels (label ∷ []) more)
-    (subst (λ n. IsIndex ((labels ++ label ∷ []) ++ more) (nodes_with (rows_from n more) (index_with label (length labels) rows))) (length-append labels (label ∷ []))
+    subst (λ ls. IsIndex ls (nodes_with (node_rows_from (length labels + 1) more) (index_with label (length labels) rows))) (append_assoc labels (label ∷ []) more)
+    (subst (λ n. IsIndex ((labels ++ label ∷ []) ++ more) (nodes_with (node_rows_from n more) (index_with label (length labels) rows))) (length-append labels (label ∷ []))
     (index_all more (labels ++ label ∷ []) (index_with label (length labels) rows) free.1 (index_more labels rows label free.0 index)))
 
 -- the codes of all nodes of the bill after an edit are codes
@@ -98,7 +98,7 @@ module _ (t : Lists) (edit : Edit) (s : Sound t) (passes : PassesRows t edit) (s
   both =
       subst (λ list. CanPrepare new owns stored.rollups × HasOwnValues (entered t edit) new (finding_number new.labels list) (label_of list) (own_with owns stored.rollups.owns)) (sym grow.grown)
       (values_kept t edit stored.bill new stored.rollups owns edited plan.labels labels_are stored.names grow.others is.of.named.named (subst (AreNames (entered t edit)) grow.grown grow.named.named) grow.fresh is.of.owns
-      (subst (λ list. (node : ℕ) → has_node (nodes_of owns) node ≡ true → IsOwnOf (entered t edit) (finding_number new.labels list) (label_of list) (label_of new.labels node) (own_with owns stored.rollups.owns node)) grow.grown (λ node has. after.right stored.rollups.owns node has)))
+      (subst (λ list. (node : ℕ) → has_node (nodes_of_owns owns) node ≡ true → IsOwnOf (entered t edit) (finding_number new.labels list) (label_of list) (label_of new.labels node) (own_with owns stored.rollups.owns node)) grow.grown (λ node has. after.right stored.rollups.owns node has)))
 
   pub can_prepare : CanPrepare new owns stored.rollups
   can_prepare = both.0
@@ -112,16 +112,16 @@ module _ (t : Lists) (edit : Edit) (s : Sound t) (passes : PassesRows t edit) (s
   pub refused_many : AllFit new (own_with owns stored.rollups.owns) → 4194304 < mark_count new.lines (own_with owns stored.rollups.owns) → (step t edit).0 ≡ Err FindingsFull
   refused_many fit many = bill_refuses t edit passes.is_new passes.by_rows FindingsFull (by_marks t edit new (own_with owns stored.rollups.owns) passed fit many)
 
-  rolled_new : (given : Planned) → IsRollPlan new owns stored.rollups given → IsAccepted new (own_with owns stored.rollups.owns) → IsRolledFor t edit new names stored.rollups given
+  rolled_new : (given : PlannedValues) → IsRollPlan new owns stored.rollups given → IsWithinLimits new (own_with owns stored.rollups.owns) → IsRolledFor t edit new names stored.rollups given
   rolled_new given rolls accepted = record {
     rolls = subst (λ os. IsRollPlan new os stored.rollups given) (sym rolls.given) rolls;
     values = subst (λ os. HasOwnValues (entered t edit) new (finding_number new.labels names) (label_of names) (own_with os stored.rollups.owns)) (sym rolls.given) both.1;
-    accepted = subst (λ os. IsAccepted new (own_with os stored.rollups.owns)) (sym rolls.given) accepted;
-    affected = λ node inside. affected_had new.lines (nodes_of owns) given.nodes rolls.affected node ∙ affected_agree t edit stored.bill new stored.rollups owns edited node inside;
+    accepted = subst (λ os. IsWithinLimits new (own_with os stored.rollups.owns)) (sym rolls.given) accepted;
+    affected = λ node inside. affected_had new.lines (nodes_of_owns owns) given.nodes rolls.affected node ∙ affected_agree t edit stored.bill new stored.rollups owns edited node inside;
   }
 
   -- at most a step for each material and part that the edit affects
-  affected_nodes : AreAffected new.lines (nodes_of owns) (filter (λ node. is_affected t edit (label_of new.labels node)) (range_with_len 0 (length new.labels)))
+  affected_nodes : AreAffected new.lines (nodes_of_owns owns) (filter (λ node. is_affected t edit (label_of new.labels node)) (range_with_len 0 (length new.labels)))
   affected_nodes node =
       elim (cases_lt node (length new.labels)) [
         | inl inside ↦
@@ -129,10 +129,10 @@ module _ (t : Lists) (edit : Edit) (s : Sound t) (passes : PassesRows t edit) (s
             ∙ ap (λ b. cond b 1 0) (sym (affected_agree t edit stored.bill new stored.rollups owns edited node inside))
         | inr past ↦
             above (λ n. is_affected t edit (label_of new.labels n)) 0 (length new.labels) node (omega (arith, past))
-            ∙ ap (λ b. cond b 1 0) (sym (none_beyond new new_bill (nodes_of owns) after.renewed.inside node past))
+            ∙ ap (λ b. cond b 1 0) (sym (none_beyond new new_bill (nodes_of_owns owns) after.renewed.inside node past))
       ]
 
-  pub few_steps : (start now : ℕ) → ((nodes : List ℕ) → AreAffected new.lines (nodes_of owns) nodes → now ≤ start + length nodes) → now ≤ start + length (affected t edit)
+  pub few_steps : (start now : ℕ) → ((nodes : List ℕ) → AreAffected new.lines (nodes_of_owns owns) nodes → now ≤ start + length nodes) → now ≤ start + length (affected t edit)
   few_steps start now most =
       omega (
         arith,
@@ -140,11 +140,11 @@ module _ (t : Lists) (edit : Edit) (s : Sound t) (passes : PassesRows t edit) (s
         as_many (entered t edit) (IsConsistent-entered t edit s.consistent passes) new (record { bill = new_bill; of = of_new }) (is_affected t edit),
       )
 
-  pub rolled_for : (given : Planned) → IsRollPlan new owns stored.rollups given → IsAccepted new (own_with owns stored.rollups.owns) → IsRolledFor t edit (planned plan stored.bill) names stored.rollups given
+  pub rolled_for : (given : PlannedValues) → IsRollPlan new owns stored.rollups given → IsWithinLimits new (own_with owns stored.rollups.owns) → IsRolledFor t edit (planned plan stored.bill) names stored.rollups given
   rolled_for given rolls accepted = subst (λ g. IsRolledFor t edit g names stored.rollups given) new_is (rolled_new given rolls accepted)
 
 -- the years after roll-ups that are accepted
-module _ (t : Lists) (edit : Edit) (passes : PassesRows t edit) (g : Graph) (names : List (List ℕ)) (stored : Stored) (given : Planned) (rolled : IsRolledFor t edit g names stored.rollups given) where
+module _ (t : Lists) (edit : Edit) (passes : PassesRows t edit) (g : Graph) (names : List (List ℕ)) (stored : Stored) (given : PlannedValues) (rolled : IsRolledFor t edit g names stored.rollups given) where
   passed_by : IsPassed t edit g (own_with given.owns stored.rollups.owns)
   passed_by = record { passes = passes; number = finding_number g.labels names; name = label_of names; values = rolled.values }
 
@@ -156,8 +156,8 @@ module _ (t : Lists) (edit : Edit) (passes : PassesRows t edit) (g : Graph) (nam
 
 -- what is left of what is stored
 pub leaves : (t : Lists) (edit : Edit) (stored : Stored) → IsStoredOf t stored → (plan : BillEdit) → IsBillPlan stored.bill plan → IsBillOf (entered t edit) (planned plan stored.bill) →
-    (names : Option (List (List ℕ))) → GrowTo t (entered t edit) stored.names (unwrap_or names stored.names) → (nodes : List NodeRow) → nodes ≡ rows_from (length stored.bill.labels) plan.labels →
-    (room : Option ℕ) → IsRoomFor (length nodes) stored.index room → (rollups : Planned) → IsRolledFor t edit (planned plan stored.bill) (unwrap_or names stored.names) stored.rollups rollups →
+    (names : Option (List (List ℕ))) → GrowTo t (entered t edit) stored.names (unwrap_or names stored.names) → (nodes : List NodeRow) → nodes ≡ node_rows_from (length stored.bill.labels) plan.labels →
+    (room : Option ℕ) → IsRoomFor (length nodes) stored.index room → (rollups : PlannedValues) → IsRolledFor t edit (planned plan stored.bill) (unwrap_or names stored.names) stored.rollups rollups →
     (years : YearsPlan) → LeavesEntries stored.years (entries_of (entered t edit)) years →
     LeavesStored stored (entered t edit) (record { bill = plan; nodes = nodes; room = room; rollups = rollups; names = names; years = years })
 leaves t edit stored is plan can of names grow nodes nodes_are room has_room rollups rolled years left = record {
@@ -169,7 +169,7 @@ leaves t edit stored is plan can of names grow nodes nodes_are room has_room rol
     bill = of;
     index =
         subst (λ rows. IsIndex (planned plan stored.bill).labels (nodes_with rows stored.index.rows)) (sym nodes_are)
-        (subst (λ ls. IsIndex ls (nodes_with (rows_from (length stored.bill.labels) plan.labels) stored.index.rows)) (sym (planned_labels plan stored.bill))
+        (subst (λ ls. IsIndex ls (nodes_with (node_rows_from (length stored.bill.labels) plan.labels) stored.index.rows)) (sym (planned_labels plan stored.bill))
         (index_all plan.labels stored.bill.labels stored.index.rows can.free is.of.index));
     named = grow.named;
     owns = rolled.values.owns;

@@ -25,13 +25,13 @@ use Rattle.desk_findings.proofs.Numbering.{each_found, same_itself}
 use Rattle.desk_scratch.specs.declared.finding.Finding.{Finding as Told}
 use Rattle.desk_scratch.specs.LookUps.{finding_of}
 use Rattle.desk_bridge.specs.Numbers.{finding_number}
-use Rattle.desk_bridge.specs.Order.{candidate_of, finding_cmp, kind_of, rule_of}
+use Rattle.desk_bridge.specs.Order.{finding_candidate, finding_cmp, finding_kind, finding_rule}
 use Rattle.desk_bridge.proofs.InOrder.{in_order}
 use Rattle.desk_bridge.proofs.RolledAlike.{sum_by-map}
 use Rattle.desk_engine.specs.Answers.{AreTold, IsNumber}
 
 pub finding_total : IsTotalOrder finding_cmp
-finding_total = then_total (on_total kind_of nat_cmp_total) (then_total (on_total holder code_cmp_total) (then_total (on_total rule_of nat_cmp_total) (on_total candidate_of code_cmp_total)))
+finding_total = then_total (on_total finding_kind nat_cmp_total) (then_total (on_total holder code_cmp_total) (then_total (on_total finding_rule nat_cmp_total) (on_total finding_candidate code_cmp_total)))
 
 abbrev one_if : Bool → ℕ
 one_if b = cond b 1 0

@@ -9,7 +9,7 @@ use Rattle.desk_graph.specs.Reaches.{has_node}
 use Rattle.desk_rollup.specs.declared.fault.RollFault.{RollFault}
 use Rattle.desk_rollup.specs.declared.fault.RollFault.TheVariants.{MarksFull, WeightTooLarge}
 use Rattle.desk_rollup.specs.Plan.{AreDistinct, CanPrepare, IsFirstTooLarge, IsRefused}
-use Rattle.desk_rollup.specs.Values.{Kept, OwnValues, own_at, own_with}
+use Rattle.desk_rollup.specs.Values.{KeptValues, OwnValues, own_at, own_with}
 use Rattle.desk_model.specs.declared.limits.TheConstants.{UNITS_LIMIT}
 use Rattle.desk_model.specs.declared.rows.shipment.ShipmentRow.{ShipmentRow}
 use Rattle.desk_model.specs.Forms.{are_units, is_shipment_row, is_year}
@@ -26,7 +26,7 @@ use Rattle.desk_tonnage.specs.declared.fault.MassFault.{MassFault}
 use Rattle.desk_tonnage.specs.declared.fault.MassFault.TheVariants.{YearTooLarge}
 use Rattle.desk_tonnage.specs.Entries.{entry_key, entry_key_cmp}
 use Rattle.desk_tonnage.specs.Years.{too_heavy_year as too_heavy_entries}
-use Rattle.desk_bridge.specs.Years.{entries_of, entry_by}
+use Rattle.desk_bridge.specs.Years.{entries_of, shipment_entry}
 use Rattle.desk_bridge.proofs.Years.{heavy, order}
 use Rattle.desk_bridge.specs.Bridge.{IsBillOf}
 use Rattle.desk_bridge.specs.Numbers.{AreNames, finding_number}
@@ -60,7 +60,7 @@ module _ (t : Lists) (s : Sound t) (g : Graph) (bill : IsBill g) (of : IsBillOf 
       none_some : {X : Type 0} {x : X} → None ≡ Some x → ⊥
       none_some e = cc
 
-  pub no_large : (fault : RollFault) (node : ℕ) → fault ≡ WeightTooLarge node → (kept : Kept) → kept ≡ record { owns = []; rolled = [] } → IsRefused g (own_with owns kept.owns) fault → ⊥
+  pub no_large : (fault : RollFault) (node : ℕ) → fault ≡ WeightTooLarge node → (kept : KeptValues) → kept ≡ record { owns = []; rolled = [] } → IsRefused g (own_with owns kept.owns) fault → ⊥
   no_large fault node is kept none refused =
       not_large node (subst (λ k. IsRefused g (own_with owns k.owns) (WeightTooLarge node)) none (subst (IsRefused g (own_with owns kept.owns)) is refused))
 
@@ -68,7 +68,7 @@ module _ (t : Lists) (s : Sound t) (g : Graph) (bill : IsBill g) (of : IsBillOf 
   not_many refused =
       false≢true (sym s.sums.findings_fit ∙ too_many t g (finding_number g.labels names) (label_of names) (own_with owns []) all_told ∙ lt-ltb 4194304 _ refused.1)
 
-  pub start_owns : (kept : Kept) → ((node : ℕ) → node < length g.labels → own_at kept.owns node ≡ own_with owns [] node) → AreOwnOf t g (finding_number g.labels names) (label_of names) (own_at kept.owns)
+  pub start_owns : (kept : KeptValues) → ((node : ℕ) → node < length g.labels → own_at kept.owns node ≡ own_with owns [] node) → AreOwnOf t g (finding_number g.labels names) (label_of names) (own_at kept.owns)
   start_owns kept same node inside = subst (IsOwnOf t (finding_number g.labels names) (label_of names) (label_of g.labels node)) (sym (same node inside)) (all_told.owns node inside)
 
 -- nodes that are counted up
@@ -90,7 +90,7 @@ pub distinct_more : (old new : List ℕ) (id : ℕ) → new ≡ old ++ id ∷ []
 distinct_more old new id is f a = subst AreDistinct (sym is) (distinct_push old id a (f id ∙ le-ltb id id (omega arith)))
 
 -- the entries of the shipments
-entries_units : (weigh : List ℕ → ℕ) (rows : List ShipmentRow) → AllByRecursion (λ row. is_shipment_row row ≡ true) rows → AllByRecursion (λ entry. (1 ≤ entry.units) × (entry.units ≤ 1000000000000)) (map (entry_by weigh) rows)
+entries_units : (weigh : List ℕ → ℕ) (rows : List ShipmentRow) → AllByRecursion (λ row. is_shipment_row row ≡ true) rows → AllByRecursion (λ entry. (1 ≤ entry.units) × (entry.units ≤ 1000000000000)) (map (shipment_entry weigh) rows)
 entries_units weigh [] a = tt
 entries_units weigh (row ∷ rows) a =
     let range = and_parts (nat_le 1 row.units) (nat_le row.units UNITS_LIMIT) (and_parts (is_year row.year && is_code row.product) (are_units row.units) a.0).1 in

@@ -7,11 +7,11 @@ use Rattle.std.proofs.lemmas.Bool.{and_parts}
 use Rattle.desk_graph.specs.declared.line.BillLine.{BillLine}
 use Rattle.desk_graph.specs.Bill.{IsBill}
 use Rattle.desk_graph.specs.Graph.{Graph, label_of, lines_of as node_lines}
-use Rattle.desk_rollup.specs.Chain.{chain as node_chain, next_to as node_next, way}
+use Rattle.desk_rollup.specs.Chain.{hop_chain as node_chain, next_hop as node_next, way}
 use Rattle.desk_rollup.specs.Numbers.{has, mark_numbers}
 use Rattle.desk_rollup.specs.Plan.{AreRolledUp}
-use Rattle.desk_rollup.specs.Rolled.{marks}
-use Rattle.desk_rollup.specs.Values.{Kept, own_at}
+use Rattle.desk_rollup.specs.Rolled.{mark_numbers_below}
+use Rattle.desk_rollup.specs.Values.{KeptValues, own_at}
 use Rattle.desk_rollup.proofs.Lists.{each_line}
 use Rattle.desk_model.specs.Lists.{Lists, is_part}
 use Rattle.desk_findings.specs.Bill.{IsRight}
@@ -32,7 +32,7 @@ use Rattle.desk_engine.specs.Stored.{IsStoredOf}
 use Rattle.desk_engine.proofs.Answered.{numbered}
 
 -- the way from a node of the bill stays in the bill
-module _ (g : Graph) (bill : IsBill g) (kept : Kept) (rolled : AreRolledUp g kept) (mark : ℕ) where
+module _ (g : Graph) (bill : IsBill g) (kept : KeptValues) (rolled : AreRolledUp g kept) (mark : ℕ) where
   abbrev Inside : ℕ → Type 0
   Inside node = node < length g.labels
 
@@ -47,9 +47,9 @@ module _ (g : Graph) (bill : IsBill g) (kept : Kept) (rolled : AreRolledUp g kep
   next_inside : (node : ℕ) → Inside node → IfSome (node_next kept.rolled mark node) Inside
   next_inside node there = subst (λ o. IfSome (unwrap_or o None) Inside) (sym ((rolled.rolled node there).hops mark)) (either (has (mark_numbers (own_at kept.owns node).marks) mark))
     where
-      either : (b : Bool) → IfSome (unwrap_or (if b then Some None else option_map (λ line. Some line.node) (find (λ line. has (marks g.lines (own_at kept.owns) line.node) mark) (node_lines g.lines node))) None) Inside
+      either : (b : Bool) → IfSome (unwrap_or (if b then Some None else option_map (λ line. Some line.node) (find (λ line. has (mark_numbers_below g.lines (own_at kept.owns) line.node) mark) (node_lines g.lines node))) None) Inside
       either true = tt
-      either false = found_line (λ line. has (marks g.lines (own_at kept.owns) line.node) mark) (node_lines g.lines node) (each_line Inside (node_lines g.lines node) (λ child line. bill.children node child line))
+      either false = found_line (λ line. has (mark_numbers_below g.lines (own_at kept.owns) line.node) mark) (node_lines g.lines node) (each_line Inside (node_lines g.lines node) (λ child line. bill.children node child line))
 
   way_inside : (k node : ℕ) → Inside node → AllByRecursion Inside (way kept.rolled mark k node)
   unfolding way

@@ -12,8 +12,8 @@ use Rattle.desk_graph.specs.Bill.{IsBill}
 use Rattle.desk_graph.specs.Graph.{Graph, label_of}
 use Rattle.desk_graph.specs.Planned.{BillEdit, planned}
 use Rattle.desk_graph.specs.Reaches.{has_node}
-use Rattle.desk_rollup.specs.Plan.{AreRolledUp, Planned}
-use Rattle.desk_rollup.specs.Values.{Kept, new_at, own_at, own_with, rolled_at}
+use Rattle.desk_rollup.specs.Plan.{AreRolledUp, PlannedValues}
+use Rattle.desk_rollup.specs.Values.{KeptValues, own_at, own_with, rolled_at}
 use Rattle.desk_model.specs.declared.edit.Edit.{Edit}
 use Rattle.desk_model.specs.declared.rows.product.ProductRow.{ProductRow}
 use Rattle.desk_model.specs.declared.rows.shipment.ShipmentRow.{ShipmentRow}
@@ -35,7 +35,7 @@ use Rattle.desk_bridge.specs.AfterEdit.{AreOwnOf}
 use Rattle.desk_bridge.specs.Bridge.{IsBillOf, IsNumbered, node_of}
 use Rattle.desk_bridge.specs.Numbers.{AreNames, finding_number}
 use Rattle.desk_bridge.specs.Values.{HasOwnValues}
-use Rattle.desk_bridge.specs.Years.{entries_of, entry_by}
+use Rattle.desk_bridge.specs.Years.{entries_of, shipment_entry}
 use Rattle.desk_bridge.proofs.Bridges.{labels_of, right_tables}
 use Rattle.desk_bridge.proofs.Chains.{has_node-at}
 use Rattle.desk_bridge.proofs.Found.{node_of-kept}
@@ -50,7 +50,7 @@ use Rattle.desk_engine.proofs.Listed.{each_at, has_push}
 use Rattle.desk_engine.proofs.Planned.{planned_labels}
 
 -- the kept weights are masses
-module _ (t : Lists) (s : Sound t) (g : Graph) (bill : IsBill g) (of : IsBillOf t g) (names : List (List ℕ)) (named : AreNames t names) (kept : Kept) (owns : AreOwnOf t g (finding_number g.labels names) (label_of names) (own_at kept.owns)) where
+module _ (t : Lists) (s : Sound t) (g : Graph) (bill : IsBill g) (of : IsBillOf t g) (names : List (List ℕ)) (named : AreNames t names) (kept : KeptValues) (owns : AreOwnOf t g (finding_number g.labels names) (label_of names) (own_at kept.owns)) where
   kept_values : HasOwnValues t g (finding_number g.labels names) (label_of names) (own_at kept.owns)
   kept_values = record {
     consistent = s.consistent;
@@ -69,12 +69,12 @@ pub stored_masses : (t : Lists) → Sound t → (stored : Stored) → IsBill sto
 stored_masses t s stored bill is = kept_masses t s stored.bill bill is.of.bill stored.names is.of.named.named stored.rollups is.of.owns is.rolled
 
 -- the weight of the node of a kept code
-pub mass_at : (t : Lists) (g : Graph) (kept : Kept) → IsNumbered t g.labels → AreMasses t g kept → (code : List ℕ) → is_kept t code ≡ true → (rolled_at kept.rolled (node_of g.labels code)).weight ≡ mass t code
+pub mass_at : (t : Lists) (g : Graph) (kept : KeptValues) → IsNumbered t g.labels → AreMasses t g kept → (code : List ℕ) → is_kept t code ≡ true → (rolled_at kept.rolled (node_of g.labels code)).weight ≡ mass t code
 mass_at t g kept numbered masses code there =
     let node = node_of-kept t g.labels numbered code there in
     masses.weights (node_of g.labels code) node.0 ∙ ap (mass t) node.1
 
-pub has_values : (t : Lists) (g : Graph) (kept : Kept) → IsNumbered t g.labels → AreMasses t g kept → (code : List ℕ) → is_kept t code ≡ true → node_of g.labels code < length kept.rolled
+pub has_values : (t : Lists) (g : Graph) (kept : KeptValues) → IsNumbered t g.labels → AreMasses t g kept → (code : List ℕ) → is_kept t code ≡ true → node_of g.labels code < length kept.rolled
 has_values t g kept numbered masses code there = omega (arith, (node_of-kept t g.labels numbered code there).0, masses.size)
 
 -- products are kept
@@ -92,7 +92,7 @@ product_row_kept t s place d low =
 some_inside : {X : Type 0} {x y : X} → Some x ≡ Some y → x ≡ y
 some_inside e = cc
 
-module _ (labels : List (List ℕ)) (given : Planned) (masses new : List ProductMass) (weighed : ProductMass) (put : new ≡ with_row (λ one. one.product) code_cmp weighed masses) where
+module _ (labels : List (List ℕ)) (given : PlannedValues) (masses new : List ProductMass) (weighed : ProductMass) (put : new ≡ with_row (λ one. one.product) code_cmp weighed masses) where
   found_new : row_of (λ one. one.product) code_cmp weighed.product new ≡ Some weighed
   found_new = ap (row_of (λ one. one.product) code_cmp weighed.product) put ∙ row_of-with_row (λ one. one.product) code_cmp code_cmp_total weighed masses
 
@@ -102,7 +102,7 @@ module _ (labels : List (List ℕ)) (given : Planned) (masses new : List Product
   pub stays_weighed : (product : List ℕ) → IsWeighed masses product → IsWeighed new product
   stays_weighed product there = ap (λ rows. is_some (row_of (λ one. one.product) code_cmp product rows)) put ∙ kept-with_row (λ one. one.product) code_cmp code_cmp_total product weighed masses there
 
-  pub weights_put : (place : ℕ) → place < length given.nodes → label_of labels (slice_index given.nodes place) ≡ weighed.product → weighed.mass ≡ (new_at given.rolled place).weight → AreWeights labels given masses → AreWeights labels given new
+  pub weights_put : (place : ℕ) → place < length given.nodes → label_of labels (slice_index given.nodes place) ≡ weighed.product → weighed.mass ≡ (rolled_at given.rolled place).weight → AreWeights labels given masses → AreWeights labels given new
   weights_put place low label weight before product other found =
       elim (cases_Bool (same_code weighed.product product)) [
         | inl same ↦
@@ -144,11 +144,11 @@ all_products t labels nodes masses rows is a node has there =
     kept_each (λ row. row.part) (IsWeighedIfPlanned labels nodes masses) (label_of labels node) rows a (subst (λ list. is_some (row_of (λ row. row.part) code_cmp (label_of labels node) list) ≡ true) (sym is) there) node has refl
 
 -- masses of all products that an edit affects make the entries of the shipments after it
-module _ (t : Lists) (edit : Edit) (s : Sound t) (passes : PassesRows t edit) (stored : Stored) (is : IsStoredOf t stored) (plan : BillEdit) (names : List (List ℕ)) (given : Planned)
+module _ (t : Lists) (edit : Edit) (s : Sound t) (passes : PassesRows t edit) (stored : Stored) (is : IsStoredOf t stored) (plan : BillEdit) (names : List (List ℕ)) (given : PlannedValues)
     (rolled : IsRolledFor t edit (planned plan stored.bill) names stored.rollups given) (masses : List ProductMass) (weights : AreWeights (planned plan stored.bill).labels given masses)
     (all : AreAllWeighed t (planned plan stored.bill).labels given.nodes masses) where
   -- a planned weight is the mass after the edit
-  planned_mass : (place : ℕ) → place < length given.nodes → (new_at given.rolled place).weight ≡ mass (entered t edit) (label_of (planned plan stored.bill).labels (slice_index given.nodes place))
+  planned_mass : (place : ℕ) → place < length given.nodes → (rolled_at given.rolled place).weight ≡ mass (entered t edit) (label_of (planned plan stored.bill).labels (slice_index given.nodes place))
   planned_mass place low =
       let node = slice_index given.nodes place in
       let inside : node < length (planned plan stored.bill).labels = subst (λ n. node < n) rolled.rolls.count (rolled.rolls.inside node (has_node-at given.nodes place 0 low)) in
@@ -179,7 +179,7 @@ module _ (t : Lists) (edit : Edit) (s : Sound t) (passes : PassesRows t edit) (s
       let at = weights product weighed e in
       sym (at.3 ∙ planned_mass at.0 at.1 ∙ ap (mass (entered t edit)) at.2)
 
-  weighed_rows : (rows : List ShipmentRow) → AllByRecursion (λ row. is_product t row.product ≡ true) rows → map (entry_by (mass (entered t edit))) rows ≡ with_masses masses (map (entry_by (mass t)) rows)
+  weighed_rows : (rows : List ShipmentRow) → AllByRecursion (λ row. is_product t row.product ≡ true) rows → map (shipment_entry (mass (entered t edit))) rows ≡ with_masses masses (map (shipment_entry (mass t)) rows)
   weighed_rows [] a = refl
   weighed_rows (row ∷ rows) a =
       let same = new_mass row.product a.0 (row_of (λ one. one.product) code_cmp row.product masses) refl in
@@ -187,5 +187,5 @@ module _ (t : Lists) (edit : Edit) (s : Sound t) (passes : PassesRows t edit) (s
 
   pub reweighed : changes_shipments edit ≡ false → entries_of (entered t edit) ≡ with_masses masses (entries_of t)
   reweighed none =
-      ap (map (entry_by (mass (entered t edit)))) (same_shipments t edit none)
+      ap (map (shipment_entry (mass (entered t edit)))) (same_shipments t edit none)
       ∙ weighed_rows t.shipments (each_from_all (λ row. is_product t row.product) t.shipments (names_of t s.consistent.names_kept).shipments)

@@ -6,9 +6,9 @@ use Rattle.desk_rows.specs.Rows.{with_row}
 use Rattle.desk_graph.specs.declared.line.BillLine.{BillLine}
 use Rattle.desk_graph.specs.Graph.{Graph, label_of}
 use Rattle.desk_graph.specs.Reaches.{is_or_reaches}
-use Rattle.desk_rollup.specs.Numbers.{Rises, has, hop_numbers, mark_number, substances}
+use Rattle.desk_rollup.specs.Numbers.{Rises, has, hop_numbers, mark_number, load_numbers}
 use Rattle.desk_rollup.specs.declared.hop.Hop.{Hop}
-use Rattle.desk_rollup.specs.Values.{RolledValues, carried as node_carried}
+use Rattle.desk_rollup.specs.Values.{RolledValues, carried_in as node_carried}
 use Rattle.desk_model.specs.declared.rows.line.LineRow.{LineRow}
 use Rattle.desk_model.specs.declared.rows.product.ProductRow.{ProductRow}
 use Rattle.desk_model.specs.Lists.{Lists}
@@ -25,7 +25,7 @@ pub record AreValuesAt (t : Lists) (labels names : List (List ℕ)) (code : List
   pub weight : values.weight ≡ mass t code
   pub rise : Rises (hop_numbers values.hops)
   pub found : (n : ℕ) → has (hop_numbers values.hops) n ≡ has_numbered (finding_number labels names) (findings_at t code) n
-  pub loads_rise : Rises (substances values.loads)
+  pub loads_rise : Rises (load_numbers values.loads)
   pub loads : (n : ℕ) → node_carried values.loads n ≡ carried t (label_of names n) code
 
 -- the number is that of a finding of the tables

@@ -20,6 +20,6 @@ pub record GrowTo (t u : Lists) (names new : List (List ℕ)) : Type 0 where
   pub named : AreFewNames u new
 
 -- the substance that an edit puts on the candidate list
-unfoldable pub candidate_of : Edit → Option (List ℕ)
-candidate_of (Candidate ticket substance day) = Some substance
-candidate_of _ = None
+unfoldable pub new_candidate : Edit → Option (List ℕ)
+new_candidate (Candidate ticket substance day) = Some substance
+new_candidate _ = None

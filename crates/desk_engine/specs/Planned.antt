@@ -6,8 +6,8 @@ use Rattle.desk_rows.specs.Rows.{with_rows}
 use Rattle.desk_graph.specs.Graph.{Graph, label_of}
 use Rattle.desk_graph.specs.Planned.{IsBillPlan, planned}
 use Rattle.desk_graph.specs.Reaches.{has_node}
-use Rattle.desk_rollup.specs.Plan.{IsAccepted, IsRollPlan, Planned}
-use Rattle.desk_rollup.specs.Values.{Kept, own_with}
+use Rattle.desk_rollup.specs.Plan.{IsWithinLimits, IsRollPlan, PlannedValues}
+use Rattle.desk_rollup.specs.Values.{KeptValues, own_with}
 use Rattle.desk_model.specs.declared.edit.Edit.{Edit}
 use Rattle.desk_model.specs.Effect.{entered}
 use Rattle.desk_model.specs.Lists.{Lists}
@@ -18,13 +18,13 @@ use Rattle.desk_bridge.specs.Values.{HasOwnValues}
 use Rattle.desk_bridge.specs.declared.node_index.NodeRow.{NodeRow}
 use Rattle.desk_engine.specs.declared.stored.Stored.{Stored}
 use Rattle.desk_engine.specs.declared.stored_plan.StoredPlan.{StoredPlan}
-use Rattle.desk_engine.specs.Stored.{AreOf}
+use Rattle.desk_engine.specs.Stored.{AreStoredOf}
 use Rattle.desk_engine.specs.Years.{CanChange, years_after}
 
 -- the rows of nodes with these codes, which are numbered on from a number
-abbrev pub rows_from : ℕ → List (List ℕ) → List NodeRow
-rows_from node [] = []
-rows_from node (code ∷ codes) = record { code = code; node = node } ∷ rows_from (node + 1) codes
+abbrev pub node_rows_from : ℕ → List (List ℕ) → List NodeRow
+node_rows_from node [] = []
+node_rows_from node (code ∷ codes) = record { code = code; node = node } ∷ node_rows_from (node + 1) codes
 
 -- the nodes by code, with other nodes put in
 abbrev pub nodes_with : List NodeRow → List NodeRow → List NodeRow
@@ -32,10 +32,10 @@ nodes_with more nodes = with_rows (λ row. row.code) code_cmp more nodes
 
 -- the plan of the roll-ups is good for this bill, which is that of the tables after the edit: the own values are right then, none of the
 -- rules 21 and 22 is broken, and just the affected nodes are replaced
-pub record IsRolledFor (t : Lists) (edit : Edit) (g : Graph) (names : List (List ℕ)) (kept : Kept) (plan : Planned) : Type 0 where
+pub record IsRolledFor (t : Lists) (edit : Edit) (g : Graph) (names : List (List ℕ)) (kept : KeptValues) (plan : PlannedValues) : Type 0 where
   pub rolls : IsRollPlan g plan.owns kept plan
   pub values : HasOwnValues (entered t edit) g (finding_number g.labels names) (label_of names) (own_with plan.owns kept.owns)
-  pub accepted : IsAccepted g (own_with plan.owns kept.owns)
+  pub accepted : IsWithinLimits g (own_with plan.owns kept.owns)
   pub affected : (node : ℕ) → node < length g.labels → has_node plan.nodes node ≡ is_affected t edit (label_of g.labels node)
 
 -- the plan can be carried out at what is stored as it stands, and leaves what is to be stored of these tables
@@ -44,7 +44,7 @@ pub record LeavesStored (stored : Stored) (u : Lists) (plan : StoredPlan) : Type
   pub room : IsRoomFor (length plan.nodes) stored.index plan.room
   pub rollups : IsRollPlan (planned plan.bill stored.bill) plan.rollups.owns stored.rollups plan.rollups
   pub years : CanChange stored.years plan.years
-  pub of : AreOf u (planned plan.bill stored.bill) (nodes_with plan.nodes stored.index.rows) (own_with plan.rollups.owns stored.rollups.owns)
+  pub of : AreStoredOf u (planned plan.bill stored.bill) (nodes_with plan.nodes stored.index.rows) (own_with plan.rollups.owns stored.rollups.owns)
       (unwrap_or plan.names stored.names) (years_after plan.years stored.years.entries)
 
 -- the same, where nothing is done if the tables stay

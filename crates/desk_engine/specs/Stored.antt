@@ -15,7 +15,7 @@ use Rattle.desk_engine.specs.declared.stored.Stored.{Stored}
 use Rattle.desk_engine.specs.Names.{AreFewNames}
 
 -- a bill, its nodes by code, what they have of their own, names of substances and entries of years are those of the tables
-pub record AreOf (t : Lists) (g : Graph) (nodes : List NodeRow) (own : ℕ → OwnValues) (names : List (List ℕ)) (entries : List Entry) : Type 0 where
+pub record AreStoredOf (t : Lists) (g : Graph) (nodes : List NodeRow) (own : ℕ → OwnValues) (names : List (List ℕ)) (entries : List Entry) : Type 0 where
   pub bill : IsBillOf t g
   pub index : IsIndex g.labels nodes
   pub named : AreFewNames t names
@@ -24,7 +24,7 @@ pub record AreOf (t : Lists) (g : Graph) (nodes : List NodeRow) (own : ℕ → O
 
 -- what is stored is that of the tables, and what the nodes have of their own is rolled up
 pub record IsStoredOf (t : Lists) (stored : Stored) : Type 0 where
-  pub of : AreOf t stored.bill stored.index.rows (own_at stored.rollups.owns) stored.names stored.years.entries
+  pub of : AreStoredOf t stored.bill stored.index.rows (own_at stored.rollups.owns) stored.names stored.years.entries
   pub rolled : AreRolledUp stored.bill stored.rollups
 
 -- nothing is stored

@@ -9,7 +9,7 @@ ghost use Rattle.desk_findings.specs.Chain.{chain};
 ghost use Rattle.desk_findings.specs.Findings.{findings, is_in};
 ghost use Rattle.desk_findings.specs.Numbering.{is_found};
 ghost use Rattle.desk_history.specs.Sound.{Sound};
-ghost use Rattle.desk_rollup.specs.Chain.{chain as node_chain};
+ghost use Rattle.desk_rollup.specs.Chain.{hop_chain as node_chain};
 ghost use Rattle.desk_rollup.specs.Numbers.{mark_number};
 ghost use Rattle.desk_scratch.specs.LookUps.{IsHeldAbove, finding_of, holder_of};
 ghost use Rattle.desk_scratch.specs.Steps.{line_count};

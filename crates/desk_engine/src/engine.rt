@@ -18,6 +18,7 @@ use crate::source::answer_stored;
 use crate::start::stored_of;
 use crate::stored::Stored;
 use crate::stored_plan::StoredPlan;
+use desk_bridge::NewEdit;
 use desk_graph::Steps;
 use desk_scratch::{AskFault, Question};
 use desk_tables::{Edit, EditFault, SoundFault, Tables, TablesPlan};
@@ -69,10 +70,21 @@ impl Engine {
         if let Err(fault) = tables.is_sound(alloc) {
             return Err(fault);
         }
-        match stored_of(alloc, &tables) {
-            Ok(stored) => Ok(Engine { tables, stored }),
+        match Engine::from_sound_tables(alloc, tables) {
+            Ok(engine) => Ok(engine),
             Err(_) => Err(SoundFault::OutOfMemory),
         }
+    }
+
+    /// An engine of these tables, which are known to be sound.
+    ///
+    /// `OutOfMemory`: none was left for what it keeps beside them. After a refusal the tables are gone.
+    pub fn from_sound_tables(alloc: Global, tables: Tables) -> Result<Engine, OutOfMemory>
+        requires { Sound tables.lists }
+        ensures { IfOk result (λ engine. lists_of engine ≡ tables.lists) }
+    {
+        let stored = stored_of(alloc, &tables)?;
+        Ok(Engine { tables, stored })
     }
 
     /// The same engine once more.
@@ -174,7 +186,12 @@ fn plan_beside<L: Ledger>(
     match rows {
         TablesPlan::Kept { .. } => Ok(None),
         TablesPlan::New { change, .. } => {
-            let plan = plan_stored(alloc, tables, stored, edit, change, steps)?;
+            let new = NewEdit {
+                tables,
+                edit,
+                change,
+            };
+            let plan = plan_stored(alloc, &new, stored, steps)?;
             Ok(Some(plan))
         }
     }

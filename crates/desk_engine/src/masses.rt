@@ -112,12 +112,12 @@ fn weigh_product<'a>(
     let Some(node) = stored.index.node_of(product) else {
         unreachable!();
     };
-    let Some(mass) = plan.weight(node) else {
+    let Some(values) = plan.rolled(node) else {
         return Ok(());
     };
     masses.put(ProductMass {
         product: *product,
-        mass,
+        mass: values.weight,
     })
 }
 
@@ -140,10 +140,13 @@ fn weigh_node<'a>(
     if !tables.is_product(&product) {
         return Ok(());
     }
-    let Some(mass) = plan.weight(node) else {
+    let Some(values) = plan.rolled(node) else {
         unreachable!();
     };
-    masses.put(ProductMass { product, mass })
+    masses.put(ProductMass {
+        product,
+        mass: values.weight,
+    })
 }
 
 /// What a material or part weighs. It takes one step.

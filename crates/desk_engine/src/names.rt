@@ -5,7 +5,7 @@ ghost use Rattle.desk_model.specs.Effect.{entered};
 ghost use Rattle.desk_model.specs.Lists.{Lists};
 ghost use Rattle.desk_history.specs.History.{PassesRows};
 ghost use Rattle.desk_history.specs.Sound.{Sound};
-ghost use Rattle.desk_engine.specs.Names.{AreFewNames, GrowTo, candidate_of};
+ghost use Rattle.desk_engine.specs.Names.{AreFewNames, GrowTo, new_candidate};
 
 use desk_model::{Codes, Edit, ListOf};
 use desk_text::{Code, OutOfMemory};
@@ -20,16 +20,16 @@ pub(crate) fn names_after(
     ensures { (t : Lists) → Sound t → PassesRows t edit.now → AreFewNames t names.now →
         IfOk result (λ new. GrowTo t (entered t edit.now) names.now (unwrap_or new names.now)) }
 {
-    match candidate_of(edit) {
+    match new_candidate(edit) {
         Some(substance) => names_with(alloc, names, &substance),
         None => Ok(None),
     }
 }
 
 /// The substance that an edit puts on the candidate list, if it does.
-#[tactic(auto, unfolding(crate::specs::Names::candidate_of))]
-fn candidate_of(edit: &Edit) -> Option<Code>
-    ensures { result ≡ candidate_of edit.now }
+#[tactic(auto, unfolding(crate::specs::Names::new_candidate))]
+fn new_candidate(edit: &Edit) -> Option<Code>
+    ensures { result ≡ new_candidate edit.now }
 {
     match edit {
         Edit::Candidate { substance, .. } => Some(*substance),

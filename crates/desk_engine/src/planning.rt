@@ -1,4 +1,4 @@
-ghost use Rattle.std.specs.Prelude.{◌≡◌, ◌+◌, ◌≤◌, true, IfOk, IfErr, Some, None, length, unwrap_or, if◌then◌else◌};
+ghost use Rattle.std.specs.Prelude.{◌≡◌, ◌+◌, ◌≤◌, ℕ, List, IfOk, IfErr, Some, None, length, unwrap_or, if◌then◌else◌};
 ghost use Rattle.desk_graph.specs.Planned.{IsBillPlan, planned};
 ghost use Rattle.desk_model.specs.Effect.{entered, made};
 ghost use Rattle.desk_history.specs.Affected.{affected};
@@ -9,7 +9,6 @@ ghost use Rattle.desk_history.specs.Sound.{Sound};
 ghost use Rattle.desk_history.specs.Step.{kept_number};
 ghost use Rattle.desk_tables.specs.Change.{changed};
 ghost use Rattle.desk_tables.specs.Judged.{IsRefusal};
-ghost use Rattle.desk_tables.specs.Sums.{is_of_sums, may_raise_sums};
 ghost use Rattle.desk_bridge.specs.Bridge.{IsBillOf};
 ghost use Rattle.desk_bridge.specs.Years.{entries_of};
 ghost use Rattle.desk_engine.specs.Names.{GrowTo};
@@ -23,11 +22,11 @@ use crate::shipping::plan_years;
 use crate::stored::Stored;
 use crate::stored_plan::StoredPlan;
 use crate::years::{YearsFault, YearsPlan};
-use desk_bridge::{owns_after, plan_bill};
+use desk_bridge::{NewEdit, owns_after, plan_bill};
 use desk_graph::{BillPlan, PlannedBill, Steps};
-use desk_model::{Codes, Edit, RuleFault};
+use desk_model::{Codes, RuleFault};
 use desk_rollup::{RollFault, RollPlan};
-use desk_tables::{EditFault, RowChange, Tables};
+use desk_tables::EditFault;
 use desk_text::Code;
 use std::alloc::Global;
 use std::sync::ledger::Ledger;
@@ -36,62 +35,56 @@ use std::sync::ledger::Ledger;
 ///
 /// `Rule`: the first of the rules 20 to 23 that it breaks. `OutOfMemory`: none was left for the plan.
 #[tactic(auto, unfolding(desk_tables::specs::Judged::IsRefusal))]
-pub(crate) fn plan_stored<L: Ledger>(
+pub(crate) fn plan_stored<'a, L: Ledger>(
     alloc: Global,
-    tables: &Tables,
+    new: &NewEdit<'a>,
     stored: &Stored,
-    edit: &Edit,
-    change: &RowChange,
     steps: &mut Steps<L>,
 ) -> Result<StoredPlan, EditFault>
-    requires sound { Sound tables.now.lists }
-    requires stored { IsStoredOf tables.now.lists stored.now }
-    requires new { kept_number tables.now.lists edit.now ≡ None }
-    requires rows { refused_by_rows tables.now.lists edit.now ≡ None }
-    requires made { changed tables.now.lists change.now ≡ made tables.now.lists edit.now }
-    requires sums { may_raise_sums edit.now ≡ true → is_of_sums change.now ≡ true }
-    ensures plan { IfOk result (λ plan. LeavesStored stored.now (entered tables.now.lists edit.now) plan) }
-    ensures replaced { IfOk result (λ plan. ReplacesAffected stored.now tables.now.lists edit.now (Some plan)) }
-    ensures unrefused { IfOk result (λ plan. refused_by_bill tables.now.lists edit.now ≡ None) }
-    ensures fault { IfErr result (λ fault. IsRefusal tables.now.lists edit.now fault) }
-    ensures steps { steps.new ≤ steps.old + most_steps tables.now.lists edit.now }
+    requires sound { Sound new.now.tables.now.lists }
+    requires stored { IsStoredOf new.now.tables.now.lists stored.now }
+    requires new { kept_number new.now.tables.now.lists new.now.edit.now ≡ None }
+    requires rows { refused_by_rows new.now.tables.now.lists new.now.edit.now ≡ None }
+    requires made { changed new.now.tables.now.lists new.now.change.now ≡ made new.now.tables.now.lists new.now.edit.now }
+    ensures plan { IfOk result (λ plan. LeavesStored stored.now (entered new.now.tables.now.lists new.now.edit.now) plan) }
+    ensures replaced { IfOk result (λ plan. ReplacesAffected stored.now new.now.tables.now.lists new.now.edit.now (Some plan)) }
+    ensures unrefused { IfOk result (λ plan. refused_by_bill new.now.tables.now.lists new.now.edit.now ≡ None) }
+    ensures fault { IfErr result (λ fault. IsRefusal new.now.tables.now.lists new.now.edit.now fault) }
+    ensures steps { steps.new ≤ steps.old + most_steps new.now.tables.now.lists new.now.edit.now }
 {
-    let bill = plan_bill(alloc, tables, &stored.bill, &stored.index, edit)?;
-    let names = names_after(alloc, stored.names.as_slice(), edit)?;
-    plan_values(alloc, tables, stored, bill, names, edit, change, steps)
+    let bill = plan_bill(alloc, new.tables, &stored.bill, &stored.index, new.edit)?;
+    let names = names_after(alloc, stored.names.as_slice(), new.edit)?;
+    plan_values(alloc, new, stored, bill, names, steps)
 }
 
 /// The same for an edit that passes the rules 1 to 20, with what it does to the bill and to the names of substances.
 #[tactic(auto, unfolding(desk_tables::specs::Judged::IsRefusal))]
-fn plan_values<L: Ledger>(
+fn plan_values<'a, L: Ledger>(
     alloc: Global,
-    tables: &Tables,
+    new: &NewEdit<'a>,
     stored: &Stored,
     bill: BillPlan,
     names: Option<Codes>,
-    edit: &Edit,
-    change: &RowChange,
     steps: &mut Steps<L>,
 ) -> Result<StoredPlan, EditFault>
-    requires sound { Sound tables.now.lists }
-    requires stored { IsStoredOf tables.now.lists stored.now }
-    requires passes { PassesRows tables.now.lists edit.now }
-    requires made { changed tables.now.lists change.now ≡ made tables.now.lists edit.now }
-    requires sums { may_raise_sums edit.now ≡ true → is_of_sums change.now ≡ true }
+    requires sound { Sound new.now.tables.now.lists }
+    requires stored { IsStoredOf new.now.tables.now.lists stored.now }
+    requires passes { PassesRows new.now.tables.now.lists new.now.edit.now }
+    requires made { changed new.now.tables.now.lists new.now.change.now ≡ made new.now.tables.now.lists new.now.edit.now }
     requires plan { IsBillPlan stored.now.bill bill }
-    requires of { IsBillOf (entered tables.now.lists edit.now) (planned bill stored.now.bill) }
-    requires names { GrowTo tables.now.lists (entered tables.now.lists edit.now) stored.now.names (unwrap_or names stored.now.names) }
-    ensures plan { IfOk result (λ plan. LeavesStored stored.now (entered tables.now.lists edit.now) plan) }
-    ensures replaced { IfOk result (λ plan. ReplacesAffected stored.now tables.now.lists edit.now (Some plan)) }
-    ensures unrefused { IfOk result (λ plan. refused_by_bill tables.now.lists edit.now ≡ None) }
-    ensures fault { IfErr result (λ fault. IsRefusal tables.now.lists edit.now fault) }
-    ensures steps { steps.new ≤ steps.old + most_steps tables.now.lists edit.now }
+    requires of { IsBillOf (entered new.now.tables.now.lists new.now.edit.now) (planned bill stored.now.bill) }
+    requires names { GrowTo new.now.tables.now.lists (entered new.now.tables.now.lists new.now.edit.now) stored.now.names (unwrap_or names stored.now.names) }
+    ensures plan { IfOk result (λ plan. LeavesStored stored.now (entered new.now.tables.now.lists new.now.edit.now) plan) }
+    ensures replaced { IfOk result (λ plan. ReplacesAffected stored.now new.now.tables.now.lists new.now.edit.now (Some plan)) }
+    ensures unrefused { IfOk result (λ plan. refused_by_bill new.now.tables.now.lists new.now.edit.now ≡ None) }
+    ensures fault { IfErr result (λ fault. IsRefusal new.now.tables.now.lists new.now.edit.now fault) }
+    ensures steps { steps.new ≤ steps.old + most_steps new.now.tables.now.lists new.now.edit.now }
 {
     let nodes = new_nodes(alloc, &stored.bill, &bill)?;
     let room = stored.index.room_for(alloc, nodes.as_slice().len())?;
     let all = chosen(&names, stored.names.as_slice());
-    let rollups = plan_rollups(alloc, tables, stored, &bill, all, edit, change, steps)?;
-    let years = judge_years(alloc, tables, stored, &bill, all, &rollups, edit, steps)?;
+    let rollups = plan_rollups(alloc, new, stored, &bill, all, steps)?;
+    let years = judge_years(alloc, new, stored, &bill, &rollups, steps)?;
     Ok(StoredPlan {
         bill,
         nodes,
@@ -106,43 +99,31 @@ fn plan_values<L: Ledger>(
 ///
 /// `Rule`: the first of the rules 21 and 22 that it breaks. `OutOfMemory`: none was left for the plan.
 #[tactic(auto, unfolding(desk_tables::specs::Judged::IsRefusal))]
-fn plan_rollups<L: Ledger>(
+fn plan_rollups<'a, L: Ledger>(
     alloc: Global,
-    tables: &Tables,
+    new: &NewEdit<'a>,
     stored: &Stored,
     plan: &BillPlan,
     names: &[Code],
-    edit: &Edit,
-    change: &RowChange,
     steps: &mut Steps<L>,
 ) -> Result<RollPlan, EditFault>
-    requires sound { Sound tables.now.lists }
-    requires stored { IsStoredOf tables.now.lists stored.now }
-    requires passes { PassesRows tables.now.lists edit.now }
-    requires made { changed tables.now.lists change.now ≡ made tables.now.lists edit.now }
-    requires sums { may_raise_sums edit.now ≡ true → is_of_sums change.now ≡ true }
+    requires sound { Sound new.now.tables.now.lists }
+    requires stored { IsStoredOf new.now.tables.now.lists stored.now }
+    requires passes { PassesRows new.now.tables.now.lists new.now.edit.now }
+    requires made { changed new.now.tables.now.lists new.now.change.now ≡ made new.now.tables.now.lists new.now.edit.now }
     requires plan { IsBillPlan stored.now.bill plan.now }
-    requires of { IsBillOf (entered tables.now.lists edit.now) (planned plan.now stored.now.bill) }
-    requires names { GrowTo tables.now.lists (entered tables.now.lists edit.now) stored.now.names names.now }
-    ensures rolled { IfOk result (λ rollups. IsRolledFor tables.now.lists edit.now (planned plan.now stored.now.bill) names.now stored.now.rollups rollups) }
-    ensures fault { IfErr result (λ fault. IsRefusal tables.now.lists edit.now fault) }
-    ensures steps { steps.new ≤ steps.old + length (affected tables.now.lists edit.now) }
+    requires of { IsBillOf (entered new.now.tables.now.lists new.now.edit.now) (planned plan.now stored.now.bill) }
+    requires names { GrowTo new.now.tables.now.lists (entered new.now.tables.now.lists new.now.edit.now) stored.now.names names.now }
+    ensures rolled { IfOk result (λ rollups. IsRolledFor new.now.tables.now.lists new.now.edit.now (planned plan.now stored.now.bill) names.now stored.now.rollups rollups) }
+    ensures fault { IfErr result (λ fault. IsRefusal new.now.tables.now.lists new.now.edit.now fault) }
+    ensures steps { steps.new ≤ steps.old + length (affected new.now.tables.now.lists new.now.edit.now) }
 {
     // A bill tells what holds of every bill.
     stored.bill.node_count();
     let after = PlannedBill::new(&stored.bill, plan);
     after.node_count();
     let index = &stored.index;
-    let owns = owns_after(
-        alloc,
-        tables,
-        &stored.bill,
-        index,
-        &after,
-        names,
-        edit,
-        change,
-    )?;
+    let owns = owns_after(alloc, new, &stored.bill, index, &after, names)?;
     match stored
         .rollups
         .prepare(alloc, &after, owns.as_slice(), steps)
@@ -161,27 +142,25 @@ fn plan_rollups<L: Ledger>(
 ///
 /// `Rule`: the rule 23, which it breaks. `OutOfMemory`: none was left for the plan.
 #[tactic(auto, unfolding(desk_tables::specs::Judged::IsRefusal))]
-fn judge_years<L: Ledger>(
+fn judge_years<'a, L: Ledger>(
     alloc: Global,
-    tables: &Tables,
+    new: &NewEdit<'a>,
     stored: &Stored,
     plan: &BillPlan,
-    _names: &[Code],
     rollups: &RollPlan,
-    edit: &Edit,
     steps: &mut Steps<L>,
 ) -> Result<YearsPlan, EditFault>
-    requires sound { Sound tables.now.lists }
-    requires stored { IsStoredOf tables.now.lists stored.now }
-    requires passes { PassesRows tables.now.lists edit.now }
+    requires sound { Sound new.now.tables.now.lists }
+    requires stored { IsStoredOf new.now.tables.now.lists stored.now }
+    requires passes { PassesRows new.now.tables.now.lists new.now.edit.now }
     requires plan { IsBillPlan stored.now.bill plan.now }
-    requires rolled { IsRolledFor tables.now.lists edit.now (planned plan.now stored.now.bill) _names.now stored.now.rollups rollups.now }
-    ensures years { IfOk result (λ years. LeavesEntries stored.now.years (entries_of (entered tables.now.lists edit.now)) years) }
-    ensures unrefused { IfOk result (λ years. refused_by_bill tables.now.lists edit.now ≡ None) }
-    ensures fault { IfErr result (λ fault. IsRefusal tables.now.lists edit.now fault) }
-    ensures steps { steps.new ≤ steps.old + (if changes_shipments edit.now then 1 else 0) }
+    requires rolled { (names : List (List ℕ)) × IsRolledFor new.now.tables.now.lists new.now.edit.now (planned plan.now stored.now.bill) names stored.now.rollups rollups.now }
+    ensures years { IfOk result (λ years. LeavesEntries stored.now.years (entries_of (entered new.now.tables.now.lists new.now.edit.now)) years) }
+    ensures unrefused { IfOk result (λ years. refused_by_bill new.now.tables.now.lists new.now.edit.now ≡ None) }
+    ensures fault { IfErr result (λ fault. IsRefusal new.now.tables.now.lists new.now.edit.now fault) }
+    ensures steps { steps.new ≤ steps.old + (if changes_shipments new.now.edit.now then 1 else 0) }
 {
-    match plan_years(alloc, tables, stored, plan, _names, rollups, edit, steps) {
+    match plan_years(alloc, new, stored, plan, rollups, steps) {
         Ok(years) => Ok(years),
         Err(YearsFault::TooLarge { year }) => Err(EditFault::Rule(RuleFault::YearTooLarge {
             year,

@@ -1,4 +1,4 @@
-ghost use Rattle.std.specs.Prelude.{◌≡◌, ◌+◌, ◌≤◌, IfErr, IfOk, if◌then◌else◌};
+ghost use Rattle.std.specs.Prelude.{◌≡◌, ◌+◌, ◌≤◌, ℕ, List, IfErr, IfOk, if◌then◌else◌};
 ghost use Rattle.desk_graph.specs.Planned.{IsBillPlan, planned};
 ghost use Rattle.desk_model.specs.Effect.{entered};
 ghost use Rattle.desk_history.specs.Rising.{changes_shipments};
@@ -12,10 +12,10 @@ ghost use Rattle.desk_engine.specs.Years.{IsYearsFault, LeavesEntries, shipping_
 use crate::masses::{mass_of, masses_of};
 use crate::stored::Stored;
 use crate::years::{YearsFault, YearsPlan, plan_adding, plan_taking, plan_weighing};
+use desk_bridge::NewEdit;
 use desk_graph::{BillPlan, PlannedBill, Steps};
 use desk_model::Edit;
 use desk_rollup::RollPlan;
-use desk_tables::Tables;
 use desk_text::Code;
 use std::alloc::Global;
 use std::sync::ledger::Ledger;
@@ -76,26 +76,24 @@ pub(crate) fn shipping_of(edit: &Edit) -> Shipping
 }
 
 /// What an edit that passes the rules 1 to 22 makes of the years. `plan` is what it makes of the bill, and `rollups` what of the roll-ups.
-pub(crate) fn plan_years<L: Ledger>(
+pub(crate) fn plan_years<'a, L: Ledger>(
     alloc: Global,
-    tables: &Tables,
+    new: &NewEdit<'a>,
     stored: &Stored,
     plan: &BillPlan,
-    _names: &[Code],
     rollups: &RollPlan,
-    edit: &Edit,
     steps: &mut Steps<L>,
 ) -> Result<YearsPlan, YearsFault>
-    requires sound { Sound tables.now.lists }
-    requires stored { IsStoredOf tables.now.lists stored.now }
-    requires passes { PassesRows tables.now.lists edit.now }
+    requires sound { Sound new.now.tables.now.lists }
+    requires stored { IsStoredOf new.now.tables.now.lists stored.now }
+    requires passes { PassesRows new.now.tables.now.lists new.now.edit.now }
     requires plan { IsBillPlan stored.now.bill plan.now }
-    requires rolled { IsRolledFor tables.now.lists edit.now (planned plan.now stored.now.bill) _names.now stored.now.rollups rollups.now }
-    ensures plan { IfOk result (λ years. LeavesEntries stored.now.years (entries_of (entered tables.now.lists edit.now)) years) }
-    ensures fault { IfErr result (λ fault. IsYearsFault (entries_of (entered tables.now.lists edit.now)) fault) }
-    ensures steps { steps.new ≤ steps.old + (if changes_shipments edit.now then 1 else 0) }
+    requires rolled { (names : List (List ℕ)) × IsRolledFor new.now.tables.now.lists new.now.edit.now (planned plan.now stored.now.bill) names stored.now.rollups rollups.now }
+    ensures plan { IfOk result (λ years. LeavesEntries stored.now.years (entries_of (entered new.now.tables.now.lists new.now.edit.now)) years) }
+    ensures fault { IfErr result (λ fault. IsYearsFault (entries_of (entered new.now.tables.now.lists new.now.edit.now)) fault) }
+    ensures steps { steps.new ≤ steps.old + (if changes_shipments new.now.edit.now then 1 else 0) }
 {
-    match shipping_of(edit) {
+    match shipping_of(new.edit) {
         Shipping::Adds {
             year,
             product,
@@ -104,7 +102,7 @@ pub(crate) fn plan_years<L: Ledger>(
             // A bill tells what holds of every bill.
             stored.bill.node_count();
             let mass = mass_of(
-                tables,
+                new.tables,
                 &stored.bill,
                 &stored.index,
                 &stored.rollups,
@@ -120,7 +118,7 @@ pub(crate) fn plan_years<L: Ledger>(
         } => Ok(plan_taking(&stored.years, year, product, units)),
         Shipping::Leaves => {
             let after = PlannedBill::new(&stored.bill, plan);
-            let masses = masses_of(alloc, tables, stored, &after, rollups)?;
+            let masses = masses_of(alloc, new.tables, stored, &after, rollups)?;
             plan_weighing(alloc, &stored.years, &masses)
         }
     }

@@ -14,14 +14,14 @@ use Rattle.desk_engine.proofs.told.stored_findings.Goals as goal
 pub told_of-requires-clause-marks : goal.told_of-requires-clause-marks
 told_of-requires-clause-marks g c =
     let t = c.args.tables.now.lists in
-    let hops = c.as_slice.ensures.value ∙ ap (λ v. v.hops) c.values.view_is in
+    let hops = c.as_slice.ensures ∙ ap (λ v. v.hops) c.values.view_is in
     subst (AllByRecursion (λ hop. IsNumber t c.args.stored.now.bill.labels c.args.stored.now.names (mark_number hop.mark))) (sym hops)
     (marks_are_numbers t c.requires.sound.consistent.ordered (bill_of t c.requires.sound.consistent) c.args.stored.now.bill.labels c.args.stored.now.names (numbered t c.requires.sound c.args.stored.now c.node_count.ensures.bill c.requires.stored) c.args.part.now c.peek_values-values.result.now.hops c.peek_values-values.ensures.values.found)
 
 pub returns-clause-findings : goal.returns-clause-findings
 returns-clause-findings g c =
     let t = c.args.tables.now.lists in
-    let hops = c.as_slice.ensures.value ∙ ap (λ v. v.hops) c.values.view_is in
+    let hops = c.as_slice.ensures ∙ ap (λ v. v.hops) c.values.view_is in
     sorted_findings t c.requires.sound.consistent.ordered (bill_of t c.requires.sound.consistent) c.args.stored.now.bill.labels c.args.stored.now.names (numbered t c.requires.sound c.args.stored.now c.node_count.ensures.bill c.requires.stored) c.args.part.now c.peek_values-values.result.now.hops c.peek_values-values.ensures.values.found
     c.peek_values-values.ensures.values.rise c.in_ok-list.list.items c.sort_unstable_by.new.self.items
     (subst (λ hops. AreTold t c.args.stored.now.bill.labels c.args.stored.now.names hops c.in_ok-list.list.items) hops c.in_ok-list.ensures)
