@@ -3,7 +3,7 @@ use Rattle.std.proofs.Common.{◌≡◌, ◌≢◌, ℕ, ◌+◌, ◌≤◌, Boo
 use Rattle.std.specs.Prelude.{fold, if◌then◌else◌}
 use mathlib.Core.List.{IsPrefix}
 use Rattle.desk_clerk.specs.Clerk.{list_from}
-use Rattle.desk_clerk.specs.Published.{IsTakenIn, added_at, if_new}
+use Rattle.desk_clerk.specs.Published.{IsTakenIn, added_to_list, if_new}
 use Rattle.desk_clerk.proofs.Growing.{folds}
 use Rattle.desk_history.specs.History.{Begins, IsHistory, after, number_of, tables_after}
 use Rattle.desk_history.specs.Refused.{refused}
@@ -46,7 +46,7 @@ begins_of opening first second p = record { opening = refl; rest = p.0; edits = 
 -- ---- an edit
 
 -- what an edit that a rule refuses adds to a list
-none_added : (t : Lists) (made : Edit) (cause : RuleFault) → (step t made).0 ≡ Err cause → added_at t made ≡ []
+none_added : (t : Lists) (made : Edit) (cause : RuleFault) → (step t made).0 ≡ Err cause → added_to_list t made ≡ []
 none_added t made cause e =
     ap (λ kept. if_new made kept (refused t made)) (refusal-new t made cause e) ∙ ap (λ broken. if_new made None broken) (refusal-cause t made cause e)
 
@@ -67,7 +67,7 @@ listed_number opening edits h = tickets-tables_after opening edits h.accepted
 shorter : (opening : Lists) (seen before now : List Edit) (t left : Lists) (made : Edit) → IsHistory (list_from opening seen) → IsHistory (list_from opening before)
     → t ≡ after (list_from opening before) → number_of (list_from opening seen) ≤ number_at t → IsTakenIn before t made now left → length seen ≤ length now
 shorter opening seen before now t left made a b at less taken =
-    let more : length now ≡ length before + length (added_at t made) = ap length taken.0 ∙ length-append before (added_at t made) in
+    let more : length now ≡ length before + length (added_to_list t made) = ap length taken.0 ∙ length-append before (added_to_list t made) in
     omega (arith, listed_number opening seen a, listed_number opening before b, ap number_at at, less, more)
 
 longer_of : (x : Bool) (old told new : Known Edit) → new ≡ (if x then old else told) → IsPrefix told.list new.list → length old.list ≤ length told.list → new.list ≡ told.list

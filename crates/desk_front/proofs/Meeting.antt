@@ -11,12 +11,12 @@ use Rattle.desk_front.specs.Asked.{Asked, asked_of, edit, nothing, question}
 use Rattle.desk_front.specs.InOrder.{InOrder}
 use Rattle.desk_front.specs.Laws.{BeginsWithAllMet, IsAnsweredAt}
 use Rattle.desk_front.specs.Replies.{answer_at}
-use Rattle.desk_front.specs.Talk.{Follows, IsAnswered, IsNumbered, IsTold, IsToldOfMemory, Numbered, Talk, TalkAt, TellsJudgement, replies_in}
+use Rattle.desk_front.specs.Talk.{Follows, IsAnswered, IsNumberedReply, IsTold, IsToldOfMemory, Numbered, Talk, TalkAt, TellsJudgement, replies_in}
 
 -- ---- a talk and its numbers
 
 numbers_each : (list : History) (met last : ℕ) (ms : List Message) (replies : List Reply) → InOrder (IsAnswered list) met ms replies last
-    → (numbered : List Numbered) × (replies_in numbered ≡ replies) × InOrder (IsNumbered list) met ms numbered last
+    → (numbered : List Numbered) × (replies_in numbered ≡ replies) × InOrder (IsNumberedReply list) met ms numbered last
 numbers_each list met last [] [] x = ([], refl, x)
 numbers_each list met last [] (reply ∷ replies) x = absurd x
 numbers_each list met last (m ∷ ms) [] x = absurd x
@@ -28,7 +28,7 @@ pub with_numbers : (list : History) (met : ℕ) (ms : List Message) (replies : L
     → (numbered : List Numbered) × (replies_in numbered ≡ replies) × TalkAt list met ms numbered
 with_numbers list met ms replies x = let y = numbers_each list met x.0 ms replies x.1 in (y.0, y.1, (x.0, y.2))
 
-pub replies_each : (list : History) (met last : ℕ) (ms : List Message) (numbered : List Numbered) → InOrder (IsNumbered list) met ms numbered last
+pub replies_each : (list : History) (met last : ℕ) (ms : List Message) (numbered : List Numbered) → InOrder (IsNumberedReply list) met ms numbered last
     → InOrder (IsAnswered list) met ms (replies_in numbered) last
 replies_each list met last [] [] x = x
 replies_each list met last [] (one ∷ numbered) x = absurd x

@@ -7,7 +7,7 @@ use Rattle.desk_http.specs.declared.fixed.Fixed.{Fixed}
 use Rattle.desk_http.specs.declared.fixed.Fixed.TheVariants as refusal
 use Rattle.desk_front.specs.Asked.{Asked, nothing}
 use Rattle.desk_front.specs.InOrder.{InOrder}
-use Rattle.desk_front.specs.Replies.{all_bytes, bytes_of}
+use Rattle.desk_front.specs.Replies.{all_bytes, reply_bytes}
 use Rattle.desk_front.specs.Service.{Replies}
 use Rattle.desk_front.specs.Told.{Conversation, Says, Told, Turns, replies_of}
 use Rattle.desk_front.proofs.InOrder.{in_order_relates}
@@ -67,7 +67,7 @@ module _ {A S T : Type 0} (R : A → Message → List ℕ → A → Type 0) (sta
       let others = conversation_of_each x.0 new ms each x.2 in (
         record { reply = first.0; met = met (state x.0); added = first.1 } ∷ others.0,
         (state x.0, (first.2, refl), others.1),
-        ap (λ l. l ++ concat each) first.3 ∙ ap (λ l. bytes_of m first.0 ++ l) others.2,
+        ap (λ l. l ++ concat each) first.3 ∙ ap (λ l. reply_bytes m first.0 ++ l) others.2,
       )
 
   pub conversation_of : (old new : A) (ms : List Message) (said : List ℕ) → Replies R old ms said new

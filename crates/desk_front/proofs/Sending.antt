@@ -4,7 +4,8 @@ use Rattle.std.proofs.Math.Seq.{take-append_seam}
 use Rattle.std.proofs.lemmas.List.{length-append, length-take-le, take-append-drop}
 use Rattle.std.specs.Io.KnownBytes.{Appends}
 use Rattle.std.proofs.KnownBytes.{Appends-nil, Appends-trans}
-use Rattle.desk_edge.specs.Faults.{Rose}
+use Rattle.std.specs.Prelude.{IsErr}
+use Rattle.desk_edge.specs.Faults.{CountsFaults, Rose}
 use Rattle.desk_edge.specs.Transfer.{AppendsPart}
 use Rattle.desk_front.specs.Service.{BreaksOff, Outgoing, Sends}
 
@@ -84,3 +85,12 @@ on_ok_both (Err error) p q both = tt
 pub on_err_both : {T E P Q S : Type 0} (r : Result T E) → OnErr r P → OnErr r Q → (P → Q → S) → OnErr r S
 on_err_both (Ok value) p q both = tt
 on_err_both (Err error) p q both = both p q
+
+-- a call that went well leaves the count of faults as it was, and one that was refused raises it
+pub steady_on_ok : {T E : Type 0} (r : Result T E) (old new : ℕ) → CountsFaults (IsErr r) old new → OnOk r (new ≡ old)
+steady_on_ok (Ok value) old new counts = counts.steady (λ failed. cc)
+steady_on_ok (Err error) old new counts = tt
+
+pub rises_on_err : {T E : Type 0} (r : Result T E) (old new : ℕ) → CountsFaults (IsErr r) old new → OnErr r (Rose old new)
+rises_on_err (Ok value) old new counts = tt
+rises_on_err (Err error) old new counts = counts.rises refl

@@ -10,10 +10,10 @@ use Rattle.desk_http.specs.Stream.{End, EndsAs, IsStream, is_ended, is_refusal}
 use Rattle.desk_http.specs.Stream as stream
 use Rattle.desk_http.proofs.AnswerLemmas.{not_yet_len}
 use Rattle.desk_http.proofs.FrontLemmas.{ends_open, leads_stream}
-use Rattle.desk_front.specs.Held.{ReadMore, held_limit}
+use Rattle.desk_front.specs.ReadBuffer.{ReadMore, held_limit}
 use Rattle.desk_front.specs.Served.{EndsAsServed, IsWrittenInPart, Serves, ServedWhole, end_served, stream_limit}
-use Rattle.desk_front.specs.Service.{AreFirst, BreaksOff, GoesOn, IsBroken, IsOver, LeavesSo, Outgoing, Replies, Sends, Service, service}
-use Rattle.desk_front.specs.declared.round.Round.TheVariants as round
+use Rattle.desk_front.specs.Service.{AreFirstRequests, BreaksOff, GoesOn, IsBroken, IsOver, LeavesSo, Outgoing, Replies, Sends, Service, service}
+use Rattle.desk_front.specs.declared.round_outcome.RoundOutcome.TheVariants as round
 use Rattle.desk_front.specs.declared.served.Served.{Served}
 use Rattle.desk_front.specs.declared.served.Served.TheVariants as served
 use Rattle.desk_front.proofs.Streaming.{broken_onward, goes_later, goes_nowhere, goes_onward, over_onward}
@@ -56,7 +56,7 @@ beginning_of : (old new : Option (List ℕ)) (said : List ℕ) → AppendsPart o
 beginning_of old new said x = (x.0, x.2)
 
 -- the two ways in which a beginning of the replies was written
-in_part : (bytes : List ℕ) (requests : List Message) (said last : List ℕ) (before after : Option (List ℕ)) → AreFirst bytes requests last
+in_part : (bytes : List ℕ) (requests : List Message) (said last : List ℕ) (before after : Option (List ℕ)) → AreFirstRequests bytes requests last
     → AppendsPart before after (said ++ last) → IsWrittenInPart bytes requests said before after
 in_part bytes requests said last before after (inl (rest, leads, none)) x =
     inl (rest, leads, subst (AppendsBeginning before after) (ap (λ l. said ++ l) none ∙ append-nil said) (beginning_of before after (said ++ last) x))

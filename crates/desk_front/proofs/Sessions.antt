@@ -19,7 +19,7 @@ use Rattle.desk_front.specs.InOrder.{Each, InOrder}
 use Rattle.desk_front.specs.Laws.{BeginsWithAllMet}
 use Rattle.desk_front.specs.Replies.{all_bytes, answer_at, reply_to_edit}
 use Rattle.desk_front.specs.Sitting.{Gains, IsSaid, IsSaidOfMemory, Links, Moves, SeatTurn, Sitting, edited_of, edited_status, met_by, with_given}
-use Rattle.desk_front.specs.Talk.{Follows, IsAnswered, IsNumbered, IsTold, IsToldOfMemory, TellsJudgement, replies_in}
+use Rattle.desk_front.specs.Talk.{Follows, IsAnswered, IsNumberedReply, IsTold, IsToldOfMemory, TellsJudgement, replies_in}
 use Rattle.desk_front.specs.Told.{Conversation, Told, added_by, numbered_of, replies_of}
 use Rattle.desk_front.specs.declared.given.Given.{Given}
 use Rattle.desk_front.proofs.Meeting.{answered_longer, begins_each, replies_each}
@@ -90,7 +90,7 @@ module _ (NeverFails : Type 0) where
 
   -- a conversation from a seat's list to another is a talk over the list at the end
   session_talks : (old new : Sitting) (ms : List Message) (told : List (Told Given)) → IsHistory new.seen → Conversation (SeatTurn NeverFails) met_by old ms told new
-      → InOrder (IsNumbered new.seen) (met_by old) ms (numbered_of told) (met_by new)
+      → InOrder (IsNumberedReply new.seen) (met_by old) ms (numbered_of told) (met_by new)
   session_talks old new [] [] h x = ap met_by x
   session_talks old new [] (one ∷ told) h x = absurd x
   session_talks old new (m ∷ ms) [] h x = absurd x

@@ -17,9 +17,9 @@ use Rattle.desk_http.proofs.FrontLemmas.{ends_refused, leads_later, leads_onward
 use Rattle.std.proofs.lemmas.List.{drop-drop}
 use Rattle.std.proofs.lemmas.List.Folds.{concat-append}
 use Rattle.std.specs.List.{concat}
-use Rattle.desk_front.specs.declared.first.First.TheVariants as first
-use Rattle.desk_front.specs.declared.round.Round.TheVariants as round
-use Rattle.desk_front.specs.Service.{AreFirst, BeginsSo, BreaksOff, GoesOn, GoesSo, IsBroken, IsOver, Replies, Sends, Service}
+use Rattle.desk_front.specs.declared.request_outcome.RequestOutcome.TheVariants as first
+use Rattle.desk_front.specs.declared.round_outcome.RoundOutcome.TheVariants as round
+use Rattle.desk_front.specs.Service.{AreFirstRequests, BeginsSo, BreaksOff, GoesOn, GoesSo, IsBroken, IsOver, Replies, Sends, Service}
 use Rattle.desk_front.proofs.InOrder.{in_order_onward}
 use Rattle.desk_front.proofs.Sending.{breaks_onward, sends_nothing, sends_onward}
 
@@ -75,7 +75,7 @@ over_onward R bytes behind old mid new x y = record {
       (sends_onward old.out mid.out new.out x.said (y.said ++ last_reply y.end) x.sent y.sent);
 }
 
-first_onward : (bytes behind : List ℕ) (ms ns : List Message) (last : List ℕ) → LeadsTo bytes ms behind → AreFirst behind ns last → AreFirst bytes (ms ++ ns) last
+first_onward : (bytes behind : List ℕ) (ms ns : List Message) (last : List ℕ) → LeadsTo bytes ms behind → AreFirstRequests behind ns last → AreFirstRequests bytes (ms ++ ns) last
 first_onward bytes behind ms ns last x (inl y) = inl (y.0, leads_onward bytes behind y.0 ms ns x y.1, y.2)
 first_onward bytes behind ms ns last x (inr y) = inr (y.0, leads_stream bytes behind ms ns y.0 x y.1, ended_behind ms ns y.0 y.2, y.3)
 

@@ -3,7 +3,7 @@ use Rattle.std.proofs.Common.{◌≡◌, ◌≢◌, ◌⊎◌, ℕ, ◌+◌, ◌
 use Rattle.std.specs.List.{AllByRecursion}
 use Rattle.desk_model.specs.Lists.{number_at}
 use Rattle.desk_declare.specs.declared.declare_fault.DeclareFault.{DeclareFault}
-use Rattle.desk_clerk.specs.Published.{added_at}
+use Rattle.desk_clerk.specs.Published.{added_to_list}
 use Rattle.desk_clerk.proofs.Growing.{Grows, accepted_on, after_on, grows_at}
 use Rattle.desk_edge.specs.Faults.{Rose}
 use Rattle.desk_edits.specs.declared.json_fault.JsonFault.{JsonFault}
@@ -46,8 +46,8 @@ met_of standing = standing.met
 grows_nothing : (t new : Lists) (added : List Edit) → added ≡ [] → new ≡ t → Grows t added new
 grows_nothing t new added none same = subst (λ l. Grows t l new) (sym none) (tt, sym same)
 
-grows_edit : (t new : Lists) (made : Edit) (added : List Edit) → is_edit_in_form made ≡ true → added ≡ added_at t made → new ≡ (step t made).1 → Grows t added new
-grows_edit t new made added form same left = subst (λ l. Grows t l new) (sym same) (subst (Grows t (added_at t made)) (sym left) (grows_at t made form))
+grows_edit : (t new : Lists) (made : Edit) (added : List Edit) → is_edit_in_form made ≡ true → added ≡ added_to_list t made → new ≡ (step t made).1 → Grows t added new
+grows_edit t new made added form same left = subst (λ l. Grows t l new) (sym same) (subst (Grows t (added_to_list t made)) (sym left) (grows_at t made form))
 
 turn_grows : (old new : Standing) (asked : Asked) (reply : Reply) (added : List Edit) → Turn old asked reply added new → Grows old.whole added new.whole
 turn_grows old new (nothing told) reply added (inl x) = grows_nothing old.whole new.whole added x.1 (ap (λ s. s.whole) x.2)
@@ -83,11 +83,11 @@ turn_meets : (old new : Standing) (asked : Asked) (reply : Reply) (added : List 
 turn_meets old new (nothing told) reply added (inl x) h = subst (λ s. (old.met ≤ s.met) × (s.met ≤ number_at s.whole)) (sym x.2) (omega arith, h)
 turn_meets old new (question asked) reply added (inl x) h = subst (λ s. (old.met ≤ s.met) × (s.met ≤ number_at s.whole)) (sym x.2) (h, omega arith)
 turn_meets old new (edit made) reply added (inl x) h =
-    let more = grown_number old.whole (step old.whole made).1 (added_at old.whole made) (grows_at old.whole made x.0) in
+    let more = grown_number old.whole (step old.whole made).1 (added_to_list old.whole made) (grows_at old.whole made x.0) in
     subst (λ s. (old.met ≤ s.met) × (s.met ≤ number_at s.whole)) (sym x.3) (omega (arith, h, more), omega arith)
 turn_meets old new asked reply added (inr (inl (memory, inl x))) h = subst (λ s. (old.met ≤ s.met) × (s.met ≤ number_at s.whole)) (sym x.1) (omega arith, h)
 turn_meets old new asked reply added (inr (inl (memory, inr x))) h =
-    let more = grown_number old.whole (step old.whole x.0).1 (added_at old.whole x.0) (grows_at old.whole x.0 x.2) in
+    let more = grown_number old.whole (step old.whole x.0).1 (added_to_list old.whole x.0) (grows_at old.whole x.0 x.2) in
     subst (λ s. (old.met ≤ s.met) × (s.met ≤ number_at s.whole)) (sym x.4) (omega arith, omega (arith, h, more))
 turn_meets old new asked reply added (inr (inr x)) h = subst (λ s. (old.met ≤ s.met) × (s.met ≤ number_at s.whole)) (sym x.6) (omega arith, h)
 
@@ -138,7 +138,7 @@ turn_tells list old new (edit made) reply added (inl x) h before now =
     let met : new.met ≡ number_at (step old.whole made).1 = ap (λ s. s.met) x.3 in
     let left : new.whole ≡ (step old.whole made).1 = ap (λ s. s.whole) x.3 in
     let at : Moment list (step old.whole made).1 = subst (Moment list) left now in
-    let more = grown_number old.whole (step old.whole made).1 (added_at old.whole made) (grows_at old.whole made x.0) in
+    let more = grown_number old.whole (step old.whole made).1 (added_to_list old.whole made) (grows_at old.whole made x.0) in
     inl (inl (
       subst (Follows list old.met) (sym met) (at.opened, omega (arith, h, more), at.within),
       subst (λ n. TellsJudgement (after (up_to list n)) n old.met made reply) (sym met)

@@ -15,7 +15,7 @@ use Rattle.desk_http.specs.declared.http_fault.HttpFault.TheVariants as cause
 use Rattle.desk_http.specs.declared.http_fault.QueryKey.{QueryKey}
 use Rattle.desk_http.specs.declared.http_fault.QueryKey.TheVariants as key
 use Rattle.desk_http.specs.declared.method.Method.{Method}
-use Rattle.desk_clerk.specs.Published.{added_at}
+use Rattle.desk_clerk.specs.Published.{added_to_list}
 use Rattle.desk_edge.specs.Faults.{Rose}
 use Rattle.desk_history.specs.Step.{kept_number, step}
 use Rattle.desk_http.specs.Reply.{Reply, bytes_with, fixed, fixed_reply, with_body}
@@ -50,7 +50,7 @@ says_accepted old new made close number whole form answer counted left steady me
     let at : whole ≡ number_at (step old.whole made).1 = counted ∙ ap number_at left in
     let met_at : new.met ≡ number_at (step old.whole made).1 = met ∙ at in (
       with_body 200 (accepted_body whole old.met number),
-      added_at old.whole made,
+      added_to_list old.whole made,
       inl (
         form,
         ap (λ n. reply_to_edit n old.met (Ok number)) at ∙ ap (reply_to_edit (number_at (step old.whole made).1) old.met) (sym answer),
@@ -68,7 +68,7 @@ says_refused old new made close cause whole form answer stays counted left stead
     let at : whole ≡ number_at (step old.whole made).1 = counted ∙ ap number_at (sym stays) in
     let met_at : new.met ≡ number_at (step old.whole made).1 = met ∙ at in (
       with_body 409 (refused_body whole old.met cause),
-      added_at old.whole made,
+      added_to_list old.whole made,
       inl (
         form,
         ap (λ n. reply_to_edit n old.met (Err cause)) at ∙ ap (reply_to_edit (number_at (step old.whole made).1) old.met) (sym answer),
@@ -84,7 +84,7 @@ pub says_made : (old new : Standing) (made : Edit) (close : Bool) (refused : Fix
 says_made old new made close refused e form left met steady =
     subst (λ r. Says Turn old (edit made) close (fixed_reply r close) new) (sym e) (
       fixed refusal.Memory,
-      added_at old.whole made,
+      added_to_list old.whole made,
       inr (inl (refl, inr (made, refl, form, refl, (λ i. record { whole = left i; met = met i; faults = steady i })))),
       fixed_bytes refusal.Memory close,
     )

@@ -1,6 +1,6 @@
 pub mod Asked
 pub mod Asking
-pub mod Held
+pub mod ReadBuffer
 pub mod InOrder
 pub mod Laws
 pub mod Replies

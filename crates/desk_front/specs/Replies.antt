@@ -20,12 +20,12 @@ use Rattle.desk_scratch.specs.declared.ask_fault.AskFault.{AskFault}
 use Rattle.desk_scratch.specs.declared.question.Question.{Question}
 
 -- the bytes of the reply to a request: the connection ends with it where the request closes
-abbrev pub bytes_of : Message → Reply → List ℕ
-bytes_of request said = bytes_with request.close said
+abbrev pub reply_bytes : Message → Reply → List ℕ
+reply_bytes request said = bytes_with request.close said
 
 -- the bytes of the replies to requests, each behind the one before
 abbrev pub all_bytes : List Message → List Reply → List ℕ
-all_bytes (request ∷ requests) (said ∷ replies) = bytes_of request said ++ all_bytes requests replies
+all_bytes (request ∷ requests) (said ∷ replies) = reply_bytes request said ++ all_bytes requests replies
 all_bytes [] replies = []
 all_bytes (request ∷ requests) [] = []
 

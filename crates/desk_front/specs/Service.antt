@@ -9,10 +9,10 @@ use Rattle.desk_http.specs.Front.{LeadsTo, last_reply}
 use Rattle.desk_http.specs.Rest.{IsNotYet, Message}
 use Rattle.desk_http.specs.Stream.{End, IsStream, is_ended}
 use Rattle.desk_front.specs.InOrder.{InOrder}
-use Rattle.desk_front.specs.declared.first.First.{First}
-use Rattle.desk_front.specs.declared.first.First.TheVariants as first
-use Rattle.desk_front.specs.declared.round.Round.{Round}
-use Rattle.desk_front.specs.declared.round.Round.TheVariants as round
+use Rattle.desk_front.specs.declared.request_outcome.RequestOutcome.{RequestOutcome}
+use Rattle.desk_front.specs.declared.request_outcome.RequestOutcome.TheVariants as first
+use Rattle.desk_front.specs.declared.round_outcome.RoundOutcome.{RoundOutcome}
+use Rattle.desk_front.specs.declared.round_outcome.RoundOutcome.TheVariants as round
 
 -- what was said so far: the replies that wait to be written, and of the link the bytes that it has taken and its count of faults
 pub record Outgoing : Type 0 where
@@ -62,8 +62,8 @@ pub record IsOver {A : Type 0} (R : A → Message → List ℕ → A → Type 0)
   pub sent : Sends old.out (said ++ last_reply end) new.out
 
 -- the requests are the first of every stream that begins with these bytes; or they are all of it, and these are the last bytes said
-abbrev pub AreFirst : List ℕ → List Message → List ℕ → Type 0
-AreFirst bytes requests last =
+abbrev pub AreFirstRequests : List ℕ → List Message → List ℕ → Type 0
+AreFirstRequests bytes requests last =
     ((rest : List ℕ) × LeadsTo bytes requests rest × (last ≡ []))
     ⊎ ((end : End) × IsStream bytes requests end × IsTrue (is_ended requests end) × (last ≡ last_reply end))
 
@@ -72,25 +72,25 @@ pub record IsBroken {A : Type 0} (R : A → Message → List ℕ → A → Type 
   pub requests : List Message
   pub last : List ℕ
   pub said : List ℕ
-  pub are_first : AreFirst bytes requests last
+  pub are_first : AreFirstRequests bytes requests last
   pub replies : Replies R old.who requests said new.who
   pub sent : BreaksOff old.out (said ++ last) new.out
 
 -- what came of the request at the front of the bytes
-abbrev pub BeginsSo : {A : Type 0} → (A → Message → List ℕ → A → Type 0) → List ℕ → Service A → Service A → First → Type 0
+abbrev pub BeginsSo : {A : Type 0} → (A → Message → List ℕ → A → Type 0) → List ℕ → Service A → Service A → RequestOutcome → Type 0
 BeginsSo R bytes old new (first.Took count) = (0 < count) × (count ≤ length bytes) × GoesOn R bytes old new (drop count bytes)
 BeginsSo R bytes old new first.NotYet = IsNotYet bytes × (new ≡ old)
 BeginsSo R bytes old new first.Over = IsOver R bytes old new
 BeginsSo R bytes old new first.LinkFault = IsBroken R bytes old new
 
 -- what came of all bytes that are held: of an open stream so many are used, and no whole request is left
-abbrev pub GoesSo : {A : Type 0} → (A → Message → List ℕ → A → Type 0) → List ℕ → Service A → Service A → Round → Type 0
+abbrev pub GoesSo : {A : Type 0} → (A → Message → List ℕ → A → Type 0) → List ℕ → Service A → Service A → RoundOutcome → Type 0
 GoesSo R bytes old new (round.Open used) = (used ≤ length bytes) × IsNotYet (drop used bytes) × GoesOn R bytes old new (drop used bytes)
 GoesSo R bytes old new round.Over = IsOver R bytes old new
 GoesSo R bytes old new round.LinkFault = IsBroken R bytes old new
 
 -- what came of all bytes that are held, where nothing waits any more and what is used was taken out
-abbrev pub LeavesSo : {A : Type 0} → (A → Message → List ℕ → A → Type 0) → List ℕ → List ℕ → Service A → Service A → Round → Type 0
+abbrev pub LeavesSo : {A : Type 0} → (A → Message → List ℕ → A → Type 0) → List ℕ → List ℕ → Service A → Service A → RoundOutcome → Type 0
 LeavesSo R bytes rest old new (round.Open used) = IsNotYet rest × (new.out.waiting ≡ []) × GoesOn R bytes old new rest
 LeavesSo R bytes rest old new round.Over = (new.out.waiting ≡ []) × IsOver R bytes old new
 LeavesSo R bytes rest old new round.LinkFault = IsBroken R bytes old new

@@ -58,9 +58,9 @@ abbrev pub replies_in : List Numbered → List Reply
 replies_in numbered = map (λ one. one.reply) numbered
 
 -- a request gets this reply from the list, and this is the number met with it
-abbrev pub IsNumbered : History → ℕ → Message → Numbered → ℕ → Type 0
-IsNumbered list before request one now = IsAnswered list before request one.reply now × (one.met ≡ now)
+abbrev pub IsNumberedReply : History → ℕ → Message → Numbered → ℕ → Type 0
+IsNumberedReply list before request one now = IsAnswered list before request one.reply now × (one.met ≡ now)
 
 -- a talk by its numbers
 abbrev pub TalkAt : History → ℕ → List Message → List Numbered → Type 0
-TalkAt list met requests numbered = (last : ℕ) × InOrder (IsNumbered list) met requests numbered last
+TalkAt list met requests numbered = (last : ℕ) × InOrder (IsNumberedReply list) met requests numbered last

@@ -2,7 +2,7 @@
 use Rattle.std.specs.Prelude.{◌≡◌, ◌≢◌, ℕ, ◌≤◌, ◌⊎◌, is_ok, true, List, [], None}
 use Rattle.std.specs.List.{AllByRecursion}
 use Rattle.desk_model.specs.Lists.{number_at}
-use Rattle.desk_clerk.specs.Published.{added_at}
+use Rattle.desk_clerk.specs.Published.{added_to_list}
 use Rattle.desk_edge.specs.Faults.{Rose}
 use Rattle.desk_history.specs.History.{History, IsHistory, after}
 use Rattle.desk_history.specs.Step.{kept_number, step}
@@ -31,7 +31,7 @@ AnswersRequest old (question asked) reply added new = (reply ≡ answer_at old.w
 AnswersRequest old (edit made) reply added new =
     (is_edit_in_form made ≡ true)
     × (reply ≡ reply_to_edit (number_at (step old.whole made).1) old.met (step old.whole made).0)
-    × (added ≡ added_at old.whole made)
+    × (added ≡ added_to_list old.whole made)
     × (new ≡ record old { whole = (step old.whole made).1; met = number_at (step old.whole made).1 })
 
 -- memory was wanting: nothing has changed, or an edit was made and isn't told
@@ -39,7 +39,7 @@ abbrev pub LacksMemory : Standing → Asked → Reply → List Edit → Standing
 LacksMemory old asked reply added new =
     (reply ≡ fixed refusal.Memory)
     × (((added ≡ []) × (new ≡ old))
-    ⊎ ((made : Edit) × (asked ≡ edit made) × (is_edit_in_form made ≡ true) × (added ≡ added_at old.whole made)
+    ⊎ ((made : Edit) × (asked ≡ edit made) × (is_edit_in_form made ≡ true) × (added ≡ added_to_list old.whole made)
     × (new ≡ record old { whole = (step old.whole made).1 })))
 
 -- the store failed to keep an edit that is new and that no rule refuses: its count rose in this turn, and nothing else has changed

@@ -2,7 +2,7 @@ ghost use Rattle.std.specs.Prelude.{◌≡◌, ◌≢◌, ◌≤◌, ℕ, List, 
 ghost use Rattle.std.specs.Io.KnownBytes.{Consumes};
 ghost use Rattle.desk_clerk.specs.Clerk.{keeper_of, whole};
 ghost use Rattle.desk_model.specs.Lists.{number_at};
-ghost use Rattle.desk_edge.specs.Faults.{Rose};
+ghost use Rattle.desk_edge.specs.Faults.{CountsFaults};
 ghost use Rattle.desk_front.specs.Served.{Serves, stream_limit};
 ghost use Rattle.desk_front.specs.Turn.{Converses};
 ghost use Rattle.desk_history.specs.Sound.{Sound};
@@ -42,9 +42,7 @@ pub fn serve_alone<R: Wait + Sync, L: Link, K: Keeper, J: Naming<DeskBoard>>(
         result bytes (L.unread link.new) (L.written link.old) (L.written link.new) }
     ensures nothing { result ≡ Served.OutOfMemory → (clerk.new ≡ clerk.old) × (link.new ≡ link.old) }
     ensures told { K.Tells (keeper_of clerk.new) → K.Tells (keeper_of clerk.old) }
-    ensures never_falls { L.faults link.old ≤ L.faults link.new }
-    ensures steady { result ≢ Served.LinkFault → L.faults link.new ≡ L.faults link.old }
-    ensures failed { result ≡ Served.LinkFault → Rose (L.faults link.old) (L.faults link.new) }
+    ensures faults { CountsFaults (result ≡ Served.LinkFault) (L.faults link.old) (L.faults link.new) }
     ensures keeper_never_falls { K.faults (keeper_of clerk.old) ≤ K.faults (keeper_of clerk.new) }
 {
     let routes = match Routes::build(alloc) {
@@ -69,9 +67,7 @@ fn serve_by<R: Wait + Sync, L: Link, K: Keeper, J: Naming<DeskBoard>>(
         result bytes (L.unread link.new) (L.written link.old) (L.written link.new) }
     ensures nothing { result ≡ Served.OutOfMemory → (clerk.new ≡ clerk.old) × (link.new ≡ link.old) }
     ensures told { K.Tells (keeper_of clerk.new) → K.Tells (keeper_of clerk.old) }
-    ensures never_falls { L.faults link.old ≤ L.faults link.new }
-    ensures steady { result ≢ Served.LinkFault → L.faults link.new ≡ L.faults link.old }
-    ensures failed { result ≡ Served.LinkFault → Rose (L.faults link.old) (L.faults link.new) }
+    ensures faults { CountsFaults (result ≡ Served.LinkFault) (L.faults link.old) (L.faults link.new) }
     ensures keeper_never_falls { K.faults (keeper_of clerk.old) ≤ K.faults (keeper_of clerk.new) }
 {
     // The call says that the tables are sound.
@@ -100,9 +96,7 @@ fn serve_over<R: Wait + Sync, L: Link, K: Keeper, J: Naming<DeskBoard>>(
         result bytes (L.unread link.new) (L.written link.old) (L.written link.new) }
     ensures nothing { result ≡ Served.OutOfMemory → (clerk.new ≡ clerk.old) × (link.new ≡ link.old) }
     ensures told { K.Tells (keeper_of clerk.new) → K.Tells (keeper_of clerk.old) }
-    ensures never_falls { L.faults link.old ≤ L.faults link.new }
-    ensures steady { result ≢ Served.LinkFault → L.faults link.new ≡ L.faults link.old }
-    ensures failed { result ≡ Served.LinkFault → Rose (L.faults link.old) (L.faults link.new) }
+    ensures faults { CountsFaults (result ≡ Served.LinkFault) (L.faults link.old) (L.faults link.new) }
     ensures keeper_never_falls { K.faults (keeper_of clerk.old) ≤ K.faults (keeper_of clerk.new) }
 {
     let mut connection = Connection {
@@ -131,9 +125,7 @@ fn serve_connection<R: Wait + Sync, L: Link, K: Keeper, J: Naming<DeskBoard>>(
         result bytes (L.unread link.new) (L.written link.old) (L.written link.new) }
     ensures nothing { result ≡ Served.OutOfMemory → (connection.new.clerk.now ≡ connection.old.clerk.now) × (link.new ≡ link.old) }
     ensures told { K.Tells (keeper_of connection.new.clerk.now) → K.Tells (keeper_of connection.old.clerk.now) }
-    ensures never_falls { L.faults link.old ≤ L.faults link.new }
-    ensures steady { result ≢ Served.LinkFault → L.faults link.new ≡ L.faults link.old }
-    ensures failed { result ≡ Served.LinkFault → Rose (L.faults link.old) (L.faults link.new) }
+    ensures faults { CountsFaults (result ≡ Served.LinkFault) (L.faults link.old) (L.faults link.new) }
     ensures keeper_never_falls { K.faults (keeper_of connection.old.clerk.now) ≤ K.faults (keeper_of connection.new.clerk.now) }
 {
     serve(rt, alloc, link, connection)

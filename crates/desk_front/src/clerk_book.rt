@@ -1,6 +1,6 @@
-ghost use Rattle.std.specs.Prelude.{◌≡◌, ◌≢◌, ◌≤◌, [], ◌∷◌, ◌++◌, Err, IfErr, IfOk, OnErr, OnOk};
+ghost use Rattle.std.specs.Prelude.{◌≡◌, ◌≢◌, [], ◌∷◌, ◌++◌, Err, IfOk, OnErr, OnOk, IsErrOf};
 ghost use Rattle.desk_clerk.specs.Clerk.{keeper_of, list_from};
-ghost use Rattle.desk_edge.specs.Faults.{Rose};
+ghost use Rattle.desk_edge.specs.Faults.{CountsFaults};
 ghost use Rattle.desk_engine.specs.Engine.{lists_of};
 ghost use Rattle.desk_front.specs.Sitting.{AnswersEdit, given_for};
 ghost use Rattle.desk_history.specs.History.{Begins, number_of};
@@ -112,8 +112,7 @@ fn edit_and_note<R: Wait, K: Keeper, J: Naming<DeskBoard>>(
         edit answer out.old out.new) }
     ensures given { IfOk result (λ answer. given.new.items ≡ given.old.items ++ given_for edit (number_of (list_from (lists_of J.opening.engine) seat.new.list)) answer ∷ []) }
     ensures err { OnErr result ((out.new ≡ out.old) × (seat.new ≡ seat.old) × (given.new.items ≡ given.old.items)) }
-    ensures never_falls { K.faults (keeper_of clerk.old) ≤ K.faults (keeper_of clerk.new) }
-    ensures failed { result ≡ Err EditFailed.KeeperFault → Rose (K.faults (keeper_of clerk.old)) (K.faults (keeper_of clerk.new)) }
+    ensures faults { CountsFaults (IsErrOf result EditFailed.KeeperFault) (K.faults (keeper_of clerk.old)) (K.faults (keeper_of clerk.new)) }
     ensures sure { K.NeverFails → result ≢ Err EditFailed.KeeperFault }
 {
     let Ok((code, text)) = words_of(alloc, &edit) else {
@@ -161,8 +160,7 @@ fn edit_by<R: Wait, K: Keeper, J: Naming<DeskBoard>>(
     ensures answer { IfOk result (λ answer. AnswersEdit (list_from (lists_of J.opening.engine) seat.old.list) (list_from (lists_of J.opening.engine) seat.new.list)
         edit answer out.old out.new) }
     ensures err { OnErr result ((out.new ≡ out.old) × (seat.new ≡ seat.old)) }
-    ensures never_falls { K.faults (keeper_of clerk.old) ≤ K.faults (keeper_of clerk.new) }
-    ensures failed { result ≡ Err EditFailed.KeeperFault → Rose (K.faults (keeper_of clerk.old)) (K.faults (keeper_of clerk.new)) }
+    ensures faults { CountsFaults (IsErrOf result EditFailed.KeeperFault) (K.faults (keeper_of clerk.old)) (K.faults (keeper_of clerk.new)) }
     ensures sure { K.NeverFails → result ≢ Err EditFailed.KeeperFault }
 {
     'turns: for _ in rt.forever() {

@@ -1,8 +1,8 @@
-ghost use Rattle.std.specs.Prelude.{◌≡◌, ◌≢◌, ◌≤◌, ◌++◌, ◌⊎◌, ℕ, None, Err, is_ok, true, IfErr, IfOk, OnErr, OnOk};
+ghost use Rattle.std.specs.Prelude.{◌≡◌, ◌≢◌, ◌≤◌, ◌++◌, ◌⊎◌, None, Err, is_ok, true, IfOk, OnErr, OnOk, IsErrOf};
 ghost use mathlib.Core.List.{IsPrefix};
 ghost use Rattle.desk_clerk.specs.Clerk.{keeper_of, list_from, whole};
 ghost use Rattle.desk_clerk.specs.Published.{IsTakenIn};
-ghost use Rattle.desk_edge.specs.Faults.{Rose};
+ghost use Rattle.desk_edge.specs.Faults.{CountsFaults};
 ghost use Rattle.desk_engine.specs.Engine.{lists_of};
 ghost use Rattle.desk_front.specs.Sitting.{AnswersEdit, edited_of};
 ghost use Rattle.desk_front.specs.Replies.{reply_to_edit};
@@ -51,9 +51,7 @@ pub fn answer_edit<R: Wait, K: Keeper, J: Naming<DeskBoard>>(
     ensures seat_stays { OnErr result (seat.new ≡ seat.old) }
     ensures err { OnErr result (out.new ≡ out.old) }
     ensures told { K.Tells (keeper_of clerk.new) → K.Tells (keeper_of clerk.old) }
-    ensures never_falls { K.faults (keeper_of clerk.old) ≤ K.faults (keeper_of clerk.new) }
-    ensures steady { result ≢ Err EditFailed.KeeperFault → K.faults (keeper_of clerk.new) ≡ K.faults (keeper_of clerk.old) }
-    ensures failed { result ≡ Err EditFailed.KeeperFault → Rose (K.faults (keeper_of clerk.old)) (K.faults (keeper_of clerk.new)) }
+    ensures faults { CountsFaults (IsErrOf result EditFailed.KeeperFault) (K.faults (keeper_of clerk.old)) (K.faults (keeper_of clerk.new)) }
     ensures sure { K.NeverFails → result ≢ Err EditFailed.KeeperFault }
 {
     let seen = Seat::seen(&*seat);
@@ -88,9 +86,7 @@ fn edit_clerk<R: Wait, K: Keeper, J: Naming<DeskBoard>>(
         × (clerk.new.published ≡ clerk.new.accepted) × (kept_number (whole clerk.old) edit ≡ None) × (is_ok (step (whole clerk.old) edit).0 ≡ true) }
     ensures err { OnErr result (out.new ≡ out.old) }
     ensures told { K.Tells (keeper_of clerk.new) → K.Tells (keeper_of clerk.old) }
-    ensures never_falls { K.faults (keeper_of clerk.old) ≤ K.faults (keeper_of clerk.new) }
-    ensures steady { result ≢ Err EditFailed.KeeperFault → K.faults (keeper_of clerk.new) ≡ K.faults (keeper_of clerk.old) }
-    ensures failed { result ≡ Err EditFailed.KeeperFault → Rose (K.faults (keeper_of clerk.old)) (K.faults (keeper_of clerk.new)) }
+    ensures faults { CountsFaults (IsErrOf result EditFailed.KeeperFault) (K.faults (keeper_of clerk.old)) (K.faults (keeper_of clerk.new)) }
     ensures sure { K.NeverFails → result ≢ Err EditFailed.KeeperFault }
 {
     match clerk.submit(rt, alloc, edit) {
@@ -123,8 +119,7 @@ pub(crate) fn answer_as_editor<R: Wait, K: Keeper, J: Naming<DeskBoard>>(
     ensures answer { IfOk result (λ answer. AnswersEdit (list_from (lists_of J.opening.engine) seat.old.list) (list_from (lists_of J.opening.engine) seat.new.list)
         edit answer out.old out.new) }
     ensures err { OnErr result ((out.new ≡ out.old) × (seat.new ≡ seat.old)) }
-    ensures never_falls { K.faults (keeper_of clerk.old) ≤ K.faults (keeper_of clerk.new) }
-    ensures failed { result ≡ Err EditFailed.KeeperFault → Rose (K.faults (keeper_of clerk.old)) (K.faults (keeper_of clerk.new)) }
+    ensures faults { CountsFaults (IsErrOf result EditFailed.KeeperFault) (K.faults (keeper_of clerk.old)) (K.faults (keeper_of clerk.new)) }
     ensures sure { K.NeverFails → result ≢ Err EditFailed.KeeperFault }
 {
     let answer = answer_edit(rt, alloc, clerk, seat, edit, out);

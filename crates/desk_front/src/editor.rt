@@ -1,5 +1,5 @@
-ghost use Rattle.std.specs.Prelude.{◌≡◌, ◌≢◌, ◌≤◌, [], ◌∷◌, List, ℕ, Option, Err, IfErr, IfOk, OnErr, OnOk};
-ghost use Rattle.desk_edge.specs.Faults.{Rose};
+ghost use Rattle.std.specs.Prelude.{◌≡◌, ◌≢◌, [], ◌∷◌, List, ℕ, Option, Err, IfOk, OnErr, OnOk, IsErrOf};
+ghost use Rattle.desk_edge.specs.Faults.{CountsFaults};
 ghost use Rattle.desk_front.specs.Sitting.{AnswersEdit, given_for, with_given};
 ghost use Rattle.desk_front.specs.declared.given.Given.{Given};
 ghost use Rattle.desk_history.specs.History.{Begins, number_of};
@@ -40,7 +40,6 @@ pub trait Editor<S: Seat> {
         ensures answer { IfOk result (λ answer. AnswersEdit (S.list seat.old) (S.list seat.new) edit answer out.old out.new) }
         ensures given { IfOk result (λ answer. given self.new ≡ with_given (given self.old) (given_for edit (number_of (S.list seat.new)) answer ∷ [])) }
         ensures err { OnErr result ((out.new ≡ out.old) × (seat.new ≡ seat.old) × (given self.new ≡ given self.old)) }
-        ensures never_falls { faults self.old ≤ faults self.new }
-        ensures failed { IfErr result (λ fault. fault ≡ EditFailed.KeeperFault → Rose (faults self.old) (faults self.new)) }
+        ensures faults { CountsFaults (IsErrOf result EditFailed.KeeperFault) (faults self.old) (faults self.new) }
         ensures sure { NeverFails → result ≢ Err EditFailed.KeeperFault };
 }

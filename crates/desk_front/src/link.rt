@@ -1,6 +1,6 @@
 ghost use Rattle.std.specs.Prelude.{◌≡◌, ◌≢◌, ◌≤◌, ℕ, List, length};
 ghost use Rattle.std.specs.Io.KnownBytes.{Consumes};
-ghost use Rattle.desk_edge.specs.Faults.{Rose};
+ghost use Rattle.desk_edge.specs.Faults.{CountsFaults};
 ghost use Rattle.desk_front.specs.Served.{Serves, stream_limit};
 ghost use Rattle.desk_front.specs.Sitting.{Links, sitting};
 
@@ -30,9 +30,7 @@ pub fn serve_link<R: Wait + Sync, L: Link, E: Editor<S>, S: Seat>(
         × Serves (Links E.NeverFails (sitting (S.list seat.old) (E.faults editor.old) (E.given editor.old)) (sitting (S.list seat.new) (E.faults editor.new) (E.given editor.new)))
         result bytes (L.unread link.new) (L.written link.old) (L.written link.new) }
     ensures nothing { result ≡ Served.OutOfMemory → (editor.new ≡ editor.old) × (seat.new ≡ seat.old) × (link.new ≡ link.old) }
-    ensures never_falls { L.faults link.old ≤ L.faults link.new }
-    ensures steady { result ≢ Served.LinkFault → L.faults link.new ≡ L.faults link.old }
-    ensures failed { result ≡ Served.LinkFault → Rose (L.faults link.old) (L.faults link.new) }
+    ensures faults { CountsFaults (result ≡ Served.LinkFault) (L.faults link.old) (L.faults link.new) }
 {
     match Routes::build(alloc) {
         Ok(routes) => serve_by(rt, alloc, &routes, editor, seat, link),
@@ -53,9 +51,7 @@ fn serve_by<R: Wait + Sync, L: Link, E: Editor<S>, S: Seat>(
         × Serves (Links E.NeverFails (sitting (S.list seat.old) (E.faults editor.old) (E.given editor.old)) (sitting (S.list seat.new) (E.faults editor.new) (E.given editor.new)))
         result bytes (L.unread link.new) (L.written link.old) (L.written link.new) }
     ensures nothing { result ≡ Served.OutOfMemory → (editor.new ≡ editor.old) × (seat.new ≡ seat.old) × (link.new ≡ link.old) }
-    ensures never_falls { L.faults link.old ≤ L.faults link.new }
-    ensures steady { result ≢ Served.LinkFault → L.faults link.new ≡ L.faults link.old }
-    ensures failed { result ≡ Served.LinkFault → Rose (L.faults link.old) (L.faults link.new) }
+    ensures faults { CountsFaults (result ≡ Served.LinkFault) (L.faults link.old) (L.faults link.new) }
 {
     let mut room = Bytes::start(alloc);
     let body = &mut room;
@@ -82,9 +78,7 @@ fn serve_linked<R: Wait + Sync, L: Link, E: Editor<S>, S: Seat>(
         (sitting (S.list linked.new.seat.now) (E.faults linked.new.editor.now) (E.given linked.new.editor.now)))
         result bytes (L.unread link.new) (L.written link.old) (L.written link.new) }
     ensures nothing { result ≡ Served.OutOfMemory → (linked.new.editor.now ≡ linked.old.editor.now) × (linked.new.seat.now ≡ linked.old.seat.now) × (link.new ≡ link.old) }
-    ensures never_falls { L.faults link.old ≤ L.faults link.new }
-    ensures steady { result ≢ Served.LinkFault → L.faults link.new ≡ L.faults link.old }
-    ensures failed { result ≡ Served.LinkFault → Rose (L.faults link.old) (L.faults link.new) }
+    ensures faults { CountsFaults (result ≡ Served.LinkFault) (L.faults link.old) (L.faults link.new) }
 {
     let served = serve(rt, alloc, link, linked);
     // The call says that the edits of the list are accepted.

@@ -1,6 +1,6 @@
-ghost use Rattle.std.specs.Prelude.{◌≡◌, ◌≢◌, ◌≤◌, Err, IfErr, IfOk, OnErr, OnOk};
+ghost use Rattle.std.specs.Prelude.{◌≡◌, ◌≢◌, Err, IfOk, OnErr, OnOk, IsErrOf};
 ghost use Rattle.desk_clerk.specs.Clerk.{list_from};
-ghost use Rattle.desk_edge.specs.Faults.{Rose};
+ghost use Rattle.desk_edge.specs.Faults.{CountsFaults};
 ghost use Rattle.desk_engine.specs.Engine.{lists_of};
 ghost use Rattle.desk_front.specs.Sitting.{AnswersEdit};
 ghost use Rattle.desk_history.specs.History.{Begins};
@@ -84,8 +84,7 @@ fn edit_and_count<R: Wait, K: Keeper, J: Naming<DeskBoard>>(
     ensures answer { IfOk result (λ answer. AnswersEdit (list_from (lists_of J.opening.engine) seat.old.list) (list_from (lists_of J.opening.engine) seat.new.list)
         edit answer out.old out.new) }
     ensures err { OnErr result ((out.new ≡ out.old) × (seat.new ≡ seat.old)) }
-    ensures never_falls { faults.old ≤ faults.new }
-    ensures failed { result ≡ Err EditFailed.KeeperFault → Rose faults.old faults.new }
+    ensures faults { CountsFaults (IsErrOf result EditFailed.KeeperFault) faults.old faults.new }
     ensures sure { K.NeverFails → result ≢ Err EditFailed.KeeperFault }
 {
     match edit_behind(rt, alloc, lock, seat, edit, out) {

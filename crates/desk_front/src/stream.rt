@@ -1,15 +1,15 @@
 ghost use Rattle.std.specs.Prelude.{◌≡◌, ◌≢◌, ◌≤◌, ℕ, List, [], length, OnErr, OnOk};
 ghost use Rattle.std.specs.Io.KnownBytes.{Consumes};
-ghost use Rattle.desk_edge.specs.Faults.{Rose};
+ghost use Rattle.desk_edge.specs.Faults.{CountsFaults};
 ghost use Rattle.desk_http.specs.Taken.{IsTakenFrom, message_of};
 ghost use Rattle.desk_front.specs.Served.{Serves, end_served, stream_limit};
 ghost use Rattle.desk_front.specs.Service.{BeginsSo, BreaksOff, GoesSo, LeavesSo, Replies, Sends, service};
 
 use crate::answerer::Answerer;
-use crate::first::First;
-use crate::held::Held;
 use crate::outbox::{flush, flush_if_many, say, say_now};
-use crate::round::Round;
+use crate::read_buffer::ReadBuffer;
+use crate::request_outcome::RequestOutcome;
+use crate::round_outcome::RoundOutcome;
 use crate::served::Served;
 use desk_edge::{Failed, Link};
 use desk_http::{Request, Taken, fixed_reply, take_request};
@@ -32,11 +32,9 @@ pub(crate) fn serve<R: Wait + Sync, L: Link, A: Answerer>(
         × Serves (λ requests said. Replies A.replies answerer.old requests said answerer.new) result bytes
         (L.unread link.new) (L.written link.old) (L.written link.new) }
     ensures nothing { result ≡ Served.OutOfMemory → (answerer.new ≡ answerer.old) × (link.new ≡ link.old) }
-    ensures never_falls { L.faults link.old ≤ L.faults link.new }
-    ensures steady { result ≢ Served.LinkFault → L.faults link.new ≡ L.faults link.old }
-    ensures failed { result ≡ Served.LinkFault → Rose (L.faults link.old) (L.faults link.new) }
+    ensures faults { CountsFaults (result ≡ Served.LinkFault) (L.faults link.old) (L.faults link.new) }
 {
-    match Held::new(alloc) {
+    match ReadBuffer::new(alloc) {
         Ok(held) => serve_held(rt, alloc, link, answerer, held),
         Err(_) => Served::OutOfMemory,
     }
@@ -48,16 +46,14 @@ fn serve_held<R: Wait + Sync, L: Link, A: Answerer>(
     alloc: Global,
     link: &mut L,
     answerer: &mut A,
-    held: Held,
+    held: ReadBuffer,
 ) -> Served
     requires { held ≡ [] }
     ensures memory { result ≢ Served.OutOfMemory }
     ensures served { (bytes : List ℕ) × Consumes (L.unread link.old) (L.unread link.new) bytes × (length bytes ≤ stream_limit)
         × Serves (λ requests said. Replies A.replies answerer.old requests said answerer.new) result bytes
         (L.unread link.new) (L.written link.old) (L.written link.new) }
-    ensures never_falls { L.faults link.old ≤ L.faults link.new }
-    ensures steady { result ≢ Served.LinkFault → L.faults link.new ≡ L.faults link.old }
-    ensures failed { result ≡ Served.LinkFault → Rose (L.faults link.old) (L.faults link.new) }
+    ensures faults { CountsFaults (result ≡ Served.LinkFault) (L.faults link.old) (L.faults link.new) }
 {
     let mut held = held;
     let mut waiting = Bytes::start(alloc);
@@ -73,16 +69,16 @@ fn serve_held<R: Wait + Sync, L: Link, A: Answerer>(
         }
         left -= count;
         match answer_held(rt, alloc, link, answerer, &mut held, &mut waiting) {
-            Round::Open(_) => {}
-            Round::Over => return Served::Ended,
-            Round::LinkFault => return Served::LinkFault,
+            RoundOutcome::Open(_) => {}
+            RoundOutcome::Over => return Served::Ended,
+            RoundOutcome::LinkFault => return Served::LinkFault,
         }
     }
     Served::TooLong
 }
 
 /// How a stream ends whose input is at its end, where these bytes are left of it.
-fn end_of(held: &Held) -> Served
+fn end_of(held: &ReadBuffer) -> Served
     ensures { result ≡ end_served held.now }
 {
     if held.as_slice().is_empty() {
@@ -98,26 +94,26 @@ fn answer_held<R: Wait + Sync, L: Link, A: Answerer>(
     alloc: Global,
     link: &mut L,
     answerer: &mut A,
-    held: &mut Held,
+    held: &mut ReadBuffer,
     waiting: &mut Bytes,
-) -> Round
+) -> RoundOutcome
     ensures goes { LeavesSo A.replies held.old held.new (service answerer.old waiting.old (L.written link.old) (L.faults link.old))
         (service answerer.new waiting.new (L.written link.new) (L.faults link.new)) result }
     ensures input_stays { L.unread link.new ≡ L.unread link.old }
 {
     match answer_all(rt, alloc, link, answerer, held.as_slice(), waiting) {
-        Round::Open(used) => match flush(link, waiting) {
+        RoundOutcome::Open(used) => match flush(link, waiting) {
             Ok(()) => {
                 held.drop_front(used);
-                Round::Open(used)
+                RoundOutcome::Open(used)
             }
-            Err(_) => Round::LinkFault,
+            Err(_) => RoundOutcome::LinkFault,
         },
-        Round::Over => match flush(link, waiting) {
-            Ok(()) => Round::Over,
-            Err(_) => Round::LinkFault,
+        RoundOutcome::Over => match flush(link, waiting) {
+            Ok(()) => RoundOutcome::Over,
+            Err(_) => RoundOutcome::LinkFault,
         },
-        Round::LinkFault => Round::LinkFault,
+        RoundOutcome::LinkFault => RoundOutcome::LinkFault,
     }
 }
 
@@ -129,7 +125,7 @@ fn answer_all<R: Wait + Sync, L: Link, A: Answerer>(
     answerer: &mut A,
     bytes: &[u8],
     waiting: &mut Bytes,
-) -> Round
+) -> RoundOutcome
     ensures goes { GoesSo A.replies bytes.now (service answerer.old waiting.old (L.written link.old) (L.faults link.old))
         (service answerer.new waiting.new (L.written link.new) (L.faults link.new)) result }
     ensures input_stays { L.unread link.new ≡ L.unread link.old }
@@ -137,10 +133,10 @@ fn answer_all<R: Wait + Sync, L: Link, A: Answerer>(
     let mut used = 0;
     'requests: loop {
         match answer_first(rt, alloc, link, answerer, bytes.split_at(used).1, waiting) {
-            First::Took(count) => used += count,
-            First::NotYet => return Round::Open(used),
-            First::Over => return Round::Over,
-            First::LinkFault => return Round::LinkFault,
+            RequestOutcome::Took(count) => used += count,
+            RequestOutcome::NotYet => return RoundOutcome::Open(used),
+            RequestOutcome::Over => return RoundOutcome::Over,
+            RequestOutcome::LinkFault => return RoundOutcome::LinkFault,
         }
     }
 }
@@ -153,7 +149,7 @@ fn answer_first<R: Wait + Sync, L: Link, A: Answerer>(
     answerer: &mut A,
     bytes: &[u8],
     waiting: &mut Bytes,
-) -> First
+) -> RequestOutcome
     ensures begins { BeginsSo A.replies bytes.now (service answerer.old waiting.old (L.written link.old) (L.faults link.old))
         (service answerer.new waiting.new (L.written link.new) (L.faults link.new)) result }
     ensures input_stays { L.unread link.new ≡ L.unread link.old }
@@ -163,11 +159,11 @@ fn answer_first<R: Wait + Sync, L: Link, A: Answerer>(
         return answer_whole(rt, alloc, link, answerer, bytes, request, waiting);
     }
     let Some(refusal) = taken.refusal() else {
-        return First::NotYet;
+        return RequestOutcome::NotYet;
     };
     match say_now(link, waiting, fixed_reply(refusal, true)) {
-        Ok(()) => First::Over,
-        Err(_) => First::LinkFault,
+        Ok(()) => RequestOutcome::Over,
+        Err(_) => RequestOutcome::LinkFault,
     }
 }
 
@@ -180,16 +176,16 @@ fn answer_whole<R: Wait + Sync, L: Link, A: Answerer>(
     bytes: &[u8],
     request: &Request,
     waiting: &mut Bytes,
-) -> First
+) -> RequestOutcome
     requires { IsTakenFrom bytes.now request.now }
     ensures begins { BeginsSo A.replies bytes.now (service answerer.old waiting.old (L.written link.old) (L.faults link.old))
         (service answerer.new waiting.new (L.written link.new) (L.faults link.new)) result }
     ensures input_stays { L.unread link.new ≡ L.unread link.old }
 {
     match answer_request(rt, alloc, link, answerer, bytes, request, waiting) {
-        Ok(()) if request.close => First::Over,
-        Ok(()) => First::Took(request.used),
-        Err(_) => First::LinkFault,
+        Ok(()) if request.close => RequestOutcome::Over,
+        Ok(()) => RequestOutcome::Took(request.used),
+        Err(_) => RequestOutcome::LinkFault,
     }
 }
 

@@ -7,7 +7,7 @@ use Rattle.desk_edge.specs.Faults.{Rose}
 use Rattle.desk_edge.specs.Transfer.{AppendsBeginning}
 use Rattle.desk_records.specs.Records.{tables_content}
 use Rattle.desk_top.specs.Answer.{Answer, Answers, answer_to_failed_reading, answer_to_store_fault, answer_without_memory, status_code}
-use Rattle.desk_top.specs.Console.{Console}
+use Rattle.desk_top.specs.Console.{Console, IsFaulty}
 use Rattle.desk_top.specs.Import.{EndsImport, IsImportRefusal}
 use Rattle.desk_top.specs.Store.{IsUnopened}
 use Rattle.desk_top.specs.declared.status.Status.{Status}
@@ -28,10 +28,10 @@ refusal_as Told Tells a b faults console answer tells same (inr (inr (inr (inr (
 refusal_as Told Tells a b faults console answer tells same (inr (inr (inr (inr (inr (is, none)))))) =
     inr (inr (inr (inr (inr (is, λ told key. sym (same told key) ∙ none (tells told) key)))))
 
-pub import_as : (Told Tells : Type 0) (a b c d : Content) (faults ended : ℕ) (console : Console) (rose : Type 0)
+pub import_as : (Told Tells : Type 0) (a b c d : Content) (faults ended : ℕ) (console : Console)
     → (Told → Tells) → (Told → IsSame a b) → (Told → IsSame c d)
-    → EndsImport Tells b c faults ended console rose → EndsImport Told a d faults ended console rose
-import_as Told Tells a b c d faults ended console rose tells same given (inl was) = inl record {
+    → EndsImport Tells b c faults ended console → EndsImport Told a d faults ended console
+import_as Told Tells a b c d faults ended console tells same given (inl was) = inl record {
   bytes = was.bytes;
   read = was.read;
   tables = was.tables;
@@ -43,7 +43,7 @@ import_as Told Tells a b c d faults ended console rose tells same given (inl was
   told = was.told;
   status = was.status;
 }
-import_as Told Tells a b c d faults ended console rose tells same given (inr was) = inr record {
+import_as Told Tells a b c d faults ended console tells same given (inr was) = inr record {
   answer = was.answer;
   cause = refusal_as Told Tells a b faults console was.answer tells same was.cause;
   status = was.status;
@@ -53,14 +53,14 @@ import_as Told Tells a b c d faults ended console rose tells same given (inr was
 }
 
 -- the shelf didn't open a store: nothing was put in, and the line tells why
-pub not_lent : (Told Tells lost : Type 0) (kept keeps : Content) (count : ℕ) (ended : Status) (console : Console) (rose : Type 0)
+pub not_lent : (Told Tells lost : Type 0) (kept keeps : Content) (count : ℕ) (ended : Status) (console : Console)
     → (ended ≡ status.StoreFault) ⊎ (ended ≡ status.OutOfMemory) → (ended ≡ status.StoreFault → lost)
-    → (ended ≡ status.StoreFault → Answers answer_to_store_fault (status_code ended) console.before console.after rose)
-    → (ended ≡ status.OutOfMemory → Answers answer_without_memory (status_code ended) console.before console.after rose)
+    → (ended ≡ status.StoreFault → Answers answer_to_store_fault (status_code ended) console.before console.after (IsFaulty console))
+    → (ended ≡ status.OutOfMemory → Answers answer_without_memory (status_code ended) console.before console.after (IsFaulty console))
     → console.left ≡ console.unread → (Tells → Told × IsSame kept keeps)
-    → (faults : ℕ) × EndsImport Tells kept keeps faults (status_code ended) console rose × (Tells → Told) × (0 < faults → lost)
+    → (faults : ℕ) × EndsImport Tells kept keeps faults (status_code ended) console × (Tells → Told) × (0 < faults → lost)
     × ((faults ≡ count) ⊎ IsUnopened (status_code ended) console)
-not_lent Told Tells lost kept keeps count ended console rose (inl is) failed store_line memory_line stays others = (
+not_lent Told Tells lost kept keeps count ended console (inl is) failed store_line memory_line stays others = (
   1,
   inr record {
     answer = answer_to_store_fault;
@@ -74,7 +74,7 @@ not_lent Told Tells lost kept keeps count ended console rose (inl is) failed sto
   (λ some. failed is),
   inr (inl (ap status_code is), keeps_of _ _ stays),
 )
-not_lent Told Tells lost kept keeps count ended console rose (inr is) failed store_line memory_line stays others = (
+not_lent Told Tells lost kept keeps count ended console (inr is) failed store_line memory_line stays others = (
   0,
   inr record {
     answer = answer_without_memory;

@@ -6,12 +6,12 @@ use Rattle.std.proofs.lemmas.Bool.{cases_Bool, false≢true}
 use Rattle.std.proofs.lemmas.Cmp.{tied_itself}
 use Rattle.std.proofs.lemmas.List.{take-append-drop, take_more}
 use Rattle.std.proofs.lemmas.List.Folds.{list_any-append}
-use Rattle.desk_edge.specs.Content.{IsChanged, changed, changed_all, is_past, key_cmp, same_key}
+use Rattle.desk_edge.specs.Content.{IsChanged, body_after, body_after_all, is_past, key_cmp, same_key}
 use Rattle.desk_edge.specs.declared.change.Change.{Change}
 use Rattle.desk_edge.specs.declared.change.Change.TheVariants.{Put, Drop}
 use Rattle.desk_edge.specs.declared.key.Key.{Key}
 use Rattle.desk_edge.proofs.Keys.{key_order}
-use Rattle.desk_top.specs.KeptBodies.{Bodies, IsClear, IsFirstIn, body_of, cleared, is_among, kept_in, put_in, ready, stands, with_room}
+use Rattle.desk_top.specs.KeptBodies.{Bodies, IsClear, IsFirstIn, standing_body, cleared, is_key_among, kept_in, body_among, ready, stands, with_room}
 
 is_equal : (a : Ordering) → is_eq a ≡ true → a ≡ Equal
 is_equal Less e = absurd (false≢true e)
@@ -75,11 +75,11 @@ or-false : (b : Bool) → (b || false) ≡ b
 or-false true = refl
 or-false false = refl
 
-among_more : (keys : List Key) (i : ℕ) (key other : Key) → i < length keys → key ≡ get_or keys i key → is_among (take (i + 1) keys) other ≡ (is_among (take i keys) other || same_key key other)
+among_more : (keys : List Key) (i : ℕ) (key other : Key) → i < length keys → key ≡ get_or keys i key → is_key_among (take (i + 1) keys) other ≡ (is_key_among (take i keys) other || same_key key other)
 among_more keys i key other h is =
-    ap (λ list. is_among list other) (take_more keys i key h ∙ ap (λ k. take i keys ++ k ∷ []) (sym is))
+    ap (λ list. is_key_among list other) (take_more keys i key h ∙ ap (λ k. take i keys ++ k ∷ []) (sym is))
     ∙ list_any-append (λ k. same_key k other) (take i keys) (key ∷ [])
-    ∙ ap (λ b. is_among (take i keys) other || b) (or-false (same_key key other))
+    ∙ ap (λ b. is_key_among (take i keys) other || b) (or-false (same_key key other))
 
 -- what is done under some keys, and then under one more
 module _ (f : Option (Option (List ℕ)) → Option (Option (List ℕ))) (again : (x : Option (Option (List ℕ))) → f (f x) ≡ f x) where
@@ -90,11 +90,11 @@ module _ (f : Option (Option (List ℕ)) → Option (Option (List ℕ))) (again 
   both false false x = refl
 
   pub one_more : (keys : List Key) (i : ℕ) (key other : Key) (old middle new : Option (Option (List ℕ))) → i < length keys → key ≡ get_or keys i key →
-      middle ≡ (if is_among (take i keys) other then f old else old) → new ≡ (if same_key key other then f middle else middle) → new ≡ (if is_among (take (i + 1) keys) other then f old else old)
+      middle ≡ (if is_key_among (take i keys) other then f old else old) → new ≡ (if same_key key other then f middle else middle) → new ≡ (if is_key_among (take (i + 1) keys) other then f old else old)
   one_more keys i key other old middle new h is before step =
       step
       ∙ ap (λ m. if same_key key other then f m else m) before
-      ∙ both (is_among (take i keys) other) (same_key key other) old
+      ∙ both (is_key_among (take i keys) other) (same_key key other) old
       ∙ ap (λ b. if b then f old else old) (sym (among_more keys i key other h is))
 
 pub room_again : (x : Option (Option (List ℕ))) → with_room (with_room x) ≡ with_room x
@@ -106,36 +106,36 @@ cleared_again None = refl
 cleared_again (Some None) = refl
 cleared_again (Some (Some body)) = refl
 
-among_all : (keys : List Key) (i : ℕ) (other : Key) → is_among (take i keys) other ≡ true → is_among keys other ≡ true
+among_all : (keys : List Key) (i : ℕ) (other : Key) → is_key_among (take i keys) other ≡ true → is_key_among keys other ≡ true
 among_all keys i other e =
-    sym (ap (λ list. is_among list other) (take-append-drop i keys))
+    sym (ap (λ list. is_key_among list other) (take-append-drop i keys))
     ∙ list_any-append (λ k. same_key k other) (take i keys) (drop i keys)
-    ∙ ap (λ b. b || is_among (drop i keys) other) e
+    ∙ ap (λ b. b || is_key_among (drop i keys) other) e
 
 -- what stands when room ran out under some key
-pub some_room : (keys : List Key) (i : ℕ) (other : Key) (old middle new : Option (Option (List ℕ))) → middle ≡ (if is_among (take i keys) other then with_room old else old) → new ≡ middle → (new ≡ old) ⊎ ((is_among keys other ≡ true) × (new ≡ with_room old))
+pub some_room : (keys : List Key) (i : ℕ) (other : Key) (old middle new : Option (Option (List ℕ))) → middle ≡ (if is_key_among (take i keys) other then with_room old else old) → new ≡ middle → (new ≡ old) ⊎ ((is_key_among keys other ≡ true) × (new ≡ with_room old))
 some_room keys i other old middle new before stays =
-    elim (cases_Bool (is_among (take i keys) other)) [
+    elim (cases_Bool (is_key_among (take i keys) other)) [
       | inl among ↦ inr (among_all keys i other among, stays ∙ before ∙ rw among refl)
       | inr away ↦ inl (stays ∙ before ∙ rw away refl)
     ]
 
 -- a call's changes, under a key
-pub body_put : (changes : List Change) (key : Key) (x : Option (Option (List ℕ))) → body_of (put_in (map ready changes) key x) ≡ changed_all changes key (body_of x)
+pub body_put : (changes : List Change) (key : Key) (x : Option (Option (List ℕ))) → standing_body (body_among (map ready changes) key x) ≡ body_after_all changes key (standing_body x)
 body_put [] key x = refl
 body_put (change ∷ changes) key x =
     body_put changes key (if same_key (ready change).0 key then Some (ready change).1 else x)
-    ∙ ap (changed_all changes key) (one change)
+    ∙ ap (body_after_all changes key) (one change)
   where
-    one : (c : Change) → body_of (if same_key (ready c).0 key then Some (ready c).1 else x) ≡ changed c key (body_of x)
-    one (Put kept) = elim (same_key (Rattle.desk_edge.specs.Content.key_of kept) key) as (λ b. body_of (if b then Some (Some kept.body) else x) ≡ (if b then Some kept.body else body_of x)) [ true ↦ refl | false ↦ refl ]
-    one (Drop dropped) = elim (same_key dropped key) as (λ b. body_of (if b then Some None else x) ≡ (if b then None else body_of x)) [ true ↦ refl | false ↦ refl ]
+    one : (c : Change) → standing_body (if same_key (ready c).0 key then Some (ready c).1 else x) ≡ body_after c key (standing_body x)
+    one (Put kept) = elim (same_key (Rattle.desk_edge.specs.Content.key_of kept) key) as (λ b. standing_body (if b then Some (Some kept.body) else x) ≡ (if b then Some kept.body else standing_body x)) [ true ↦ refl | false ↦ refl ]
+    one (Drop dropped) = elim (same_key dropped key) as (λ b. standing_body (if b then Some None else x) ≡ (if b then None else standing_body x)) [ true ↦ refl | false ↦ refl ]
 
-pub body_with_room : (x : Option (Option (List ℕ))) → body_of (with_room x) ≡ body_of x
+pub body_with_room : (x : Option (Option (List ℕ))) → standing_body (with_room x) ≡ standing_body x
 body_with_room None = refl
 body_with_room (Some body) = refl
 
-pub body_cleared : (x : Option (Option (List ℕ))) → body_of (cleared x) ≡ body_of x
+pub body_cleared : (x : Option (Option (List ℕ))) → standing_body (cleared x) ≡ standing_body x
 body_cleared None = refl
 body_cleared (Some None) = refl
 body_cleared (Some (Some body)) = refl
@@ -149,53 +149,53 @@ never_bare (Some (Some body)) e = inside body e
     inside b e = cc
 
 -- under other keys nothing is put in
-put_away_at : (b : Bool) (change : Key × Option (List ℕ)) (changes : List (Key × Option (List ℕ))) (key : Key) (x : Option (Option (List ℕ))) → same_key change.0 key ≡ b → is_among (map (λ new. new.0) (change ∷ changes)) key ≡ false
-    → (is_among (map (λ new. new.0) changes) key ≡ false → put_in changes key x ≡ x) → put_in (change ∷ changes) key x ≡ x
-put_away_at true change changes key x h e rest = absurd (false≢true (sym e ∙ ap (λ b. b || is_among (map (λ new. new.0) changes) key) h))
-put_away_at false change changes key x h e rest = rw h (rest (sym (ap (λ b. b || is_among (map (λ new. new.0) changes) key) h) ∙ e))
+put_away_at : (b : Bool) (change : Key × Option (List ℕ)) (changes : List (Key × Option (List ℕ))) (key : Key) (x : Option (Option (List ℕ))) → same_key change.0 key ≡ b → is_key_among (map (λ new. new.0) (change ∷ changes)) key ≡ false
+    → (is_key_among (map (λ new. new.0) changes) key ≡ false → body_among changes key x ≡ x) → body_among (change ∷ changes) key x ≡ x
+put_away_at true change changes key x h e rest = absurd (false≢true (sym e ∙ ap (λ b. b || is_key_among (map (λ new. new.0) changes) key) h))
+put_away_at false change changes key x h e rest = rw h (rest (sym (ap (λ b. b || is_key_among (map (λ new. new.0) changes) key) h) ∙ e))
 
-put_away : (changes : List (Key × Option (List ℕ))) (key : Key) (x : Option (Option (List ℕ))) → is_among (map (λ new. new.0) changes) key ≡ false → put_in changes key x ≡ x
+put_away : (changes : List (Key × Option (List ℕ))) (key : Key) (x : Option (Option (List ℕ))) → is_key_among (map (λ new. new.0) changes) key ≡ false → body_among changes key x ≡ x
 put_away [] key x e = refl
 put_away (change ∷ changes) key x e = put_away_at (same_key change.0 key) change changes key x refl e (put_away changes key x)
 
 -- under the first of these there is room, where there is under each
-pub room_for_first : (bodies : Bodies) (items rest : List (Key × Option (List ℕ))) (key : Key) (body : Option (List ℕ)) → items ≡ (key, body) ∷ rest → ((other : Key) → is_among (map (λ new. new.0) items) other ≡ true → IsSome (stands bodies other)) → IsSome (stands bodies key)
+pub room_for_first : (bodies : Bodies) (items rest : List (Key × Option (List ℕ))) (key : Key) (body : Option (List ℕ)) → items ≡ (key, body) ∷ rest → ((other : Key) → is_key_among (map (λ new. new.0) items) other ≡ true → IsSome (stands bodies other)) → IsSome (stands bodies key)
 room_for_first bodies items rest key body e there =
-    there key (ap (λ list. is_among (map (λ new. new.0) list) key) e ∙ ap (λ b. b || is_among (map (λ new. new.0) rest) key) (ap is_eq (tied_itself key_order key)))
+    there key (ap (λ list. is_key_among (map (λ new. new.0) list) key) e ∙ ap (λ b. b || is_key_among (map (λ new. new.0) rest) key) (ap is_eq (tied_itself key_order key)))
 
 -- a call that makes all its changes, and one without memory
 module _ (batch : List Change) (changes : List (Key × Option (List ℕ))) (keys : List Key) (changes_are : changes ≡ map ready batch) (keys_are : keys ≡ map (λ new. new.0) changes)
-    (old room put new : Bodies) (clear : (key : Key) → stands new key ≡ (if is_among keys key then cleared (stands put key) else stands put key)) where
+    (old room put new : Bodies) (clear : (key : Key) → stands new key ≡ (if is_key_among keys key then cleared (stands put key) else stands put key)) where
   same_body : (key : Key) → kept_in new key ≡ kept_in put key
   same_body key =
-      ap body_of (clear key)
-      ∙ elim (is_among keys key) as (λ b. body_of (if b then cleared (stands put key) else stands put key) ≡ body_of (stands put key)) [ true ↦ body_cleared (stands put key) | false ↦ refl ]
+      ap standing_body (clear key)
+      ∙ elim (is_key_among keys key) as (λ b. standing_body (if b then cleared (stands put key) else stands put key) ≡ standing_body (stands put key)) [ true ↦ body_cleared (stands put key) | false ↦ refl ]
 
-  clear_by : IsClear old → ((key : Key) → is_among keys key ≡ false → stands put key ≡ stands old key) → IsClear new
+  clear_by : IsClear old → ((key : Key) → is_key_among keys key ≡ false → stands put key ≡ stands old key) → IsClear new
   clear_by was_clear away key e =
-      elim (cases_Bool (is_among keys key)) [
+      elim (cases_Bool (is_key_among keys key)) [
         | inl among ↦ never_bare (stands put key) (sym (clear key ∙ rw among refl) ∙ e)
         | inr other ↦ was_clear key (sym (away key other) ∙ sym (clear key ∙ rw other refl) ∙ e)
       ]
 
-  module _ (made : (key : Key) → stands room key ≡ (if is_among keys key then with_room (stands old key) else stands old key)) (puts : (key : Key) → stands put key ≡ put_in changes key (stands room key)) where
+  module _ (made : (key : Key) → stands room key ≡ (if is_key_among keys key then with_room (stands old key) else stands old key)) (puts : (key : Key) → stands put key ≡ body_among changes key (stands room key)) where
     pub all_changed : IsChanged batch (kept_in old) (kept_in new)
     all_changed key =
         same_body key
-        ∙ ap body_of (puts key ∙ ap (λ list. put_in list key (stands room key)) changes_are)
+        ∙ ap standing_body (puts key ∙ ap (λ list. body_among list key (stands room key)) changes_are)
         ∙ body_put batch key (stands room key)
-        ∙ ap (changed_all batch key) (ap body_of (made key) ∙ elim (is_among keys key) as (λ b. body_of (if b then with_room (stands old key) else stands old key) ≡ body_of (stands old key)) [ true ↦ body_with_room (stands old key) | false ↦ refl ])
+        ∙ ap (body_after_all batch key) (ap standing_body (made key) ∙ elim (is_key_among keys key) as (λ b. standing_body (if b then with_room (stands old key) else stands old key) ≡ standing_body (stands old key)) [ true ↦ body_with_room (stands old key) | false ↦ refl ])
 
     pub clear_when_changed : IsClear old → IsClear new
     clear_when_changed was_clear =
         clear_by was_clear
         (λ key away.
         puts key
-        ∙ put_away changes key (stands room key) (ap (λ list. is_among list key) (sym keys_are) ∙ away)
+        ∙ put_away changes key (stands room key) (ap (λ list. is_key_among list key) (sym keys_are) ∙ away)
         ∙ made key ∙ rw away refl)
 
-    pub there_after_room : (key : Key) → is_among (map (λ new. new.0) changes) key ≡ true → IsSome (stands room key)
-    there_after_room key e = subst IsSome (sym (made key ∙ rw (ap (λ list. is_among list key) keys_are ∙ e) refl)) (some_room_there (stands old key))
+    pub there_after_room : (key : Key) → is_key_among (map (λ new. new.0) changes) key ≡ true → IsSome (stands room key)
+    there_after_room key e = subst IsSome (sym (made key ∙ rw (ap (λ list. is_key_among list key) keys_are ∙ e) refl)) (some_room_there (stands old key))
       where
         some_room_there : (x : Option (Option (List ℕ))) → IsSome (with_room x)
         some_room_there None = refl

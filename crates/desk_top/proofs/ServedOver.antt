@@ -13,10 +13,10 @@ use Rattle.desk_top.specs.declared.status.Status.{Status}
 use Rattle.desk_top.proofs.Stores.{begun_as, same_trans, unbegun_as}
 
 -- serving over a keeper is serving over the store that the keeper is given back to
-pub serving_as : (wanted : Option ℕ) (doors : Doorway) (Told Tells : Type 0) (kept c d : Content) (faults ended : ℕ) (console : Console) (rose : Type 0)
+pub serving_as : (wanted : Option ℕ) (doors : Doorway) (Told Tells : Type 0) (kept c d : Content) (faults ended : ℕ) (console : Console)
     → (Told → Tells) → (Told → IsSame c d)
-    → EndsServing wanted doors Tells kept c faults ended console rose → EndsServing wanted doors Told kept d faults ended console rose
-serving_as wanted doors Told Tells kept c d faults ended console rose tells given (inl (first, opened, was)) =
+    → EndsServing wanted doors Tells kept c faults ended console → EndsServing wanted doors Told kept d faults ended console
+serving_as wanted doors Told Tells kept c d faults ended console tells given (inl (first, opened, was)) =
     inl (
       first,
       (λ told. opened (tells told)),
@@ -28,16 +28,16 @@ serving_as wanted doors Told Tells kept c d faults ended console rose tells give
         closed = λ told. same_trans (tables_content (after (list_from first was.edits))) c d (was.closed (tells told)) (given told);
       },
     )
-serving_as wanted doors Told Tells kept c d faults ended console rose tells given (inr (untaken, was)) =
-    inr (untaken, unbegun_as Told Tells kept kept c d faults ended console rose tells (λ told key. refl) given was)
+serving_as wanted doors Told Tells kept c d faults ended console tells given (inr (untaken, was)) =
+    inr (untaken, unbegun_as Told Tells kept kept c d faults ended console tells (λ told key. refl) given was)
 
 -- connections were served over the opened desk, or there was no memory to serve them
-pub serving_opened : (wanted : Option ℕ) (doors : Doorway) (Tells : Type 0) (kept keeps : Content) (faults : ℕ) (first : Lists) (ended : Status) (console : Console) (rose : Type 0)
+pub serving_opened : (wanted : Option ℕ) (doors : Doorway) (Tells : Type 0) (kept keeps : Content) (faults : ℕ) (first : Lists) (ended : Status) (console : Console)
     → (Tells → IsOpenedAs kept first)
-    → WereServed wanted Tells keeps first (status_code ended) doors console rose ⊎ WasUnserved Tells keeps first ended doors console rose
-    → EndsServing wanted doors Tells kept keeps faults (status_code ended) console rose
-serving_opened wanted doors Tells kept keeps faults first ended console rose opened (inl was) = inl (first, opened, was)
-serving_opened wanted doors Tells kept keeps faults first ended console rose opened (inr was) = inr (
+    → WereServed wanted Tells keeps first (status_code ended) doors console ⊎ WasUnserved Tells keeps first ended doors console
+    → EndsServing wanted doors Tells kept keeps faults (status_code ended) console
+serving_opened wanted doors Tells kept keeps faults first ended console opened (inl was) = inl (first, opened, was)
+serving_opened wanted doors Tells kept keeps faults first ended console opened (inr was) = inr (
   was.unasked,
   record {
     answer = answer_without_memory;

@@ -1,10 +1,10 @@
 -- What is said of a keeper that was opened from a shelf is said of the shelf's store.
 use Rattle.std.proofs.Common.{◌≡◌, ◌∙◌, ap, sym, ◌⊎◌, ℕ, ◌<◌, List, Option, None, Some, inl, inr, refl, arith}
 use Rattle.std.specs.Io.KnownBytes.{Keeps}
-use Rattle.desk_clerk.specs.Opening.{AreRead, IsDamagedAt, IsEmpty, IsOpenedAs}
+use Rattle.desk_clerk.specs.Opening.{AreRead, IsDamagedAt, IsOpenedAs}
 use Rattle.desk_clerk.specs.declared.open_fault.OpenFault.{OpenFault}
 use Rattle.desk_clerk.specs.declared.open_fault.OpenFault.TheVariants as opening
-use Rattle.desk_edge.specs.Content.{Content, IsSame}
+use Rattle.desk_edge.specs.Content.{Content, IsEmpty, IsSame}
 use Rattle.desk_edge.specs.Faults.{Rose}
 use Rattle.desk_edge.specs.declared.record.Record.{Record}
 use Rattle.desk_front.specs.declared.served.Served.{Served}
@@ -13,7 +13,7 @@ use Rattle.desk_model.specs.Lists.{Lists}
 use Rattle.desk_model.specs.Start.{start}
 use Rattle.desk_records.specs.Records.{tables_content}
 use Rattle.desk_top.specs.Answer.{Answer, Answers, answer_of_opening, answer_to_store_fault, answer_without_memory, status_code}
-use Rattle.desk_top.specs.Console.{Console}
+use Rattle.desk_top.specs.Console.{Console, IsFaulty}
 use Rattle.desk_top.specs.Session.{EndsSession, WasServed, exit_status_of}
 use Rattle.desk_top.specs.Store.{IsCause, IsUnopened, WasNotBegun}
 use Rattle.desk_top.specs.declared.status.Status.{Status}
@@ -56,10 +56,10 @@ cause_as Told Tells a b faults answer tells same (inr (inl (kind, code, is, dama
 cause_as Told Tells a b faults answer tells same (inr (inr memory)) = inr (inr memory)
 
 -- what didn't begin over a keeper didn't begin over the store that the keeper was opened from and given back to
-pub unbegun_as : (Told Tells : Type 0) (a b c d : Content) (faults ended : ℕ) (console : Console) (rose : Type 0)
+pub unbegun_as : (Told Tells : Type 0) (a b c d : Content) (faults ended : ℕ) (console : Console)
     → (Told → Tells) → (Told → IsSame a b) → (Told → IsSame c d)
-    → WasNotBegun Tells b c faults ended console rose → WasNotBegun Told a d faults ended console rose
-unbegun_as Told Tells a b c d faults ended console rose tells same given was = record {
+    → WasNotBegun Tells b c faults ended console → WasNotBegun Told a d faults ended console
+unbegun_as Told Tells a b c d faults ended console tells same given was = record {
   answer = was.answer;
   cause = cause_as Told Tells a b faults was.answer tells same was.cause;
   status = was.status;
@@ -74,10 +74,10 @@ unbegun_as Told Tells a b c d faults ended console rose tells same given was = r
     kept_as told (inr (memory, none, begun)) = inr (memory, (λ key. sym (same told key) ∙ none key), same_trans (tables_content start) c d begun (given told))
 
 -- a session over a keeper is one over the store that the keeper is given back to
-pub ends_as : (Told Tells : Type 0) (kept c d : Content) (faults ended : ℕ) (console : Console) (rose : Type 0)
+pub ends_as : (Told Tells : Type 0) (kept c d : Content) (faults ended : ℕ) (console : Console)
     → (Told → Tells) → (Told → IsSame c d)
-    → EndsSession Tells kept c faults ended console rose → EndsSession Told kept d faults ended console rose
-ends_as Told Tells kept c d faults ended console rose tells given (inl (first, opened, served, is, was)) =
+    → EndsSession Tells kept c faults ended console → EndsSession Told kept d faults ended console
+ends_as Told Tells kept c d faults ended console tells given (inl (first, opened, served, is, was)) =
     inl (
       first,
       (λ told. opened (tells told)),
@@ -93,8 +93,8 @@ ends_as Told Tells kept c d faults ended console rose tells given (inl (first, o
         closed = λ told. same_trans (tables_content was.last) c d (was.closed (tells told)) (given told);
       },
     )
-ends_as Told Tells kept c d faults ended console rose tells given (inr was) =
-    inr (unbegun_as Told Tells kept kept c d faults ended console rose tells (λ told key. refl) given was)
+ends_as Told Tells kept c d faults ended console tells given (inr was) =
+    inr (unbegun_as Told Tells kept kept c d faults ended console tells (λ told key. refl) given was)
 
 -- an input that is what it was is kept
 pub keeps_of : (old new : Option (List ℕ)) → new ≡ old → Keeps old new
@@ -112,14 +112,14 @@ begun_as kept keeps first (inl (none, is)) same = inr (refl, none, rw is at same
 begun_as kept keeps first (inr (some, was)) same = inl (λ key. same key ∙ sym (was key))
 
 -- a clerk over the opened store served the stream, or there was no memory to serve it
-pub ends_opened : (Tells : Type 0) (kept keeps : Content) (faults : ℕ) (first : Lists) (ended : Status) (console : Console) (rose : Type 0)
+pub ends_opened : (Tells : Type 0) (kept keeps : Content) (faults : ℕ) (first : Lists) (ended : Status) (console : Console)
     → (Tells → IsOpenedAs kept first)
     → ((served : Served) × (ended ≡ exit_status_of served) × WasServed Tells keeps faults first served console)
     ⊎ ((ended ≡ status.OutOfMemory) × (Tells → IsSame (tables_content first) keeps) × Keeps console.unread console.left
-    × Answers answer_without_memory (status_code ended) console.before console.after rose)
-    → EndsSession Tells kept keeps faults (status_code ended) console rose
-ends_opened Tells kept keeps faults first ended console rose opened (inl (served, is, was)) = inl (first, opened, served, ap status_code is, was)
-ends_opened Tells kept keeps faults first ended console rose opened (inr (is, same, unread, told)) = inr record {
+    × Answers answer_without_memory (status_code ended) console.before console.after (IsFaulty console))
+    → EndsSession Tells kept keeps faults (status_code ended) console
+ends_opened Tells kept keeps faults first ended console opened (inl (served, is, was)) = inl (first, opened, served, ap status_code is, was)
+ends_opened Tells kept keeps faults first ended console opened (inr (is, same, unread, told)) = inr record {
   answer = answer_without_memory;
   cause = inr (inr refl);
   status = inr (ap status_code is);
@@ -139,11 +139,11 @@ cause_of Tells kept faults (opening.Damaged kind code) failed damaged unsound =
 cause_of Tells kept faults opening.OutOfMemory failed damaged unsound = inr (inr refl)
 
 -- what didn't begin tells why, and leaves the store as it was
-pub unbegun : (Tells : Type 0) (kept keeps : Content) (faults ended : ℕ) (answer : Answer) (console : Console) (rose : Type 0)
+pub unbegun : (Tells : Type 0) (kept keeps : Content) (faults ended : ℕ) (answer : Answer) (console : Console)
     → IsCause Tells kept faults answer → (ended ≡ status_code answer.status) ⊎ (ended ≡ status_code status.OutOfMemory)
-    → Answers answer ended console.before console.after rose → Keeps console.unread console.left → (Tells → IsSame kept keeps)
-    → WasNotBegun Tells kept keeps faults ended console rose
-unbegun Tells kept keeps faults ended answer console rose cause is told unread same = record {
+    → Answers answer ended console.before console.after (IsFaulty console) → Keeps console.unread console.left → (Tells → IsSame kept keeps)
+    → WasNotBegun Tells kept keeps faults ended console
+unbegun Tells kept keeps faults ended answer console cause is told unread same = record {
   answer = answer;
   cause = cause;
   status = is;
@@ -153,24 +153,24 @@ unbegun Tells kept keeps faults ended answer console rose cause is told unread s
 }
 
 -- the shelf didn't open a store: nothing began, and the line tells why
-pub not_lent : (Told Tells lost : Type 0) (kept keeps : Content) (count : ℕ) (ended : Status) (console : Console) (rose : Type 0)
+pub not_lent : (Told Tells lost : Type 0) (kept keeps : Content) (count : ℕ) (ended : Status) (console : Console)
     → (ended ≡ status.StoreFault) ⊎ (ended ≡ status.OutOfMemory) → (ended ≡ status.StoreFault → lost)
-    → (ended ≡ status.StoreFault → Answers answer_to_store_fault (status_code ended) console.before console.after rose)
-    → (ended ≡ status.OutOfMemory → Answers answer_without_memory (status_code ended) console.before console.after rose)
+    → (ended ≡ status.StoreFault → Answers answer_to_store_fault (status_code ended) console.before console.after (IsFaulty console))
+    → (ended ≡ status.OutOfMemory → Answers answer_without_memory (status_code ended) console.before console.after (IsFaulty console))
     → console.left ≡ console.unread → (Tells → Told × IsSame kept keeps)
-    → (faults : ℕ) × WasNotBegun Tells kept keeps faults (status_code ended) console rose × (Tells → Told) × (0 < faults → lost)
+    → (faults : ℕ) × WasNotBegun Tells kept keeps faults (status_code ended) console × (Tells → Told) × (0 < faults → lost)
     × ((faults ≡ count) ⊎ IsUnopened (status_code ended) console)
-not_lent Told Tells lost kept keeps count ended console rose (inl is) failed store_line memory_line stays others = (
+not_lent Told Tells lost kept keeps count ended console (inl is) failed store_line memory_line stays others = (
   1,
-  unbegun Tells kept keeps 1 (status_code ended) answer_to_store_fault console rose (inl (refl, search (arith))) (inl (ap status_code is))
+  unbegun Tells kept keeps 1 (status_code ended) answer_to_store_fault console (inl (refl, search (arith))) (inl (ap status_code is))
       (store_line is) (keeps_of _ _ stays) (λ tells. (others tells).1),
   (λ tells. (others tells).0),
   (λ some. failed is),
   inr (inl (ap status_code is), keeps_of _ _ stays),
 )
-not_lent Told Tells lost kept keeps count ended console rose (inr is) failed store_line memory_line stays others = (
+not_lent Told Tells lost kept keeps count ended console (inr is) failed store_line memory_line stays others = (
   0,
-  unbegun Tells kept keeps 0 (status_code ended) answer_without_memory console rose (inr (inr refl)) (inl (ap status_code is))
+  unbegun Tells kept keeps 0 (status_code ended) answer_without_memory console (inr (inr refl)) (inl (ap status_code is))
       (memory_line is) (keeps_of _ _ stays) (λ tells. (others tells).1),
   (λ tells. (others tells).0),
   (λ some. absurd (search (arith, some))),

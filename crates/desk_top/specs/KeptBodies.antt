@@ -17,13 +17,13 @@ abbrev pub stands : Bodies → Key → Option (Option (List ℕ))
 stands bodies key = lookup (λ other. is_eq (key_cmp key other)) bodies
 
 -- the body that stands, if one does
-abbrev pub body_of : Option (Option (List ℕ)) → Option (List ℕ)
-body_of None = None
-body_of (Some body) = body
+abbrev pub standing_body : Option (Option (List ℕ)) → Option (List ℕ)
+standing_body None = None
+standing_body (Some body) = body
 
 -- what is kept under each key
 abbrev pub kept_in : Bodies → Content
-kept_in bodies key = body_of (stands bodies key)
+kept_in bodies key = standing_body (stands bodies key)
 
 -- each key that is there has a body
 abbrev pub IsClear : Bodies → Type 0
@@ -35,8 +35,8 @@ ready (Put kept) = (key_of kept, Some kept.body)
 ready (Drop key) = (key, None)
 
 -- the key is one of these
-abbrev pub is_among : List Key → Key → Bool
-is_among keys key = list_any (λ other. same_key other key) keys
+abbrev pub is_key_among : List Key → Key → Bool
+is_key_among keys key = list_any (λ other. same_key other key) keys
 
 -- what stands when there is room
 abbrev pub with_room : Option (Option (List ℕ)) → Option (Option (List ℕ))
@@ -50,9 +50,9 @@ cleared (Some None) = None
 cleared (Some (Some body)) = Some (Some body)
 
 -- what stands under the key when all of these were put in, one after the other
-abbrev pub put_in : Bodies → Key → Option (Option (List ℕ)) → Option (Option (List ℕ))
-put_in [] key old = old
-put_in (new ∷ more) key old = put_in more key (if same_key new.0 key then Some new.1 else old)
+abbrev pub body_among : Bodies → Key → Option (Option (List ℕ)) → Option (Option (List ℕ))
+body_among [] key old = old
+body_among (new ∷ more) key old = body_among more key (if same_key new.0 key then Some new.1 else old)
 
 -- this stands under the key, which lies past the one that was given, and no other key is there that lies past that and before it
 abbrev pub IsFirstIn : Bodies → Option Key → Key → Option (List ℕ) → Type 0

@@ -10,7 +10,7 @@ use Rattle.desk_records.specs.Records.{tables_content}
 use Rattle.desk_report.specs.File.{IsFileOf}
 use Rattle.desk_text.specs.Day.{Date}
 use Rattle.desk_top.specs.Answer.{Answers, answer_of_summary, answer_without_memory, status_code}
-use Rattle.desk_top.specs.Console.{Console}
+use Rattle.desk_top.specs.Console.{Console, IsFaulty}
 use Rattle.desk_top.specs.Store.{WasNotBegun}
 use Rattle.desk_top.specs.declared.status.Status.TheVariants.{Done, ConsoleFault, OutOfMemory}
 
@@ -40,14 +40,14 @@ WasExported t ended before after rose =
     (number : ℕ) × (file : List ℕ) × IsFileOf t number file × WasWritten file ended before after rose
 
 -- how an export ends with this status: the export file of the tables that the store is opened as was written, or it didn't begin
-abbrev pub EndsExport : Type 0 → Content → Content → ℕ → ℕ → Console → Type 0 → Type 0
-EndsExport Tells kept keeps faults ended c rose =
-    ((first : Lists) × (Tells → IsOpenedAs kept first) × WasLookedAt Tells keeps first c × WasExported first ended c.before c.after rose)
-    ⊎ WasNotBegun Tells kept keeps faults ended c rose
+abbrev pub EndsExport : Type 0 → Content → Content → ℕ → ℕ → Console → Type 0
+EndsExport Tells kept keeps faults ended c =
+    ((first : Lists) × (Tells → IsOpenedAs kept first) × WasLookedAt Tells keeps first c × WasExported first ended c.before c.after (IsFaulty c))
+    ⊎ WasNotBegun Tells kept keeps faults ended c
 
 -- how an audit ends with this status: the summary of the tables that the store is opened as was written, or it didn't begin
-abbrev pub EndsAudit : Date → Type 0 → Content → Content → ℕ → ℕ → Console → Type 0 → Type 0
-EndsAudit day Tells kept keeps faults ended c rose =
+abbrev pub EndsAudit : Date → Type 0 → Content → Content → ℕ → ℕ → Console → Type 0
+EndsAudit day Tells kept keeps faults ended c =
     ((first : Lists) × (Tells → IsOpenedAs kept first) × WasLookedAt Tells keeps first c
-    × Answers (answer_of_summary first day) ended c.before c.after rose)
-    ⊎ WasNotBegun Tells kept keeps faults ended c rose
+    × Answers (answer_of_summary first day) ended c.before c.after (IsFaulty c))
+    ⊎ WasNotBegun Tells kept keeps faults ended c

@@ -45,8 +45,8 @@ pub record WasServed (Tells : Type 0) (keeps : Content) (faults : ℕ) (first : 
   pub closed : Tells → IsSame (tables_content last) keeps
 
 -- how a session ends with this status: it was served from the tables that the store is opened as, or it didn't begin
-abbrev pub EndsSession : Type 0 → Content → Content → ℕ → ℕ → Console → Type 0 → Type 0
-EndsSession Tells kept keeps faults ended c rose =
+abbrev pub EndsSession : Type 0 → Content → Content → ℕ → ℕ → Console → Type 0
+EndsSession Tells kept keeps faults ended c =
     ((first : Lists) × (Tells → IsOpenedAs kept first) × (served : Served) × (ended ≡ status_code (exit_status_of served))
     × WasServed Tells keeps faults first served c)
-    ⊎ WasNotBegun Tells kept keeps faults ended c rose
+    ⊎ WasNotBegun Tells kept keeps faults ended c

@@ -3,9 +3,10 @@ ghost use Rattle.std.specs.Io.KnownBytes.{Consumes, IsAtEnd};
 ghost use Rattle.desk_text.specs.Day.{is_askable};
 ghost use Rattle.desk_model.specs.Declaration.{Declared};
 ghost use Rattle.desk_model.specs.declared.edit.Edit.TheVariants.{Declare};
-ghost use Rattle.desk_edge.specs.Faults.{Rose};
+ghost use Rattle.desk_edge.specs.Faults.{CountsFaults, Rose};
 ghost use Rattle.desk_top.specs.Answer.{Answers, IsInput, IsReadingTold, answer_of_check, answer_to_check, status_code};
 ghost use Rattle.desk_top.specs.Check.{Agrees, checked, input_limit, judged};
+ghost use Rattle.desk_top.specs.Console.{TellsFaults};
 
 use crate::refusal::Refusal;
 use crate::status::Status;
@@ -78,17 +79,15 @@ impl From<OutOfMemory> for CheckFault {
 pub fn answer_check<L: Link>(alloc: Global, check: &KindOnDay, console: &mut L) -> Status
     requires { is_askable check.now.day ≡ true }
     ensures words { result ≢ Status.BadWords }
-    ensures console_fault { result ≡ Status.ConsoleFault → Rose (L.faults console.old) (L.faults console.new) }
     ensures reading { IsReadingTold check.now (status_code result) (L.unread console.old) (Rose (L.read_faults console.old) (L.read_faults console.new)) }
     ensures end { result ≡ Status.Done → IsAtEnd (L.unread console.new) }
-    ensures no_fault { result ≡ Status.Done → L.faults console.new ≡ L.faults console.old }
     ensures answer { (input : List ℕ) × IsInput (L.unread console.old) input
         × Answers (answer_to_check check.now input) (status_code result)
         (L.written console.old) (L.written console.new) (Rose (L.faults console.old) (L.faults console.new)) }
     ensures taken { (bytes : List ℕ) × Consumes (L.unread console.old) (L.unread console.new) bytes × (length bytes ≤ input_limit + 1) }
     ensures fault_taken { result ≡ Status.ConsoleFault →
         (bytes : List ℕ) × Consumes (L.unread console.old) (L.unread console.new) bytes × (length bytes ≤ input_limit) }
-    ensures never_falls { L.faults console.old ≤ L.faults console.new }
+    ensures faults { TellsFaults (result ≡ Status.Done) (result ≡ Status.ConsoleFault) (L.faults console.old) (L.faults console.new) }
 {
     match check_input(alloc, check, console) {
         Ok(text) => write_text(console, text.as_slice()),
@@ -127,9 +126,7 @@ pub fn check_input<L: Link>(
     ensures failed_within { IsErrOf result CheckFault.Failed →
         (bytes : List ℕ) × Consumes (L.unread console.old) (L.unread console.new) bytes × (length bytes ≤ input_limit) }
     ensures output_stays { L.written console.new ≡ L.written console.old }
-    ensures never_falls { L.faults console.old ≤ L.faults console.new }
-    ensures steady { result ≢ Err CheckFault.Failed → L.faults console.new ≡ L.faults console.old }
-    ensures failed { IsErrOf result CheckFault.Failed → Rose (L.faults console.old) (L.faults console.new) }
+    ensures faults { CountsFaults (IsErrOf result CheckFault.Failed) (L.faults console.old) (L.faults console.new) }
     ensures read_failed { IsErrOf result CheckFault.Failed → Rose (L.read_faults console.old) (L.read_faults console.new) }
 {
     let bytes = read_up_to(alloc, console, INPUT_LIMIT)?;

@@ -1,11 +1,10 @@
-ghost use Rattle.std.specs.Prelude.{◌≡◌, ◌≢◌, ◌⊎◌, ℕ, ◌≤◌, List};
-ghost use Rattle.desk_edge.specs.Content.{IsSame};
+ghost use Rattle.std.specs.Prelude.{◌≡◌, ◌≢◌, ◌⊎◌, ℕ, List};
 ghost use Rattle.desk_edge.specs.Faults.{Rose};
 ghost use Rattle.desk_history.specs.Sound.{Sound};
 ghost use Rattle.desk_top.specs.Answer.{status_code};
-ghost use Rattle.desk_top.specs.Console.{console_of};
+ghost use Rattle.desk_top.specs.Console.{TellsFaults, console_step};
 ghost use Rattle.desk_top.specs.Reports.{EndsExport, WasExported};
-ghost use Rattle.desk_top.specs.Store.{OnStore};
+ghost use Rattle.desk_top.specs.Store.{IsKept, OnStore, shelf_step};
 
 use crate::status::Status;
 use crate::store::open_desk;
@@ -28,15 +27,12 @@ pub fn answer_export<L: Link, S: Shelf>(
     console: &mut L,
     shelf: &mut S,
 ) -> Status
-    ensures stored { OnStore (S.Tells shelf.old) (S.Tells shelf.new) (S.content shelf.old) (S.content shelf.new) (S.count shelf.new) (Rose (S.faults shelf.old) (S.faults shelf.new))
+    ensures stored { OnStore (shelf_step S.Tells S.content S.count S.faults shelf.old shelf.new)
         EndsExport asked.now.store (status_code result)
-        (console_of (L.unread console.old) (L.unread console.new) (L.written console.old) (L.written console.new)) (Rose (L.faults console.old) (L.faults console.new)) }
-    ensures others { (other : List ℕ) → other ≢ asked.now.store → S.Tells shelf.new other
-        → S.Tells shelf.old other × IsSame (S.content shelf.old other) (S.content shelf.new other) }
+        (console_step L.unread L.written L.faults console.old console.new) }
+    ensures others { (other : List ℕ) → other ≢ asked.now.store → IsKept (shelf_step S.Tells S.content S.count S.faults shelf.old shelf.new) other }
     ensures words { result ≢ Status.BadWords }
-    ensures console_fault { result ≡ Status.ConsoleFault → Rose (L.faults console.old) (L.faults console.new) }
-    ensures no_fault { result ≡ Status.Done → L.faults console.new ≡ L.faults console.old }
-    ensures never_falls { L.faults console.old ≤ L.faults console.new }
+    ensures faults { TellsFaults (result ≡ Status.Done) (result ≡ Status.ConsoleFault) (L.faults console.old) (L.faults console.new) }
 {
     let name = asked.store.as_slice();
     let desk = match open_desk(alloc, name, console, shelf) {
@@ -54,9 +50,7 @@ fn write_export<L: Link>(alloc: Global, tables: &Tables, console: &mut L) -> Sta
     ensures written { WasExported tables.now.lists (status_code result) (L.written console.old) (L.written console.new) (Rose (L.faults console.old) (L.faults console.new)) }
     ensures status { (result ≡ Status.Done) ⊎ (result ≡ Status.ConsoleFault) ⊎ (result ≡ Status.OutOfMemory) }
     ensures input_stays { L.unread console.new ≡ L.unread console.old }
-    ensures console_fault { result ≡ Status.ConsoleFault → Rose (L.faults console.old) (L.faults console.new) }
-    ensures no_fault { result ≡ Status.Done → L.faults console.new ≡ L.faults console.old }
-    ensures never_falls { L.faults console.old ≤ L.faults console.new }
+    ensures faults { TellsFaults (result ≡ Status.Done) (result ≡ Status.ConsoleFault) (L.faults console.old) (L.faults console.new) }
 {
     match export(alloc, tables, console) {
         Ok(_) => Status::Done,

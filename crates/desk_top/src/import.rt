@@ -1,10 +1,9 @@
 ghost use Rattle.std.specs.Prelude.{◌≡◌, ◌≢◌, ◌⊎◌, ℕ, ◌≤◌, List};
-ghost use Rattle.desk_edge.specs.Content.{IsSame};
 ghost use Rattle.desk_edge.specs.Faults.{Rose};
 ghost use Rattle.desk_top.specs.Answer.{Answers, answer_to_import, answer_to_damaged_line, status_code};
-ghost use Rattle.desk_top.specs.Console.{console_of};
+ghost use Rattle.desk_top.specs.Console.{TellsFaults, console_step};
 ghost use Rattle.desk_top.specs.Import.{EndsImport};
-ghost use Rattle.desk_top.specs.Store.{OnStore};
+ghost use Rattle.desk_top.specs.Store.{IsKept, OnStore, shelf_step};
 
 use crate::status::Status;
 use crate::store::open_store;
@@ -25,15 +24,12 @@ pub fn answer_import<L: Link, S: Shelf>(
     console: &mut L,
     shelf: &mut S,
 ) -> Status
-    ensures stored { OnStore (S.Tells shelf.old) (S.Tells shelf.new) (S.content shelf.old) (S.content shelf.new) (S.count shelf.new) (Rose (S.faults shelf.old) (S.faults shelf.new))
+    ensures stored { OnStore (shelf_step S.Tells S.content S.count S.faults shelf.old shelf.new)
         EndsImport asked.now.store (status_code result)
-        (console_of (L.unread console.old) (L.unread console.new) (L.written console.old) (L.written console.new)) (Rose (L.faults console.old) (L.faults console.new)) }
-    ensures others { (other : List ℕ) → other ≢ asked.now.store → S.Tells shelf.new other
-        → S.Tells shelf.old other × IsSame (S.content shelf.old other) (S.content shelf.new other) }
+        (console_step L.unread L.written L.faults console.old console.new) }
+    ensures others { (other : List ℕ) → other ≢ asked.now.store → IsKept (shelf_step S.Tells S.content S.count S.faults shelf.old shelf.new) other }
     ensures words { result ≢ Status.BadWords }
-    ensures console_fault { result ≡ Status.ConsoleFault → Rose (L.faults console.old) (L.faults console.new) }
-    ensures no_fault { result ≡ Status.Done → L.faults console.new ≡ L.faults console.old }
-    ensures never_falls { L.faults console.old ≤ L.faults console.new }
+    ensures faults { TellsFaults (result ≡ Status.Done) (result ≡ Status.ConsoleFault) (L.faults console.old) (L.faults console.new) }
 {
     let name = asked.store.as_slice();
     let mut store = match open_store(alloc, name, console, shelf) {
@@ -49,12 +45,10 @@ pub fn answer_import<L: Link, S: Shelf>(
 fn fill<K: Keeper, L: Link>(alloc: Global, keeper: &mut K, console: &mut L) -> Status
     requires { K.faults keeper.old ≡ 0 }
     ensures ends { EndsImport (K.Tells keeper.new) (K.content keeper.old) (K.content keeper.new) (K.faults keeper.new) (status_code result)
-        (console_of (L.unread console.old) (L.unread console.new) (L.written console.old) (L.written console.new)) (Rose (L.faults console.old) (L.faults console.new)) }
+        (console_step L.unread L.written L.faults console.old console.new) }
     ensures told { K.Tells keeper.new → K.Tells keeper.old }
     ensures words { result ≢ Status.BadWords }
-    ensures console_fault { result ≡ Status.ConsoleFault → Rose (L.faults console.old) (L.faults console.new) }
-    ensures no_fault { result ≡ Status.Done → L.faults console.new ≡ L.faults console.old }
-    ensures never_falls { L.faults console.old ≤ L.faults console.new }
+    ensures faults { TellsFaults (result ≡ Status.Done) (result ≡ Status.ConsoleFault) (L.faults console.old) (L.faults console.new) }
 {
     match import(alloc, keeper, console) {
         Ok(number) => answer_imported(number, console),
@@ -73,9 +67,7 @@ fn answer_imported<L: Link>(number: u64, console: &mut L) -> Status
         (L.written console.old) (L.written console.new) (Rose (L.faults console.old) (L.faults console.new)) }
     ensures status { (result ≡ Status.Done) ⊎ (result ≡ Status.ConsoleFault) }
     ensures input_stays { L.unread console.new ≡ L.unread console.old }
-    ensures console_fault { result ≡ Status.ConsoleFault → Rose (L.faults console.old) (L.faults console.new) }
-    ensures no_fault { result ≡ Status.Done → L.faults console.new ≡ L.faults console.old }
-    ensures never_falls { L.faults console.old ≤ L.faults console.new }
+    ensures faults { TellsFaults (result ≡ Status.Done) (result ≡ Status.ConsoleFault) (L.faults console.old) (L.faults console.new) }
 {
     match write_numbered(console, b"imported ", number) {
         Ok(()) => Status::Done,

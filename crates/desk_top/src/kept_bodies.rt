@@ -1,7 +1,7 @@
 ghost use Rattle.std.specs.Prelude.{◌≡◌, ◌≢◌, ◌⊎◌, true, false, Some, None, IfOk, OnOk, OnErr, IfSome, IfNone, IsSome, map, option_copied, if◌then◌else◌};
 ghost use Rattle.desk_edge.specs.Content.{key_of, same_key};
 ghost use Rattle.desk_edge.specs.declared.key.Key.{Key};
-ghost use Rattle.desk_top.specs.KeptBodies.{IsFirstIn, IsNoneIn, cleared, is_among, put_in, ready, stands, with_room};
+ghost use Rattle.desk_top.specs.KeptBodies.{IsFirstIn, IsNoneIn, cleared, is_key_among, body_among, ready, stands, with_room};
 
 use desk_edge::{Change, Key, Record};
 use desk_text::{Bytes, OutOfMemory};
@@ -94,9 +94,9 @@ pub(crate) fn make_room(
     bodies: &mut BTreeMap<Key, Option<Bytes>>,
     keys: &[Key],
 ) -> Result<(), OutOfMemory>
-    ensures room { OnOk result ((key : Key) → stands bodies.new.entries key ≡ (if is_among keys.now key then with_room (stands bodies.old.entries key) else stands bodies.old.entries key)) }
+    ensures room { OnOk result ((key : Key) → stands bodies.new.entries key ≡ (if is_key_among keys.now key then with_room (stands bodies.old.entries key) else stands bodies.old.entries key)) }
     ensures some { (key : Key) → (stands bodies.new.entries key ≡ stands bodies.old.entries key)
-        ⊎ ((is_among keys.now key ≡ true) × (stands bodies.new.entries key ≡ with_room (stands bodies.old.entries key))) }
+        ⊎ ((is_key_among keys.now key ≡ true) × (stands bodies.new.entries key ≡ with_room (stands bodies.old.entries key))) }
 {
     for key in keys {
         make_room_for(alloc, bodies, key)?;
@@ -124,8 +124,8 @@ fn make_room_for(
 
 /// Puts all of these in, one after the other, where there is room under each key. It takes no memory.
 pub(crate) fn put_all(bodies: &mut BTreeMap<Key, Option<Bytes>>, changes: Vec<(Key, Option<Bytes>)>)
-    requires { (key : Key) → is_among (map (λ new. new.0) changes.items) key ≡ true → IsSome (stands bodies.old.entries key) }
-    ensures { (key : Key) → stands bodies.new.entries key ≡ put_in changes.items key (stands bodies.old.entries key) }
+    requires { (key : Key) → is_key_among (map (λ new. new.0) changes.items) key ≡ true → IsSome (stands bodies.old.entries key) }
+    ensures { (key : Key) → stands bodies.new.entries key ≡ body_among changes.items key (stands bodies.old.entries key) }
 {
     for (key, body) in changes {
         put(bodies, key, body);
@@ -143,7 +143,7 @@ fn put(bodies: &mut BTreeMap<Key, Option<Bytes>>, key: Key, body: Option<Bytes>)
 
 /// Takes out each of the keys under which no body stands.
 pub(crate) fn clear_all(bodies: &mut BTreeMap<Key, Option<Bytes>>, keys: &[Key])
-    ensures { (key : Key) → stands bodies.new.entries key ≡ (if is_among keys.now key then cleared (stands bodies.old.entries key) else stands bodies.old.entries key) }
+    ensures { (key : Key) → stands bodies.new.entries key ≡ (if is_key_among keys.now key then cleared (stands bodies.old.entries key) else stands bodies.old.entries key) }
 {
     for key in keys {
         clear(bodies, key);

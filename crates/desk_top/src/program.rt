@@ -1,11 +1,12 @@
-ghost use Rattle.std.specs.Prelude.{◌≡◌, ◌≢◌, ◌⊎◌, ◌≤◌, map, string_bytes, IfOk, IfErr, None, Some};
+ghost use Rattle.std.specs.Prelude.{◌≡◌, ◌≢◌, ◌⊎◌, map, string_bytes, IfOk, IfErr, None, Some};
 ghost use Rattle.desk_edge.specs.Faults.{Rose};
 ghost use Rattle.desk_law.specs.declared.kind_on_day.KindOnDay.{KindOnDay};
 ghost use Rattle.desk_top.specs.Answer.{Answers, IsReadingTold, answer_to_other_words, answer_to_unread_words, status_code};
-ghost use Rattle.desk_top.specs.Console.{console_of};
-ghost use Rattle.desk_top.specs.Run.{Does, OthersStay, store_in, store_of};
-ghost use Rattle.desk_top.specs.Serve.{Doorway, doorway_of};
+ghost use Rattle.desk_top.specs.Console.{TellsFaults, console_step};
+ghost use Rattle.desk_top.specs.Run.{Does, OtherStoresStay, store_in, store_of};
+ghost use Rattle.desk_top.specs.Serve.{Doorway, doorway_step};
 ghost use Rattle.desk_top.specs.Sorted.{command_at_once, command_over_clerk};
+ghost use Rattle.desk_top.specs.Store.{shelf_step};
 ghost use Rattle.desk_words.specs.Commands.{HasBounds, command_of};
 ghost use Rattle.desk_words.specs.declared.command.Serve.{Serve};
 
@@ -48,10 +49,10 @@ pub fn run<R: Wait + Sync + Threads, L: Link, S: Shelf, D: Doors + Send>(
 
     // A command does what it is for.
     ensures command { (command : Command) → command_of (map string_bytes words.now.items) ≡ Some command
-        → Does (S.Tells shelf.old) (S.Tells shelf.new) (S.content shelf.old) (S.content shelf.new) (S.count shelf.new) (Rose (S.faults shelf.old) (S.faults shelf.new))
-        (doorway_of (D.faults doors.old) (D.faults doors.new) (D.taken doors.old) (D.taken doors.new) (D.is_closed doors.new))
+        → Does (shelf_step S.Tells S.content S.count S.faults shelf.old shelf.new)
+        (doorway_step D.faults D.taken D.is_closed doors.old doors.new)
         command result
-        (console_of (L.unread console.old) (L.unread console.new) (L.written console.old) (L.written console.new)) (Rose (L.faults console.old) (L.faults console.new)) }
+        (console_step L.unread L.written L.faults console.old console.new) }
     ensures known { (status : Status) × (result ≡ status_code status) }
 
     // A check whose refusal can't be written ends as refused.
@@ -59,12 +60,10 @@ pub fn run<R: Wait + Sync + Threads, L: Link, S: Shelf, D: Doors + Send>(
         → IsReadingTold check result (L.unread console.old) (Rose (L.read_faults console.old) (L.read_faults console.new)) }
 
     // No store but the one that the words name is changed, and where they name none the shelf stays as it is.
-    ensures others { OthersStay (store_in (map string_bytes words.now.items)) (S.Tells shelf.old) (S.Tells shelf.new) (S.content shelf.old) (S.content shelf.new) }
+    ensures others { OtherStoresStay (store_in (map string_bytes words.now.items)) (shelf_step S.Tells S.content S.count S.faults shelf.old shelf.new) }
     ensures shelf_stays { store_in (map string_bytes words.now.items) ≡ None → shelf.new ≡ shelf.old }
     ensures doors_stay { ((serve : Serve) → command_of (map string_bytes words.now.items) ≢ Some (Command.Serve serve)) → doors.new ≡ doors.old }
-    ensures console_fault { result ≡ status_code Status.ConsoleFault → Rose (L.faults console.old) (L.faults console.new) }
-    ensures no_fault { result ≡ status_code Status.Done → L.faults console.new ≡ L.faults console.old }
-    ensures never_falls { L.faults console.old ≤ L.faults console.new }
+    ensures faults { TellsFaults (result ≡ status_code Status.Done) (result ≡ status_code Status.ConsoleFault) (L.faults console.old) (L.faults console.new) }
 {
     match read_command(alloc, words.as_slice()) {
         Ok(command) => follow(rt, alloc, command, console, shelf, doors).code(),
@@ -83,19 +82,17 @@ fn follow<R: Wait + Sync + Threads, L: Link, S: Shelf, D: Doors + Send>(
     doors: &mut D,
 ) -> Status
     requires { HasBounds command }
-    ensures command { Does (S.Tells shelf.old) (S.Tells shelf.new) (S.content shelf.old) (S.content shelf.new) (S.count shelf.new) (Rose (S.faults shelf.old) (S.faults shelf.new))
-        (doorway_of (D.faults doors.old) (D.faults doors.new) (D.taken doors.old) (D.taken doors.new) (D.is_closed doors.new))
+    ensures command { Does (shelf_step S.Tells S.content S.count S.faults shelf.old shelf.new)
+        (doorway_step D.faults D.taken D.is_closed doors.old doors.new)
         command (status_code result)
-        (console_of (L.unread console.old) (L.unread console.new) (L.written console.old) (L.written console.new)) (Rose (L.faults console.old) (L.faults console.new)) }
+        (console_step L.unread L.written L.faults console.old console.new) }
     ensures reading { (check : KindOnDay) → command ≡ Command.Check check
         → IsReadingTold check (status_code result) (L.unread console.old) (Rose (L.read_faults console.old) (L.read_faults console.new)) }
-    ensures others { OthersStay (store_of command) (S.Tells shelf.old) (S.Tells shelf.new) (S.content shelf.old) (S.content shelf.new) }
+    ensures others { OtherStoresStay (store_of command) (shelf_step S.Tells S.content S.count S.faults shelf.old shelf.new) }
     ensures shelf_stays { store_of command ≡ None → shelf.new ≡ shelf.old }
     ensures doors_stay { ((serve : Serve) → command ≢ Command.Serve serve) → doors.new ≡ doors.old }
     ensures words { result ≢ Status.BadWords }
-    ensures console_fault { result ≡ Status.ConsoleFault → Rose (L.faults console.old) (L.faults console.new) }
-    ensures no_fault { result ≡ Status.Done → L.faults console.new ≡ L.faults console.old }
-    ensures never_falls { L.faults console.old ≤ L.faults console.new }
+    ensures faults { TellsFaults (result ≡ Status.Done) (result ≡ Status.ConsoleFault) (L.faults console.old) (L.faults console.new) }
 {
     match sorted_command(command) {
         Sorted::AtOnce(command) => do_at_once(alloc, &command, console, shelf),
@@ -113,17 +110,15 @@ fn do_at_once<L: Link, S: Shelf>(
     shelf: &mut S,
 ) -> Status
     requires { HasBounds (command_at_once command.now) }
-    ensures command { (doors : Doorway) → Does (S.Tells shelf.old) (S.Tells shelf.new) (S.content shelf.old) (S.content shelf.new) (S.count shelf.new) (Rose (S.faults shelf.old) (S.faults shelf.new)) doors
+    ensures command { (doors : Doorway) → Does (shelf_step S.Tells S.content S.count S.faults shelf.old shelf.new) doors
         (command_at_once command.now) (status_code result)
-        (console_of (L.unread console.old) (L.unread console.new) (L.written console.old) (L.written console.new)) (Rose (L.faults console.old) (L.faults console.new)) }
+        (console_step L.unread L.written L.faults console.old console.new) }
     ensures reading { (check : KindOnDay) → command_at_once command.now ≡ Command.Check check
         → IsReadingTold check (status_code result) (L.unread console.old) (Rose (L.read_faults console.old) (L.read_faults console.new)) }
-    ensures others { OthersStay (store_of (command_at_once command.now)) (S.Tells shelf.old) (S.Tells shelf.new) (S.content shelf.old) (S.content shelf.new) }
+    ensures others { OtherStoresStay (store_of (command_at_once command.now)) (shelf_step S.Tells S.content S.count S.faults shelf.old shelf.new) }
     ensures shelf_stays { store_of (command_at_once command.now) ≡ None → shelf.new ≡ shelf.old }
     ensures words { result ≢ Status.BadWords }
-    ensures console_fault { result ≡ Status.ConsoleFault → Rose (L.faults console.old) (L.faults console.new) }
-    ensures no_fault { result ≡ Status.Done → L.faults console.new ≡ L.faults console.old }
-    ensures never_falls { L.faults console.old ≤ L.faults console.new }
+    ensures faults { TellsFaults (result ≡ Status.Done) (result ≡ Status.ConsoleFault) (L.faults console.old) (L.faults console.new) }
 {
     match command {
         AtOnce::Check(check) => answer_check(alloc, check, console),
@@ -144,17 +139,15 @@ fn do_over_clerk<R: Wait + Sync + Threads, L: Link, S: Shelf, D: Doors + Send>(
     doors: &mut D,
 ) -> Status
     requires { HasBounds (command_over_clerk command.now) }
-    ensures command { Does (S.Tells shelf.old) (S.Tells shelf.new) (S.content shelf.old) (S.content shelf.new) (S.count shelf.new) (Rose (S.faults shelf.old) (S.faults shelf.new))
-        (doorway_of (D.faults doors.old) (D.faults doors.new) (D.taken doors.old) (D.taken doors.new) (D.is_closed doors.new))
+    ensures command { Does (shelf_step S.Tells S.content S.count S.faults shelf.old shelf.new)
+        (doorway_step D.faults D.taken D.is_closed doors.old doors.new)
         (command_over_clerk command.now) (status_code result)
-        (console_of (L.unread console.old) (L.unread console.new) (L.written console.old) (L.written console.new)) (Rose (L.faults console.old) (L.faults console.new)) }
-    ensures others { OthersStay (store_of (command_over_clerk command.now)) (S.Tells shelf.old) (S.Tells shelf.new) (S.content shelf.old) (S.content shelf.new) }
+        (console_step L.unread L.written L.faults console.old console.new) }
+    ensures others { OtherStoresStay (store_of (command_over_clerk command.now)) (shelf_step S.Tells S.content S.count S.faults shelf.old shelf.new) }
     ensures shelf_stays { store_of (command_over_clerk command.now) ≡ None → shelf.new ≡ shelf.old }
     ensures doors_stay { ((serve : Serve) → command_over_clerk command.now ≢ Command.Serve serve) → doors.new ≡ doors.old }
     ensures words { result ≢ Status.BadWords }
-    ensures console_fault { result ≡ Status.ConsoleFault → Rose (L.faults console.old) (L.faults console.new) }
-    ensures no_fault { result ≡ Status.Done → L.faults console.new ≡ L.faults console.old }
-    ensures never_falls { L.faults console.old ≤ L.faults console.new }
+    ensures faults { TellsFaults (result ≡ Status.Done) (result ≡ Status.ConsoleFault) (L.faults console.old) (L.faults console.new) }
 {
     match command {
         OverClerk::Session(session) => answer_session(rt, alloc, session, console, shelf),
@@ -186,19 +179,17 @@ pub fn launch<R: Wait + Sync + Threads, L: Link, S: Shelf, D: Doors + Send>(
     ensures other_words { IfOk words (λ words. command_of (map string_bytes words.items) ≡ None → (L.unread console.new ≡ L.unread console.old)
         × Answers answer_to_other_words result (L.written console.old) (L.written console.new) (Rose (L.faults console.old) (L.faults console.new))) }
     ensures command { IfOk words (λ words. (command : Command) → command_of (map string_bytes words.items) ≡ Some command
-        → Does (S.Tells shelf.old) (S.Tells shelf.new) (S.content shelf.old) (S.content shelf.new) (S.count shelf.new) (Rose (S.faults shelf.old) (S.faults shelf.new))
-        (doorway_of (D.faults doors.old) (D.faults doors.new) (D.taken doors.old) (D.taken doors.new) (D.is_closed doors.new))
+        → Does (shelf_step S.Tells S.content S.count S.faults shelf.old shelf.new)
+        (doorway_step D.faults D.taken D.is_closed doors.old doors.new)
         command result
-        (console_of (L.unread console.old) (L.unread console.new) (L.written console.old) (L.written console.new)) (Rose (L.faults console.old) (L.faults console.new))) }
+        (console_step L.unread L.written L.faults console.old console.new)) }
     ensures reading { IfOk words (λ words. (check : KindOnDay) → command_of (map string_bytes words.items) ≡ Some (Command.Check check)
         → IsReadingTold check result (L.unread console.old) (Rose (L.read_faults console.old) (L.read_faults console.new))) }
-    ensures others { IfOk words (λ words. OthersStay (store_in (map string_bytes words.items)) (S.Tells shelf.old) (S.Tells shelf.new) (S.content shelf.old) (S.content shelf.new)) }
+    ensures others { IfOk words (λ words. OtherStoresStay (store_in (map string_bytes words.items)) (shelf_step S.Tells S.content S.count S.faults shelf.old shelf.new)) }
     ensures shelf_stays { IfOk words (λ words. store_in (map string_bytes words.items) ≡ None → shelf.new ≡ shelf.old) }
     ensures doors_stay { IfOk words (λ words. ((serve : Serve) → command_of (map string_bytes words.items) ≢ Some (Command.Serve serve)) → doors.new ≡ doors.old) }
     ensures known { (status : Status) × (result ≡ status_code status) }
-    ensures console_fault { result ≡ status_code Status.ConsoleFault → Rose (L.faults console.old) (L.faults console.new) }
-    ensures no_fault { result ≡ status_code Status.Done → L.faults console.new ≡ L.faults console.old }
-    ensures never_falls { L.faults console.old ≤ L.faults console.new }
+    ensures faults { TellsFaults (result ≡ status_code Status.Done) (result ≡ status_code Status.ConsoleFault) (L.faults console.old) (L.faults console.new) }
 {
     match words {
         Ok(words) => run(rt, alloc, &words, console, shelf, doors),

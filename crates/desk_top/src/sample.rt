@@ -6,6 +6,7 @@ ghost use Rattle.desk_history.specs.Step.{step};
 ghost use Rattle.desk_model.specs.Start.{start};
 ghost use Rattle.desk_sample.specs.Sample.{sample_edits};
 ghost use Rattle.desk_top.specs.Answer.{Answers, status_code};
+ghost use Rattle.desk_top.specs.Console.{TellsFaults};
 ghost use Rattle.desk_top.specs.Sample.{answer_to_sample};
 ghost use Rattle.desk_words.specs.Commands.{sample_limit};
 
@@ -31,9 +32,7 @@ pub fn answer_sample<L: Link>(alloc: Global, asked: &Sample, console: &mut L) ->
         (L.written console.old) (L.written console.new) (Rose (L.faults console.old) (L.faults console.new)) }
     ensures status { (result ≡ Status.Done) ⊎ (result ≡ Status.ConsoleFault) ⊎ (result ≡ Status.OutOfMemory) }
     ensures input_stays { L.unread console.new ≡ L.unread console.old }
-    ensures console_fault { result ≡ Status.ConsoleFault → Rose (L.faults console.old) (L.faults console.new) }
-    ensures no_fault { result ≡ Status.Done → L.faults console.new ≡ L.faults console.old }
-    ensures never_falls { L.faults console.old ≤ L.faults console.new }
+    ensures faults { TellsFaults (result ≡ Status.Done) (result ≡ Status.ConsoleFault) (L.faults console.old) (L.faults console.new) }
 {
     match sample_engine(alloc, asked.size) {
         Ok(engine) => answer_summary(alloc, &engine, Day::new(2024, 7, 22), console),

@@ -1,15 +1,13 @@
 ghost use Rattle.std.specs.Prelude.{◌≡◌, ◌≢◌, ◌⊎◌, ℕ, ◌≤◌, List, length, None, Some};
 ghost use Rattle.desk_clerk.specs.Clerk.{tables_of};
-ghost use Rattle.desk_clerk.specs.Opening.{IsOpenedAs};
-ghost use Rattle.desk_edge.specs.Content.{Content, IsSame};
-ghost use Rattle.desk_edge.specs.Faults.{Rose};
+ghost use Rattle.desk_edge.specs.Content.{Content};
 ghost use Rattle.desk_engine.specs.Engine.{lists_of};
 ghost use Rattle.desk_top.specs.Answer.{status_code};
-ghost use Rattle.desk_top.specs.Console.{console_of};
-ghost use Rattle.desk_top.specs.Run.{IsServing};
-ghost use Rattle.desk_top.specs.Serve.{EndsServing, WasUnserved, WereServed, doorway_of};
+ghost use Rattle.desk_top.specs.Console.{TellsFaults, console_step};
+ghost use Rattle.desk_top.specs.Run.{IsServing, OtherStoresStay};
+ghost use Rattle.desk_top.specs.Serve.{EndsServing, WasUnserved, WereServed, doorway_step};
 ghost use Rattle.desk_top.specs.Session.{nothing_kept};
-ghost use Rattle.desk_top.specs.Store.{OnStore};
+ghost use Rattle.desk_top.specs.Store.{IsKept, OnStore, shelf_step};
 ghost use Rattle.desk_words.specs.Commands.{HasServeBounds};
 
 use crate::opened_store::{OpenedNaming, OpenedStore};
@@ -42,16 +40,14 @@ pub fn answer_serve<R: Wait + Sync + Threads, L: Link, S: Shelf, D: Doors + Send
     doors: &mut D,
 ) -> Status
     requires { HasServeBounds serve.now }
-    ensures served { IsServing (S.Tells shelf.old) (S.Tells shelf.new) (S.content shelf.old) (S.content shelf.new) (S.count shelf.new) (Rose (S.faults shelf.old) (S.faults shelf.new))
-        serve.now (doorway_of (D.faults doors.old) (D.faults doors.new) (D.taken doors.old) (D.taken doors.new) (D.is_closed doors.new)) (status_code result)
-        (console_of (L.unread console.old) (L.unread console.new) (L.written console.old) (L.written console.new)) (Rose (L.faults console.old) (L.faults console.new)) }
+    ensures served { IsServing (shelf_step S.Tells S.content S.count S.faults shelf.old shelf.new)
+        serve.now (doorway_step D.faults D.taken D.is_closed doors.old doors.new) (status_code result)
+        (console_step L.unread L.written L.faults console.old console.new) }
     ensures shelf_stays { serve.now.store ≡ None → shelf.new ≡ shelf.old }
-    ensures others { (other : List ℕ) → serve.now.store ≢ Some other → S.Tells shelf.new other
-        → S.Tells shelf.old other × IsSame (S.content shelf.old other) (S.content shelf.new other) }
+    ensures others { OtherStoresStay serve.now.store (shelf_step S.Tells S.content S.count S.faults shelf.old shelf.new) }
     ensures words { result ≢ Status.BadWords }
     ensures console_fault { result ≢ Status.ConsoleFault }
-    ensures no_fault { result ≡ Status.Done → L.faults console.new ≡ L.faults console.old }
-    ensures never_falls { L.faults console.old ≤ L.faults console.new }
+    ensures faults { TellsFaults (result ≡ Status.Done) ⊥ (L.faults console.old) (L.faults console.new) }
 {
     match &serve.store {
         Some(name) => serve_store(rt, alloc, serve, name.as_slice(), console, shelf, doors),
@@ -70,15 +66,13 @@ fn serve_store<R: Wait + Sync + Threads, L: Link, S: Shelf, D: Doors + Send>(
     doors: &mut D,
 ) -> Status
     requires { HasServeBounds serve.now }
-    ensures stored { OnStore (S.Tells shelf.old) (S.Tells shelf.new) (S.content shelf.old) (S.content shelf.new) (S.count shelf.new) (Rose (S.faults shelf.old) (S.faults shelf.new))
-        (EndsServing serve.now.connections (doorway_of (D.faults doors.old) (D.faults doors.new) (D.taken doors.old) (D.taken doors.new) (D.is_closed doors.new))) name.now (status_code result)
-        (console_of (L.unread console.old) (L.unread console.new) (L.written console.old) (L.written console.new)) (Rose (L.faults console.old) (L.faults console.new)) }
-    ensures others { (other : List ℕ) → other ≢ name.now → S.Tells shelf.new other
-        → S.Tells shelf.old other × IsSame (S.content shelf.old other) (S.content shelf.new other) }
+    ensures stored { OnStore (shelf_step S.Tells S.content S.count S.faults shelf.old shelf.new)
+        (EndsServing serve.now.connections (doorway_step D.faults D.taken D.is_closed doors.old doors.new)) name.now (status_code result)
+        (console_step L.unread L.written L.faults console.old console.new) }
+    ensures others { (other : List ℕ) → other ≢ name.now → IsKept (shelf_step S.Tells S.content S.count S.faults shelf.old shelf.new) other }
     ensures words { result ≢ Status.BadWords }
     ensures console_fault { result ≢ Status.ConsoleFault }
-    ensures no_fault { result ≡ Status.Done → L.faults console.new ≡ L.faults console.old }
-    ensures never_falls { L.faults console.old ≤ L.faults console.new }
+    ensures faults { TellsFaults (result ≡ Status.Done) ⊥ (L.faults console.old) (L.faults console.new) }
 {
     let desk = match open_desk(alloc, name, console, shelf) {
         Ok(desk) => desk,
@@ -98,12 +92,11 @@ fn serve_new<R: Wait + Sync + Threads, L: Link, D: Doors + Send>(
     doors: &mut D,
 ) -> Status
     requires { HasServeBounds serve.now }
-    ensures unstored { (keeps : Content) × EndsServing serve.now.connections (doorway_of (D.faults doors.old) (D.faults doors.new) (D.taken doors.old) (D.taken doors.new) (D.is_closed doors.new)) (Unit {0}) nothing_kept keeps 0 (status_code result)
-        (console_of (L.unread console.old) (L.unread console.new) (L.written console.old) (L.written console.new)) (Rose (L.faults console.old) (L.faults console.new)) }
+    ensures unstored { (keeps : Content) × EndsServing serve.now.connections (doorway_step D.faults D.taken D.is_closed doors.old doors.new) (Unit {0}) nothing_kept keeps 0 (status_code result)
+        (console_step L.unread L.written L.faults console.old console.new) }
     ensures words { result ≢ Status.BadWords }
     ensures console_fault { result ≢ Status.ConsoleFault }
-    ensures no_fault { result ≡ Status.Done → L.faults console.new ≡ L.faults console.old }
-    ensures never_falls { L.faults console.old ≤ L.faults console.new }
+    ensures faults { TellsFaults (result ≡ Status.Done) ⊥ (L.faults console.old) (L.faults console.new) }
 {
     match open_keeper(alloc, SureKeeper::new(alloc), console) {
         Ok(desk) => serve_desk(rt, alloc, serve, desk, console, doors).0,
@@ -121,15 +114,14 @@ fn serve_desk<R: Wait + Sync + Threads, L: Link, K: Keeper + Send, D: Doors + Se
     doors: &mut D,
 ) -> (Status, K)
     requires { HasServeBounds serve.now }
-    ensures served { WereServed serve.now.connections (K.Tells result.1) (K.content result.1) (tables_of desk) (status_code result.0) (doorway_of (D.faults doors.old) (D.faults doors.new) (D.taken doors.old) (D.taken doors.new) (D.is_closed doors.new))
-        (console_of (L.unread console.old) (L.unread console.new) (L.written console.old) (L.written console.new)) (Rose (L.faults console.old) (L.faults console.new))
-        ⊎ WasUnserved (K.Tells result.1) (K.content result.1) (tables_of desk) result.0 (doorway_of (D.faults doors.old) (D.faults doors.new) (D.taken doors.old) (D.taken doors.new) (D.is_closed doors.new))
-        (console_of (L.unread console.old) (L.unread console.new) (L.written console.old) (L.written console.new)) (Rose (L.faults console.old) (L.faults console.new)) }
+    ensures served { WereServed serve.now.connections (K.Tells result.1) (K.content result.1) (tables_of desk) (status_code result.0) (doorway_step D.faults D.taken D.is_closed doors.old doors.new)
+        (console_step L.unread L.written L.faults console.old console.new)
+        ⊎ WasUnserved (K.Tells result.1) (K.content result.1) (tables_of desk) result.0 (doorway_step D.faults D.taken D.is_closed doors.old doors.new)
+        (console_step L.unread L.written L.faults console.old console.new) }
     ensures told { K.Tells result.1 → K.Tells desk.keeper }
     ensures words { result.0 ≢ Status.BadWords }
     ensures console_fault { result.0 ≢ Status.ConsoleFault }
-    ensures no_fault { result.0 ≡ Status.Done → L.faults console.new ≡ L.faults console.old }
-    ensures never_falls { L.faults console.old ≤ L.faults console.new }
+    ensures faults { TellsFaults (result.0 ≡ Status.Done) ⊥ (L.faults console.old) (L.faults console.new) }
 {
     serve_named::<R, L, K, D, Brand, Brand>(
         rt,
@@ -163,15 +155,14 @@ fn serve_named<
     requires book { blank ≡ J.book }
     requires opening { lists_of J.opening.engine ≡ tables_of desk }
     requires told { K.Tells desk.keeper → N.Told }
-    ensures served { WereServed serve.now.connections (K.Tells result.1) (K.content result.1) (tables_of desk) (status_code result.0) (doorway_of (D.faults doors.old) (D.faults doors.new) (D.taken doors.old) (D.taken doors.new) (D.is_closed doors.new))
-        (console_of (L.unread console.old) (L.unread console.new) (L.written console.old) (L.written console.new)) (Rose (L.faults console.old) (L.faults console.new))
-        ⊎ WasUnserved (K.Tells result.1) (K.content result.1) (tables_of desk) result.0 (doorway_of (D.faults doors.old) (D.faults doors.new) (D.taken doors.old) (D.taken doors.new) (D.is_closed doors.new))
-        (console_of (L.unread console.old) (L.unread console.new) (L.written console.old) (L.written console.new)) (Rose (L.faults console.old) (L.faults console.new)) }
+    ensures served { WereServed serve.now.connections (K.Tells result.1) (K.content result.1) (tables_of desk) (status_code result.0) (doorway_step D.faults D.taken D.is_closed doors.old doors.new)
+        (console_step L.unread L.written L.faults console.old console.new)
+        ⊎ WasUnserved (K.Tells result.1) (K.content result.1) (tables_of desk) result.0 (doorway_step D.faults D.taken D.is_closed doors.old doors.new)
+        (console_step L.unread L.written L.faults console.old console.new) }
     ensures told { K.Tells result.1 → N.Told }
     ensures words { result.0 ≢ Status.BadWords }
     ensures console_fault { result.0 ≢ Status.ConsoleFault }
-    ensures no_fault { result.0 ≡ Status.Done → L.faults console.new ≡ L.faults console.old }
-    ensures never_falls { L.faults console.old ≤ L.faults console.new }
+    ensures faults { TellsFaults (result.0 ≡ Status.Done) ⊥ (L.faults console.old) (L.faults console.new) }
 {
     let (engine, keeper) = desk.into_parts();
     let store = OpenedStore::<K, N>::new(keeper);
@@ -199,13 +190,12 @@ fn serve_opened<
     doors: &mut D,
 ) -> (Status, K)
     requires { 1 ≤ length opened.seats.items }
-    ensures served { WereServed serve.now.connections (K.Tells result.1) (K.content result.1) (lists_of J.opening.engine) (status_code result.0) (doorway_of (D.faults doors.old) (D.faults doors.new) (D.taken doors.old) (D.taken doors.new) (D.is_closed doors.new))
-        (console_of (L.unread console.old) (L.unread console.new) (L.written console.old) (L.written console.new)) (Rose (L.faults console.old) (L.faults console.new)) }
+    ensures served { WereServed serve.now.connections (K.Tells result.1) (K.content result.1) (lists_of J.opening.engine) (status_code result.0) (doorway_step D.faults D.taken D.is_closed doors.old doors.new)
+        (console_step L.unread L.written L.faults console.old console.new) }
     ensures told { K.Tells result.1 → N.Told }
     ensures words { result.0 ≢ Status.BadWords }
     ensures console_fault { result.0 ≢ Status.ConsoleFault }
-    ensures no_fault { result.0 ≡ Status.Done → L.faults console.new ≡ L.faults console.old }
-    ensures never_falls { L.faults console.old ≤ L.faults console.new }
+    ensures faults { TellsFaults (result.0 ≡ Status.Done) ⊥ (L.faults console.old) (L.faults console.new) }
 {
     let Opened {
         mut clerk,

@@ -1,7 +1,7 @@
 //! The connections that come through doors, each served from one of several seats in threads of their own.
 ghost use Rattle.std.specs.Prelude.{◌≡◌, ◌+◌, ◌≤◌, length, true, IfSome};
 ghost use Rattle.desk_edge.specs.Faults.{Rose};
-ghost use Rattle.desk_top.specs.Serve.{IsServedOut, doorway_of};
+ghost use Rattle.desk_top.specs.Serve.{IsServedOut, doorway_step};
 
 use crate::limited_doors::LimitedDoors;
 use desk_clerk::{Clerk, DeskBoard, DeskSeat};
@@ -39,7 +39,7 @@ pub(crate) fn serve_doors<
 ) -> DoorsEnd
     requires { 1 ≤ length seats.old }
     ensures served_out { result ≡ DoorsEnd.ServedOut
-        → IsServedOut wanted (doorway_of (D.faults doors.old) (D.faults doors.new) (D.taken doors.old) (D.taken doors.new) (D.is_closed doors.new)) }
+        → IsServedOut wanted (doorway_step D.faults D.taken D.is_closed doors.old doors.new) }
     ensures fault { result ≡ DoorsEnd.Fault → Rose (D.faults doors.old) (D.faults doors.new) }
 {
     let (faults, taken) = (doors.faults(), doors.taken());
@@ -98,7 +98,7 @@ fn serve_round<
 /// Whether there is an end to serve connections, and which: these doors had counted so many faults and given so many lines before.
 fn end_of<D: Doors>(doors: &D, faults: u64, taken: u64, wanted: Option<u32>) -> Option<DoorsEnd>
     ensures served_out { IfSome result (λ end. end ≡ DoorsEnd.ServedOut
-        → IsServedOut wanted (doorway_of faults (D.faults doors.now) taken (D.taken doors.now) (D.is_closed doors.now))) }
+        → IsServedOut wanted (record { faults_before = faults; faults = D.faults doors.now; taken_before = taken; taken = D.taken doors.now; is_closed = D.is_closed doors.now })) }
     ensures fault { IfSome result (λ end. end ≡ DoorsEnd.Fault → Rose faults (D.faults doors.now)) }
 {
     let counted = doors.faults();

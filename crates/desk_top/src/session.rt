@@ -1,15 +1,15 @@
-ghost use Rattle.std.specs.Prelude.{◌≡◌, ◌≢◌, ◌⊎◌, ℕ, ◌≤◌, List, None, Some};
+ghost use Rattle.std.specs.Prelude.{◌≡◌, ◌≢◌, ◌⊎◌, ℕ, List, None, Some};
 ghost use Rattle.std.specs.Io.KnownBytes.{Keeps};
-ghost use Rattle.desk_clerk.specs.Clerk.{tables_of, whole};
+ghost use Rattle.desk_clerk.specs.Clerk.{tables_of};
 ghost use Rattle.desk_engine.specs.Engine.{lists_of};
 ghost use Rattle.desk_edge.specs.Content.{Content, IsSame};
 ghost use Rattle.desk_edge.specs.Faults.{Rose};
 ghost use Rattle.desk_records.specs.Records.{tables_content};
 ghost use Rattle.desk_top.specs.Answer.{Answers, answer_without_memory, status_code};
-ghost use Rattle.desk_top.specs.Console.{console_of};
-ghost use Rattle.desk_top.specs.Run.{IsSession};
+ghost use Rattle.desk_top.specs.Console.{TellsFaults, console_step};
+ghost use Rattle.desk_top.specs.Run.{IsSession, OtherStoresStay};
 ghost use Rattle.desk_top.specs.Session.{EndsSession, WasServed, nothing_kept, exit_status_of};
-ghost use Rattle.desk_top.specs.Store.{OnStore};
+ghost use Rattle.desk_top.specs.Store.{IsKept, OnStore, shelf_step};
 
 use crate::status::Status;
 use crate::store::{open_desk, open_keeper};
@@ -36,16 +36,13 @@ pub fn answer_session<R: Wait + Sync, L: Link, S: Shelf>(
     link: &mut L,
     shelf: &mut S,
 ) -> Status
-    ensures served { IsSession (S.Tells shelf.old) (S.Tells shelf.new) (S.content shelf.old) (S.content shelf.new) (S.count shelf.new) (Rose (S.faults shelf.old) (S.faults shelf.new))
+    ensures served { IsSession (shelf_step S.Tells S.content S.count S.faults shelf.old shelf.new)
         session.now.store (status_code result)
-        (console_of (L.unread link.old) (L.unread link.new) (L.written link.old) (L.written link.new)) (Rose (L.faults link.old) (L.faults link.new)) }
+        (console_step L.unread L.written L.faults link.old link.new) }
     ensures shelf_stays { session.now.store ≡ None → shelf.new ≡ shelf.old }
-    ensures others { (other : List ℕ) → session.now.store ≢ Some other → S.Tells shelf.new other
-        → S.Tells shelf.old other × IsSame (S.content shelf.old other) (S.content shelf.new other) }
+    ensures others { OtherStoresStay session.now.store (shelf_step S.Tells S.content S.count S.faults shelf.old shelf.new) }
     ensures words { result ≢ Status.BadWords }
-    ensures console_fault { result ≡ Status.ConsoleFault → Rose (L.faults link.old) (L.faults link.new) }
-    ensures no_fault { result ≡ Status.Done → L.faults link.new ≡ L.faults link.old }
-    ensures never_falls { L.faults link.old ≤ L.faults link.new }
+    ensures faults { TellsFaults (result ≡ Status.Done) (result ≡ Status.ConsoleFault) (L.faults link.old) (L.faults link.new) }
 {
     match &session.store {
         Some(name) => serve_store(rt, alloc, name.as_slice(), link, shelf),
@@ -61,15 +58,12 @@ fn serve_store<R: Wait + Sync, L: Link, S: Shelf>(
     link: &mut L,
     shelf: &mut S,
 ) -> Status
-    ensures stored { OnStore (S.Tells shelf.old) (S.Tells shelf.new) (S.content shelf.old) (S.content shelf.new) (S.count shelf.new) (Rose (S.faults shelf.old) (S.faults shelf.new))
+    ensures stored { OnStore (shelf_step S.Tells S.content S.count S.faults shelf.old shelf.new)
         EndsSession name.now (status_code result)
-        (console_of (L.unread link.old) (L.unread link.new) (L.written link.old) (L.written link.new)) (Rose (L.faults link.old) (L.faults link.new)) }
-    ensures others { (other : List ℕ) → other ≢ name.now → S.Tells shelf.new other
-        → S.Tells shelf.old other × IsSame (S.content shelf.old other) (S.content shelf.new other) }
+        (console_step L.unread L.written L.faults link.old link.new) }
+    ensures others { (other : List ℕ) → other ≢ name.now → IsKept (shelf_step S.Tells S.content S.count S.faults shelf.old shelf.new) other }
     ensures words { result ≢ Status.BadWords }
-    ensures console_fault { result ≡ Status.ConsoleFault → Rose (L.faults link.old) (L.faults link.new) }
-    ensures no_fault { result ≡ Status.Done → L.faults link.new ≡ L.faults link.old }
-    ensures never_falls { L.faults link.old ≤ L.faults link.new }
+    ensures faults { TellsFaults (result ≡ Status.Done) (result ≡ Status.ConsoleFault) (L.faults link.old) (L.faults link.new) }
 {
     let desk = match open_desk(alloc, name, link, shelf) {
         Ok(desk) => desk,
@@ -83,11 +77,9 @@ fn serve_store<R: Wait + Sync, L: Link, S: Shelf>(
 /// Serves the stream over a new desk, which ends with the session.
 fn serve_new<R: Wait + Sync, L: Link>(rt: &R, alloc: Global, link: &mut L) -> Status
     ensures unstored { (keeps : Content) × EndsSession (Unit {0}) nothing_kept keeps 0 (status_code result)
-        (console_of (L.unread link.old) (L.unread link.new) (L.written link.old) (L.written link.new)) (Rose (L.faults link.old) (L.faults link.new)) }
+        (console_step L.unread L.written L.faults link.old link.new) }
     ensures words { result ≢ Status.BadWords }
-    ensures console_fault { result ≡ Status.ConsoleFault → Rose (L.faults link.old) (L.faults link.new) }
-    ensures no_fault { result ≡ Status.Done → L.faults link.new ≡ L.faults link.old }
-    ensures never_falls { L.faults link.old ≤ L.faults link.new }
+    ensures faults { TellsFaults (result ≡ Status.Done) (result ≡ Status.ConsoleFault) (L.faults link.old) (L.faults link.new) }
 {
     match open_keeper(alloc, SureKeeper::new(alloc), link) {
         Ok(desk) => serve_desk(rt, alloc, desk, link).0,
@@ -105,15 +97,13 @@ fn serve_desk<R: Wait + Sync, L: Link, K: Keeper>(
     requires { K.faults desk.keeper ≡ 0 }
     ensures served { ((served : Served) × (result.0 ≡ exit_status_of served)
         × WasServed (K.Tells result.1) (K.content result.1) (K.faults result.1) (tables_of desk) served
-        (console_of (L.unread link.old) (L.unread link.new) (L.written link.old) (L.written link.new)))
+        (console_step L.unread L.written L.faults link.old link.new))
         ⊎ ((result.0 ≡ Status.OutOfMemory) × (K.Tells result.1 → IsSame (tables_content (tables_of desk)) (K.content result.1))
         × Keeps (L.unread link.old) (L.unread link.new)
         × Answers answer_without_memory (status_code result.0) (L.written link.old) (L.written link.new) (Rose (L.faults link.old) (L.faults link.new))) }
     ensures told { K.Tells result.1 → K.Tells desk.keeper }
     ensures words { result.0 ≢ Status.BadWords }
-    ensures console_fault { result.0 ≡ Status.ConsoleFault → Rose (L.faults link.old) (L.faults link.new) }
-    ensures no_fault { result.0 ≡ Status.Done → L.faults link.new ≡ L.faults link.old }
-    ensures never_falls { L.faults link.old ≤ L.faults link.new }
+    ensures faults { TellsFaults (result.0 ≡ Status.Done) (result.0 ≡ Status.ConsoleFault) (L.faults link.old) (L.faults link.new) }
 {
     serve_named::<R, L, K, Brand>(rt, alloc, BlankBook::new(), desk, link)
 }
@@ -131,15 +121,13 @@ fn serve_named<R: Wait + Sync, L: Link, K: Keeper, J: Naming<DeskBoard>>(
     requires opening { lists_of J.opening.engine ≡ tables_of desk }
     ensures served { ((served : Served) × (result.0 ≡ exit_status_of served)
         × WasServed (K.Tells result.1) (K.content result.1) (K.faults result.1) (tables_of desk) served
-        (console_of (L.unread link.old) (L.unread link.new) (L.written link.old) (L.written link.new)))
+        (console_step L.unread L.written L.faults link.old link.new))
         ⊎ ((result.0 ≡ Status.OutOfMemory) × (K.Tells result.1 → IsSame (tables_content (tables_of desk)) (K.content result.1))
         × Keeps (L.unread link.old) (L.unread link.new)
         × Answers answer_without_memory (status_code result.0) (L.written link.old) (L.written link.new) (Rose (L.faults link.old) (L.faults link.new))) }
     ensures told { K.Tells result.1 → K.Tells desk.keeper }
     ensures words { result.0 ≢ Status.BadWords }
-    ensures console_fault { result.0 ≡ Status.ConsoleFault → Rose (L.faults link.old) (L.faults link.new) }
-    ensures no_fault { result.0 ≡ Status.Done → L.faults link.new ≡ L.faults link.old }
-    ensures never_falls { L.faults link.old ≤ L.faults link.new }
+    ensures faults { TellsFaults (result.0 ≡ Status.Done) (result.0 ≡ Status.ConsoleFault) (L.faults link.old) (L.faults link.new) }
 {
     // The call says that the tables are sound.
     desk.tables();

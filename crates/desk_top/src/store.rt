@@ -4,8 +4,8 @@ ghost use Rattle.desk_clerk.specs.Opening.{IsOpenedAs};
 ghost use Rattle.desk_edge.specs.Content.{IsSame};
 ghost use Rattle.desk_edge.specs.Faults.{Rose};
 ghost use Rattle.desk_top.specs.Answer.{Answers, answer_of_opening, answer_to_damage, answer_to_store_fault, answer_without_memory, status_code};
-ghost use Rattle.desk_top.specs.Console.{console_of};
-ghost use Rattle.desk_top.specs.Store.{OnStore, WasNotBegun};
+ghost use Rattle.desk_top.specs.Console.{console_step};
+ghost use Rattle.desk_top.specs.Store.{IsKept, OnStore, WasNotBegun, shelf_step};
 
 use crate::status::Status;
 use crate::tell::{answer_no_memory, answer_store_fault, tell};
@@ -30,11 +30,9 @@ pub fn open_desk<L: Link, S: Shelf>(
     ensures fresh { IfOk result (λ desk. S.Store.Keeper.faults desk.keeper ≡ 0) }
     ensures counted { OnOk result (S.faults shelf.new ≡ S.faults shelf.old) }
     ensures untouched { OnOk result (console.new ≡ console.old) }
-    ensures unopened { IfErr result (λ status. OnStore (S.Tells shelf.old) (S.Tells shelf.new) (S.content shelf.old) (S.content shelf.new)
-        (S.count shelf.new) (Rose (S.faults shelf.old) (S.faults shelf.new)) WasNotBegun name.now (status_code status)
-        (console_of (L.unread console.old) (L.unread console.new) (L.written console.old) (L.written console.new)) (Rose (L.faults console.old) (L.faults console.new))) }
-    ensures others { (other : List ℕ) → other ≢ name.now → S.Tells shelf.new other
-        → S.Tells shelf.old other × IsSame (S.content shelf.old other) (S.content shelf.new other) }
+    ensures unopened { IfErr result (λ status. OnStore (shelf_step S.Tells S.content S.count S.faults shelf.old shelf.new) WasNotBegun name.now (status_code status)
+        (console_step L.unread L.written L.faults console.old console.new)) }
+    ensures others { (other : List ℕ) → other ≢ name.now → IsKept (shelf_step S.Tells S.content S.count S.faults shelf.old shelf.new) other }
     ensures status { IfErr result (λ status. (status ≢ Status.Done) × (status ≢ Status.BadWords) × (status ≢ Status.ConsoleFault)) }
     ensures never_falls { L.faults console.old ≤ L.faults console.new }
 {
@@ -71,8 +69,7 @@ pub fn open_store<L: Link, S: Shelf>(
         (L.written console.old) (L.written console.new) (Rose (L.faults console.old) (L.faults console.new))) }
     ensures memory_line { IfErr result (λ status. status ≡ Status.OutOfMemory → Answers answer_without_memory (status_code status)
         (L.written console.old) (L.written console.new) (Rose (L.faults console.old) (L.faults console.new))) }
-    ensures others { (other : List ℕ) → S.Tells shelf.new other
-        → S.Tells shelf.old other × IsSame (S.content shelf.old other) (S.content shelf.new other) }
+    ensures others { (other : List ℕ) → IsKept (shelf_step S.Tells S.content S.count S.faults shelf.old shelf.new) other }
     ensures input_stays { L.unread console.new ≡ L.unread console.old }
     ensures never_falls { L.faults console.old ≤ L.faults console.new }
 {
@@ -97,7 +94,7 @@ pub fn open_keeper<L: Link, K: Keeper>(
     ensures untouched { OnOk result (console.new ≡ console.old) }
     ensures handed_back { IfErr result (λ refused. K.Tells refused.1 → K.Tells keeper × IsSame (K.content keeper) (K.content refused.1)) }
     ensures unopened { IfErr result (λ refused. WasNotBegun (K.Tells refused.1) (K.content keeper) (K.content refused.1) (K.faults refused.1) (status_code refused.0)
-        (console_of (L.unread console.old) (L.unread console.new) (L.written console.old) (L.written console.new)) (Rose (L.faults console.old) (L.faults console.new))) }
+        (console_step L.unread L.written L.faults console.old console.new)) }
     ensures status { IfErr result (λ refused. (refused.0 ≢ Status.Done) × (refused.0 ≢ Status.BadWords) × (refused.0 ≢ Status.ConsoleFault)) }
     ensures never_falls { L.faults console.old ≤ L.faults console.new }
 {

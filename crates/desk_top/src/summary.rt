@@ -1,8 +1,9 @@
-ghost use Rattle.std.specs.Prelude.{◌≡◌, ◌⊎◌, ◌≤◌, true};
+ghost use Rattle.std.specs.Prelude.{◌≡◌, ◌⊎◌, true};
 ghost use Rattle.desk_edge.specs.Faults.{Rose};
 ghost use Rattle.desk_engine.specs.Engine.{lists_of};
 ghost use Rattle.desk_text.specs.Day.{is_askable};
 ghost use Rattle.desk_top.specs.Answer.{Answers, answer_of_summary, status_code};
+ghost use Rattle.desk_top.specs.Console.{TellsFaults};
 
 use crate::status::Status;
 use crate::tell::{answer_no_memory, write_text};
@@ -19,9 +20,7 @@ pub fn answer_summary<L: Link>(alloc: Global, engine: &Engine, day: Day, console
         (L.written console.old) (L.written console.new) (Rose (L.faults console.old) (L.faults console.new)) }
     ensures status { (result ≡ Status.Done) ⊎ (result ≡ Status.ConsoleFault) ⊎ (result ≡ Status.OutOfMemory) }
     ensures input_stays { L.unread console.new ≡ L.unread console.old }
-    ensures console_fault { result ≡ Status.ConsoleFault → Rose (L.faults console.old) (L.faults console.new) }
-    ensures no_fault { result ≡ Status.Done → L.faults console.new ≡ L.faults console.old }
-    ensures never_falls { L.faults console.old ≤ L.faults console.new }
+    ensures faults { TellsFaults (result ≡ Status.Done) (result ≡ Status.ConsoleFault) (L.faults console.old) (L.faults console.new) }
 {
     let mut text = Bytes::start(alloc);
     match engine.answer_uncounted(alloc, &Question::Summary { day }, &mut text) {

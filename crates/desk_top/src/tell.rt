@@ -1,8 +1,9 @@
-ghost use Rattle.std.specs.Prelude.{◌≡◌, ◌⊎◌, ◌≤◌, ◌++◌, codes, decimal, OnErr, OnOk};
+ghost use Rattle.std.specs.Prelude.{◌≡◌, ◌⊎◌, ◌≤◌, ◌++◌, codes, decimal, OnErr, OnOk, IsErr};
 ghost use Rattle.std.specs.Io.KnownBytes.{Appends};
-ghost use Rattle.desk_edge.specs.Faults.{Rose};
+ghost use Rattle.desk_edge.specs.Faults.{CountsFaults, Rose};
 ghost use Rattle.desk_edge.specs.Transfer.{AppendsBeginning, AppendsPart};
 ghost use Rattle.desk_top.specs.Answer.{Answers, answer_to_doors_fault, answer_to_other_words, answer_to_store_fault, answer_to_unread_words, answer_without_memory, status_code};
+ghost use Rattle.desk_top.specs.Console.{TellsFaults};
 
 use crate::program_words::WordsFault;
 use crate::status::Status;
@@ -87,9 +88,7 @@ pub fn write_text<L: Link>(console: &mut L, text: &[u8]) -> Status
     ensures answer { Answers (record { status = Status.Done; text = text.now }) (status_code result)
         (L.written console.old) (L.written console.new) (Rose (L.faults console.old) (L.faults console.new)) }
     ensures input_stays { L.unread console.new ≡ L.unread console.old }
-    ensures console_fault { result ≡ Status.ConsoleFault → Rose (L.faults console.old) (L.faults console.new) }
-    ensures no_fault { result ≡ Status.Done → L.faults console.new ≡ L.faults console.old }
-    ensures never_falls { L.faults console.old ≤ L.faults console.new }
+    ensures faults { TellsFaults (result ≡ Status.Done) (result ≡ Status.ConsoleFault) (L.faults console.old) (L.faults console.new) }
 {
     match write_all(console, text) {
         Ok(()) => Status::Done,
@@ -104,9 +103,7 @@ pub fn write_numbered<L: Link>(console: &mut L, words: &[u8], number: u64) -> Re
     ensures err { OnErr result (AppendsPart (L.written console.old) (L.written console.new) (words.now ++ decimal number ++ codes "\n")) }
     ensures beginning { AppendsBeginning (L.written console.old) (L.written console.new) (words.now ++ decimal number ++ codes "\n") }
     ensures input_stays { L.unread console.new ≡ L.unread console.old }
-    ensures steady { OnOk result (L.faults console.new ≡ L.faults console.old) }
-    ensures failed { OnErr result (Rose (L.faults console.old) (L.faults console.new)) }
-    ensures never_falls { L.faults console.old ≤ L.faults console.new }
+    ensures faults { CountsFaults (IsErr result) (L.faults console.old) (L.faults console.new) }
 {
     write_all(console, words)?;
     let mut digits = Buffer::new();

@@ -16,7 +16,7 @@ returns-in-Ok-Accepted-clause-ok g c =
     let edited : IsEdited old c.args.edit answer c.truncate.new.self c.edit.new.out new = record {
       begins = c.in-Ok-Accepted.ensures.grown;
       answers = c.in-Ok-Accepted.ensures.answer;
-      counted = c.edit.ensures.never_falls;
+      counted = c.edit.ensures.faults.never_falls;
       given = c.in-Ok-Accepted.ensures.given;
     } in
     on_ok_weaker c.tell.result
@@ -36,7 +36,7 @@ returns-in-Ok-Accepted-clause-fixed g c =
     let edited : IsEdited old c.args.edit answer c.truncate.new.self c.edit.new.out new = record {
       begins = c.in-Ok-Accepted.ensures.grown;
       answers = c.in-Ok-Accepted.ensures.answer;
-      counted = c.edit.ensures.never_falls;
+      counted = c.edit.ensures.faults.never_falls;
       given = c.in-Ok-Accepted.ensures.given;
     } in
     if_err_weaker (λ told. told ≡ refusal.Memory) _ c.tell.result
@@ -52,7 +52,7 @@ returns-in-Ok-Refused-clause-ok g c =
     let edited : IsEdited old c.args.edit answer c.truncate.new.self c.edit.new.out new = record {
       begins = c.in-Ok-Refused.ensures.grown;
       answers = c.in-Ok-Refused.ensures.answer;
-      counted = c.edit.ensures.never_falls;
+      counted = c.edit.ensures.faults.never_falls;
       given = c.in-Ok-Refused.ensures.given;
     } in
     on_ok_weaker c.tell-in-Ok-Refused.result
@@ -72,7 +72,7 @@ returns-in-Ok-Refused-clause-fixed g c =
     let edited : IsEdited old c.args.edit answer c.truncate.new.self c.edit.new.out new = record {
       begins = c.in-Ok-Refused.ensures.grown;
       answers = c.in-Ok-Refused.ensures.answer;
-      counted = c.edit.ensures.never_falls;
+      counted = c.edit.ensures.faults.never_falls;
       given = c.in-Ok-Refused.ensures.given;
     } in
     if_err_weaker (λ told. told ≡ refusal.Memory) _ c.tell-in-Ok-Refused.result
@@ -83,11 +83,11 @@ pub returns-in-Err-KeeperFault-clause-fixed : goal.returns-in-Err-KeeperFault-cl
 returns-in-Err-KeeperFault-clause-fixed g c =
     let stays = c.in-Err-KeeperFault.ensures.err in
     says_failed g.E.Editor.NeverFails (g.S.Seat.list c.args.seat.now) (g.S.Seat.list c.edit.new.seat) (g.E.Editor.faults c.args.editor.now) (g.E.Editor.faults c.edit.new.self)
-    (g.E.Editor.given c.args.editor.now) (g.E.Editor.given c.edit.new.self) c.args.edit c.args.close (ap g.S.Seat.list stays.1) c.edit.ensures.never_falls stays.2
-    (c.in-Err-KeeperFault.ensures.failed c.in-Err-KeeperFault.field-0-is) (λ never. c.in-Err-KeeperFault.ensures.sure never (ap Err c.in-Err-KeeperFault.field-0-is))
+    (g.E.Editor.given c.args.editor.now) (g.E.Editor.given c.edit.new.self) c.args.edit c.args.close (ap g.S.Seat.list stays.1) c.edit.ensures.faults.never_falls stays.2
+    (c.in-Err-KeeperFault.ensures.faults.rises (ap Err c.in-Err-KeeperFault.field-0-is)) (λ never. c.in-Err-KeeperFault.ensures.sure never (ap Err c.in-Err-KeeperFault.field-0-is))
 
 pub returns-in-Err-OutOfMemory-clause-fixed : goal.returns-in-Err-OutOfMemory-clause-fixed
 returns-in-Err-OutOfMemory-clause-fixed g c =
     let stays = c.in-Err-OutOfMemory.ensures.err in
     says_unmade g.E.Editor.NeverFails (g.S.Seat.list c.args.seat.now) (g.S.Seat.list c.edit.new.seat) (g.E.Editor.faults c.args.editor.now) (g.E.Editor.faults c.edit.new.self)
-    (g.E.Editor.given c.args.editor.now) (g.E.Editor.given c.edit.new.self) c.args.edit c.args.close (ap g.S.Seat.list stays.1) c.edit.ensures.never_falls stays.2
+    (g.E.Editor.given c.args.editor.now) (g.E.Editor.given c.edit.new.self) c.args.edit c.args.close (ap g.S.Seat.list stays.1) c.edit.ensures.faults.never_falls stays.2

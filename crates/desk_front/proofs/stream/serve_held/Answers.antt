@@ -44,7 +44,7 @@ returns-then-count-eq0-clause-served g c =
     let asked = service c.reads.answerer c.reads.waiting (g.L.Link.written c.reads.link) (g.L.Link.faults c.reads.link) in
     let mid = service c.reads.answerer c.reads.waiting (g.L.Link.written c.read_from.new.link) (g.L.Link.faults c.read_from.new.link) in
     let same = same_service c.reads.answerer c.reads.waiting (g.L.Link.written c.reads.link) (g.L.Link.written c.read_from.new.link) (g.L.Link.faults c.reads.link) (g.L.Link.faults c.read_from.new.link)
-    c.read_from.ensures.output_stays c.in-Ok.ensures.steady
+    c.read_from.ensures.output_stays (c.in-Ok.ensures.faults.steady (λ failed. cc))
     in
     let x = subst (λ s. Reading R c.reads.left unread before old s c.reads.held) same c.reads.invariant in
     let within : c.min-most.result ≤ c.reads.left = omega (arith, c.min-most.ensures) in
@@ -62,7 +62,7 @@ reads-preserved g c =
     let mid = service c.reads.answerer c.reads.waiting (g.L.Link.written c.read_from.new.link) (g.L.Link.faults c.read_from.new.link) in
     let new = service c.answer_held.new.answerer c.answer_held.new.waiting (g.L.Link.written c.answer_held.new.link) (g.L.Link.faults c.answer_held.new.link) in
     let same = same_service c.reads.answerer c.reads.waiting (g.L.Link.written c.reads.link) (g.L.Link.written c.read_from.new.link) (g.L.Link.faults c.reads.link) (g.L.Link.faults c.read_from.new.link)
-    c.read_from.ensures.output_stays c.in-Ok.ensures.steady
+    c.read_from.ensures.output_stays (c.in-Ok.ensures.faults.steady (λ failed. cc))
     in
     let x = subst (λ s. Reading R c.reads.left unread before old s c.reads.held) same c.reads.invariant in
     let within : c.min-most.result ≤ c.reads.left = omega (arith, c.min-most.ensures) in
@@ -80,7 +80,7 @@ returns-in-Over-clause-served g c =
     let mid = service c.reads.answerer c.reads.waiting (g.L.Link.written c.read_from.new.link) (g.L.Link.faults c.read_from.new.link) in
     let new = service c.answer_held.new.answerer c.answer_held.new.waiting (g.L.Link.written c.answer_held.new.link) (g.L.Link.faults c.answer_held.new.link) in
     let same = same_service c.reads.answerer c.reads.waiting (g.L.Link.written c.reads.link) (g.L.Link.written c.read_from.new.link) (g.L.Link.faults c.reads.link) (g.L.Link.faults c.read_from.new.link)
-    c.read_from.ensures.output_stays c.in-Ok.ensures.steady
+    c.read_from.ensures.output_stays (c.in-Ok.ensures.faults.steady (λ failed. cc))
     in
     let x = subst (λ s. Reading R c.reads.left unread before old s c.reads.held) same c.reads.invariant in
     let within : c.min-most.result ≤ c.reads.left = omega (arith, c.min-most.ensures) in
@@ -98,7 +98,7 @@ returns-in-LinkFault-clause-served g c =
     let mid = service c.reads.answerer c.reads.waiting (g.L.Link.written c.read_from.new.link) (g.L.Link.faults c.read_from.new.link) in
     let new = service c.answer_held.new.answerer c.answer_held.new.waiting (g.L.Link.written c.answer_held.new.link) (g.L.Link.faults c.answer_held.new.link) in
     let same = same_service c.reads.answerer c.reads.waiting (g.L.Link.written c.reads.link) (g.L.Link.written c.read_from.new.link) (g.L.Link.faults c.reads.link) (g.L.Link.faults c.read_from.new.link)
-    c.read_from.ensures.output_stays c.in-Ok.ensures.steady
+    c.read_from.ensures.output_stays (c.in-Ok.ensures.faults.steady (λ failed. cc))
     in
     let x = subst (λ s. Reading R c.reads.left unread before old s c.reads.held) same c.reads.invariant in
     let within : c.min-most.result ≤ c.reads.left = omega (arith, c.min-most.ensures) in

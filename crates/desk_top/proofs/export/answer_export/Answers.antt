@@ -21,6 +21,6 @@ returns-clause-stored g c = rw (← c.as_slice-name.ensures) (
     rw c.in-Ok.ensures.untouched at (rw c.tables.ensures.lists at c.write_export-status.ensures.written),
   ),
   (λ tells. c.in-Ok.ensures.told (rw c.close.ensures.keeper at (c.close_store.ensures.kept tells).0)),
-  (λ some. rw (← c.in-Ok.ensures.counted) (c.close_store.ensures.rises some)),
+  (λ some. rw (← c.in-Ok.ensures.counted) (c.close_store.ensures.faults.rises some)),
   inl (sym c.close_store.ensures.count),
 )

@@ -14,7 +14,7 @@ returns-in-Err-NotEmpty-clause-ends g c = rw c.tell.ensures.input_stays (inr rec
     c.in-Err-NotEmpty.ensures.not_empty (ap Err c.in-Err-NotEmpty.field-0-is),
   );
   status = ap status_code c.tell.ensures.status;
-  told = answers_as _ _ _ _ _ _ _ _ c.in-Err-NotEmpty.ensures.output_stays (c.in-Err-NotEmpty.ensures.link_steady (λ is. cc (sym (ap Err c.in-Err-NotEmpty.field-0-is) ∙ is)))
+  told = answers_as _ _ _ _ _ _ _ _ c.in-Err-NotEmpty.ensures.output_stays (c.in-Err-NotEmpty.ensures.link_faults.steady (λ is. cc (sym (ap Err c.in-Err-NotEmpty.field-0-is) ∙ is)))
       (refused_line answer_to_full_store _ _ _ _ refl c.tell.ensures.status c.tell.ensures.steady c.tell.ensures.beginning);
   closed = c.in-Err-NotEmpty.ensures.err;
   taken = c.in-Err-NotEmpty.ensures.taken;
@@ -34,7 +34,7 @@ returns-in-Err-TooLong-clause-ends g c = rw c.tell-in-Err-TooLong.ensures.input_
         long,
       )));
   status = ap status_code c.tell-in-Err-TooLong.ensures.status;
-  told = answers_as _ _ _ _ _ _ _ _ c.in-Err-TooLong.ensures.output_stays (c.in-Err-TooLong.ensures.link_steady (λ is. cc (sym (ap Err c.in-Err-TooLong.field-0-is) ∙ is)))
+  told = answers_as _ _ _ _ _ _ _ _ c.in-Err-TooLong.ensures.output_stays (c.in-Err-TooLong.ensures.link_faults.steady (λ is. cc (sym (ap Err c.in-Err-TooLong.field-0-is) ∙ is)))
       (refused_line answer_to_long_import _ _ _ _ refl c.tell-in-Err-TooLong.ensures.status c.tell-in-Err-TooLong.ensures.steady c.tell-in-Err-TooLong.ensures.beginning);
   closed = c.in-Err-TooLong.ensures.err;
   taken = c.in-Err-TooLong.ensures.taken;
@@ -55,7 +55,7 @@ returns-in-Err-Damaged-clause-ends g c = rw c.answer_damaged_line.ensures.input_
         damaged,
       ))));
   status = ap status_code c.answer_damaged_line.ensures.status;
-  told = answers_as _ _ _ _ _ _ _ _ c.in-Err-Damaged.ensures.output_stays (c.in-Err-Damaged.ensures.link_steady (λ is. cc (sym (ap Err c.in-Err-Damaged.field-0-is) ∙ is)))
+  told = answers_as _ _ _ _ _ _ _ _ c.in-Err-Damaged.ensures.output_stays (c.in-Err-Damaged.ensures.link_faults.steady (λ is. cc (sym (ap Err c.in-Err-Damaged.field-0-is) ∙ is)))
       c.answer_damaged_line.ensures.answer;
   closed = c.in-Err-Damaged.ensures.err;
   taken = c.in-Err-Damaged.ensures.taken;
@@ -70,7 +70,7 @@ returns-in-Err-LinkFault-clause-ends g c = inr record {
         (λ is. cc (sym (ap Err c.in-Err-LinkFault.field-0-is) ∙ is))),
   )))));
   status = refl;
-  told = unwritten _ _ _ c.in-Err-LinkFault.ensures.output_stays (c.in-Err-LinkFault.ensures.link_failed (ap Err c.in-Err-LinkFault.field-0-is));
+  told = unwritten _ _ _ c.in-Err-LinkFault.ensures.output_stays (c.in-Err-LinkFault.ensures.link_faults.rises (ap Err c.in-Err-LinkFault.field-0-is));
   closed = c.in-Err-LinkFault.ensures.err;
   taken = c.in-Err-LinkFault.ensures.taken;
 }

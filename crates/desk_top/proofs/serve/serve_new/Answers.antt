@@ -1,7 +1,6 @@
 -- Serving over a keeper of nothing is serving over the start tables, or didn't begin.
 use Rattle.std.proofs.Common.{inr, refl}
-use Rattle.desk_edge.specs.Faults.{Rose}
-use Rattle.desk_top.specs.Console.{console_of}
+use Rattle.desk_top.specs.Console.{console_step}
 use Rattle.desk_top.proofs.ServedOver.{serving_opened}
 use Rattle.desk_top.proofs.serve.serve_new.Goals as goal
 
@@ -9,9 +8,7 @@ pub returns-in-Ok-clause-unstored : goal.returns-in-Ok-clause-unstored
 returns-in-Ok-clause-unstored g c = (
   _,
   rw c.new.ensures at (serving_opened _ _ _ _ _ 0 _ _
-      (console_of (g.L.Link.unread c.args.console.now) (g.L.Link.unread c.serve_desk.new.console)
-      (g.L.Link.written c.args.console.now) (g.L.Link.written c.serve_desk.new.console))
-      (Rose (g.L.Link.faults c.args.console.now) (g.L.Link.faults c.serve_desk.new.console))
+      (console_step g.L.Link.unread g.L.Link.written g.L.Link.faults c.args.console.now c.serve_desk.new.console)
       (λ tells. c.in-Ok.ensures.opened (c.serve_desk.ensures.told tells))
       (rw c.in-Ok.ensures.untouched at c.serve_desk.ensures.served)),
 )

@@ -1,7 +1,6 @@
 -- Serving over an opened store is serving over the store of that name.
 use Rattle.std.proofs.Common.{inl, inr, refl, sym}
-use Rattle.desk_edge.specs.Faults.{Rose}
-use Rattle.desk_top.specs.Console.{console_of}
+use Rattle.desk_top.specs.Console.{console_step}
 use Rattle.desk_top.proofs.ServedOver.{serving_as, serving_opened}
 use Rattle.desk_top.proofs.serve.serve_store.Goals as goal
 
@@ -13,14 +12,12 @@ returns-in-Err-clause-stored g c =
 pub returns-clause-stored : goal.returns-clause-stored
 returns-clause-stored g c = (
   _,
-  serving_as _ _ _ _ _ _ _ _ _ _ _ (λ tells. (c.close_store.ensures.kept tells).0) (λ tells. (c.close_store.ensures.kept tells).1)
+  serving_as _ _ _ _ _ _ _ _ _ _ (λ tells. (c.close_store.ensures.kept tells).0) (λ tells. (c.close_store.ensures.kept tells).1)
       (serving_opened _ _ _ _ _ _ _ _
-      (console_of (g.L.Link.unread c.args.console.now) (g.L.Link.unread c.serve_desk-status.new.console)
-      (g.L.Link.written c.args.console.now) (g.L.Link.written c.serve_desk-status.new.console))
-      (Rose (g.L.Link.faults c.args.console.now) (g.L.Link.faults c.serve_desk-status.new.console))
+      (console_step g.L.Link.unread g.L.Link.written g.L.Link.faults c.args.console.now c.serve_desk-status.new.console)
       (λ tells. c.in-Ok.ensures.opened (c.serve_desk-status.ensures.told tells))
       (rw c.in-Ok.ensures.untouched at c.serve_desk-status.ensures.served)),
   (λ tells. c.in-Ok.ensures.told (c.serve_desk-status.ensures.told (c.close_store.ensures.kept tells).0)),
-  (λ some. rw (← c.in-Ok.ensures.counted) (c.close_store.ensures.rises some)),
+  (λ some. rw (← c.in-Ok.ensures.counted) (c.close_store.ensures.faults.rises some)),
   inl (sym c.close_store.ensures.count),
 )

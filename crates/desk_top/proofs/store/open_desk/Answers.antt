@@ -5,7 +5,7 @@ use Rattle.desk_top.proofs.store.open_desk.Goals as goal
 
 pub returns-in-Err-clause-unopened : goal.returns-in-Err-clause-unopened
 returns-in-Err-clause-unopened g c =
-    not_lent _ _ _ _ _ _ c.in-Err.status _ _ c.in-Err.ensures.status c.in-Err.ensures.failed c.in-Err.ensures.store_line c.in-Err.ensures.memory_line
+    not_lent _ _ _ _ _ _ c.in-Err.status _ c.in-Err.ensures.status c.in-Err.ensures.failed c.in-Err.ensures.store_line c.in-Err.ensures.memory_line
     c.open_store.ensures.input_stays (c.open_store.ensures.others c.args.name.now)
 
 pub returns-in-Ok-open_keeper-clause-opened : goal.returns-in-Ok-open_keeper-clause-opened
@@ -17,11 +17,11 @@ returns-in-Err-open_keeper-clause-unopened g c = (
   _,
   unbegun_as (g.S.Shelf.Tells c.close_store.new.self c.args.name.now) (g.S.Store.Keeper.Tells c.in-Err-open_keeper.store)
       (g.S.Shelf.content c.args.shelf.now c.args.name.now) (g.S.Store.Keeper.content c.in-Ok.store)
-      (g.S.Store.Keeper.content c.in-Err-open_keeper.store) (g.S.Shelf.content c.close_store.new.self c.args.name.now) _ _ _ _
+      (g.S.Store.Keeper.content c.in-Err-open_keeper.store) (g.S.Shelf.content c.close_store.new.self c.args.name.now) _ _ _
       (λ tells. (c.close_store.ensures.kept tells).0)
       (λ tells. c.in-Ok.ensures.same (c.in-Err-open_keeper.ensures.handed_back (c.close_store.ensures.kept tells).0).0)
       (λ tells. (c.close_store.ensures.kept tells).1) (rw c.in-Ok.ensures.untouched at c.in-Err-open_keeper.ensures.unopened),
   (λ tells. c.in-Ok.ensures.told (c.in-Err-open_keeper.ensures.handed_back (c.close_store.ensures.kept tells).0).0),
-  (λ some. rw (← c.in-Ok.ensures.counted) (c.close_store.ensures.rises some)),
+  (λ some. rw (← c.in-Ok.ensures.counted) (c.close_store.ensures.faults.rises some)),
   inl (sym c.close_store.ensures.count),
 )

@@ -1,6 +1,6 @@
 /// What came of the request at the front of some bytes.
 #[derive(Clone, Copy, Debug, PartialEq, Eq)]
-pub(crate) enum First {
+pub(crate) enum RequestOutcome {
     /// It is answered, and takes so many of them.
     Took(usize),
     /// There is no whole request yet.

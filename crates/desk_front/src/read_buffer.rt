@@ -1,7 +1,7 @@
-ghost use Rattle.std.specs.Prelude.{◌≡◌, ◌+◌, ◌-◌, ◌<◌, ◌≤◌, [], List, ℕ, drop, length, take, IfOk, OnOk, OnErr};
+ghost use Rattle.std.specs.Prelude.{◌≡◌, ◌+◌, ◌-◌, ◌<◌, ◌≤◌, [], List, ℕ, drop, length, take, IfOk, OnErr, IsErr};
 ghost use Rattle.std.specs.Io.KnownBytes.{Keeps};
-ghost use Rattle.desk_edge.specs.Faults.{Rose};
-ghost use Rattle.desk_front.specs.Held.{ReadMore, held_limit};
+ghost use Rattle.desk_edge.specs.Faults.{CountsFaults};
+ghost use Rattle.desk_front.specs.ReadBuffer.{ReadMore, held_limit};
 
 use desk_edge::{Failed, Link};
 use desk_http::{BODY_BYTES, HEAD_BYTES};
@@ -14,14 +14,14 @@ const ROOM: usize = HEAD_BYTES + BODY_BYTES;
 
 /// The bytes that were read of a stream and aren't used yet, in a buffer of 73,728 bytes.
 #[derive(Drop)]
-pub(crate) struct Held {
+pub(crate) struct ReadBuffer {
     buffer: Vec<u8>,
     len: usize,
 }
 
-impl Model for Held {
+impl Model for ReadBuffer {
     ghost use Rattle.std.specs.Prelude.{◌≡◌, ◌≤◌, ℕ, List, take, vec_len};
-    ghost use Rattle.desk_front.specs.Held.{held_limit};
+    ghost use Rattle.desk_front.specs.ReadBuffer.{held_limit};
 
     ghost Value = { List ℕ };
 
@@ -30,13 +30,13 @@ impl Model for Held {
     ghost invariant = { λ h. (h.len ≤ held_limit) × (vec_len h.buffer ≡ held_limit) };
 }
 
-impl Held {
+impl ReadBuffer {
     /// No bytes, with the room for them.
-    pub(crate) fn new(alloc: Global) -> Result<Held, OutOfMemory>
+    pub(crate) fn new(alloc: Global) -> Result<ReadBuffer, OutOfMemory>
         ensures { IfOk result (λ held. held ≡ []) }
     {
         let buffer = vec![in alloc; 0; ROOM]?;
-        Ok(Held { buffer, len: 0 })
+        Ok(ReadBuffer { buffer, len: 0 })
     }
 
     /// The bytes, in order.
@@ -69,9 +69,7 @@ impl Held {
         ensures more { IfOk result (λ count. ReadMore (L.unread link.old) (L.unread link.new) self.old self.new most count) }
         ensures err { OnErr result ((self.new ≡ self.old) × Keeps (L.unread link.old) (L.unread link.new)) }
         ensures output_stays { L.written link.new ≡ L.written link.old }
-        ensures never_falls { L.faults link.old ≤ L.faults link.new }
-        ensures steady { OnOk result (L.faults link.new ≡ L.faults link.old) }
-        ensures failed { OnErr result (Rose (L.faults link.old) (L.faults link.new)) }
+        ensures faults { CountsFaults (IsErr result) (L.faults link.old) (L.faults link.new) }
     {
         let from = self.len;
         let count = link.read(&mut self.buffer[from..from + most])?;

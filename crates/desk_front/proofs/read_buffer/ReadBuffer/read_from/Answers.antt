@@ -3,7 +3,7 @@ use Rattle.std.proofs.Common.{◌≡◌, ◌≤◌, ◌+◌, ◌-◌, ◌∙◌,
 use borrow.Rule.Slice.PartMut.{put_mid}
 use Rattle.std.proofs.lemmas.List.{length-drop, length-take-le, with_items_is}
 use Rattle.desk_front.proofs.Buffers.{came_behind, filled_len}
-use Rattle.desk_front.proofs.held.Held.read_from.Goals as goal
+use Rattle.desk_front.proofs.read_buffer.ReadBuffer.read_from.Goals as goal
 
 pub returns-clause-more : goal.returns-clause-more
 returns-clause-more g c =

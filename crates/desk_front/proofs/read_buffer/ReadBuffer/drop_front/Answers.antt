@@ -2,7 +2,7 @@
 use Rattle.std.proofs.Common.{◌≡◌, ◌≤◌, ◌-◌, ◌∙◌, ap, drop, take, length, arith}
 use Rattle.std.proofs.lemmas.List.{length-take, with_items_is}
 use Rattle.desk_front.proofs.Buffers.{moved}
-use Rattle.desk_front.proofs.held.Held.drop_front.Goals as goal
+use Rattle.desk_front.proofs.read_buffer.ReadBuffer.drop_front.Goals as goal
 
 pub returns : goal.returns
 returns c =
