@@ -4,5 +4,6 @@ pub mod KindMarks
 pub mod KindSets
 pub mod KindTexts
 pub mod Orders
+pub mod Rules
 pub mod Told
 pub mod Verdicts

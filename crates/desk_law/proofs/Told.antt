@@ -11,30 +11,15 @@ use Rattle.desk_law.specs.declared.annex.Annex.{Annex}
 use Rattle.desk_law.specs.declared.annex.Annex.TheVariants.{Three, Four}
 use Rattle.desk_law.specs.declared.kind.Kind.{Kind}
 use Rattle.desk_law.specs.declared.kind.Kind.TheVariants.{LargeHousehold, SmallHousehold, Telecommunications, Consumer, Lighting, Tool, ToyLeisureSports, Toy, MedicalDevice, InVitroDiagnostic, ControlInstrument, IndustrialInstrument, Dispenser, Other}
-use Rattle.desk_law.specs.declared.rule.Rule.{Rule}
-use Rattle.desk_law.specs.declared.rule.Rule.TheVariants.{Lead, Mercury, Cadmium, ChromiumVi, Pbb, Pbde, Dehp, Bbp, Dbp, Dibp}
 use Rattle.desk_law.specs.Annex.{annex_number}
 use Rattle.desk_law.specs.Kind.{kind_code, kind_of}
 use Rattle.desk_law.specs.KindSet.{kinds_text}
 use Rattle.desk_law.specs.Rule.{rule_code, rule_of}
 use Rattle.desk_law.proofs.Codes.{kind_of-kind_code, rule_of-rule_code}
+use Rattle.desk_law.proofs.Rules.{rule_is_code}
 
 some_inside : {A : Type 0} (a b : A) → Some a ≡ Some b → a ≡ b
 some_inside a b e = cc
-
--- the code of a rule has the form of a code
-rule_is_code : (rule : Rule) → code_of (rule_code rule) ≡ Ok (rule_code rule)
-unfolding code_of rule_code
-rule_is_code Lead = refl
-rule_is_code Mercury = refl
-rule_is_code Cadmium = refl
-rule_is_code ChromiumVi = refl
-rule_is_code Pbb = refl
-rule_is_code Pbde = refl
-rule_is_code Dehp = refl
-rule_is_code Bbp = refl
-rule_is_code Dbp = refl
-rule_is_code Dibp = refl
 
 pub rule_told : IsTold rule_code (λ _. Unit {0})
 rule_told = record {
@@ -42,7 +27,7 @@ rule_told = record {
   field = λ a _. IsField-code (rule_code a) (rule_is_code a);
 }
 
--- and so has the code of a kind
+-- the code of a kind has the form of a code, as that of a rule
 kind_is_code : (kind : Kind) → code_of (kind_code kind) ≡ Ok (kind_code kind)
 unfolding code_of kind_code
 kind_is_code LargeHousehold = refl

@@ -17,14 +17,14 @@ abbrev pub july_22 : ℕ → Date
 july_22 year = record { year = year; month = 7; day = 22 }
 
 -- a row of the table of first days: these rules are in force for these kinds from a day on, or never
-pub record Start : Type 0 where
+pub record FirstDayRow : Type 0 where
   pub rules : List Rule
   pub kinds : List Kind
   pub first : Option Date
 
 -- the row of the table of first days that has these parts
-abbrev pub starts : List Rule → List Kind → Option Date → Start
-starts rules kinds first = record { rules = rules; kinds = kinds; first = first }
+abbrev pub first_day_row : List Rule → List Kind → Option Date → FirstDayRow
+first_day_row rules kinds first = record { rules = rules; kinds = kinds; first = first }
 
 -- the substances of Annex II to Directive 2011/65/EU as adopted
 abbrev pub first_six : List Rule
@@ -46,34 +46,34 @@ categories_1_to_7 =
 -- the first days. Where Directive 2002/95/EC had a rule in force before, the first askable day stands.
 -- Article 4(3) is that of Directive 2011/65/EU as amended by Directive (EU) 2017/2102, Annex II is that of Delegated
 -- Directive (EU) 2015/863; the split of categories 8 and 9 and the rows on toys are this project's reading of them
-abbrev pub first_days : List Start
+abbrev pub first_days : List FirstDayRow
 first_days =
     -- Article 4(1): the categories of Directive 2002/95/EC
-    starts first_six (categories_1_to_7 ++ Toy ∷ Dispenser ∷ []) (Some first_askable)
+    first_day_row first_six (categories_1_to_7 ++ Toy ∷ Dispenser ∷ []) (Some first_askable)
     -- Article 4(3): medical devices, monitoring and control instruments
-    ∷ starts first_six (MedicalDevice ∷ ControlInstrument ∷ []) (Some (july_22 2014))
+    ∷ first_day_row first_six (MedicalDevice ∷ ControlInstrument ∷ []) (Some (july_22 2014))
     -- Article 4(3): in vitro diagnostic medical devices
-    ∷ starts first_six (InVitroDiagnostic ∷ []) (Some (july_22 2016))
+    ∷ first_day_row first_six (InVitroDiagnostic ∷ []) (Some (july_22 2016))
     -- Article 4(3): industrial monitoring and control instruments
-    ∷ starts first_six (IndustrialInstrument ∷ []) (Some (july_22 2017))
+    ∷ first_day_row first_six (IndustrialInstrument ∷ []) (Some (july_22 2017))
     -- Article 4(3): all other equipment
-    ∷ starts first_six (Other ∷ []) (Some (july_22 2019))
+    ∷ first_day_row first_six (Other ∷ []) (Some (july_22 2019))
     -- Directive (EU) 2015/863, Article 2(1)
-    ∷ starts phthalates (categories_1_to_7 ++ Dispenser ∷ Other ∷ []) (Some (july_22 2019))
+    ∷ first_day_row phthalates (categories_1_to_7 ++ Dispenser ∷ Other ∷ []) (Some (july_22 2019))
     -- Annex II: medical devices and monitoring and control instruments, with their narrower kinds
-    ∷ starts phthalates (MedicalDevice ∷ InVitroDiagnostic ∷ ControlInstrument ∷ IndustrialInstrument ∷ []) (Some (july_22 2021))
+    ∷ first_day_row phthalates (MedicalDevice ∷ InVitroDiagnostic ∷ ControlInstrument ∷ IndustrialInstrument ∷ []) (Some (july_22 2021))
     -- Annex II: toys that entry 51 restricts already
-    ∷ starts entry_51 (Toy ∷ []) None
+    ∷ first_day_row entry_51 (Toy ∷ []) None
     -- Directive (EU) 2015/863, Article 2(1): entry 51 does not name this phthalate
-    ∷ starts (Dibp ∷ []) (Toy ∷ []) (Some (july_22 2019))
+    ∷ first_day_row (Dibp ∷ []) (Toy ∷ []) (Some (july_22 2019))
     ∷ []
 
 -- the row of the table of first days speaks of the rule and the kind
-abbrev pub speaks_of : Rule → Kind → Start → Bool
+abbrev pub speaks_of : Rule → Kind → FirstDayRow → Bool
 speaks_of rule kind row = list_any (same_rule rule) row.rules && list_any (same_kind kind) row.kinds
 
 -- the first day that a row of the table names, where there is a row and it names one
-abbrev pub first_in : Option Start → Option Date
+abbrev pub first_in : Option FirstDayRow → Option Date
 first_in None = None
 first_in (Some row) = row.first
 

@@ -40,10 +40,18 @@ rule_code Bbp = codes "bbp"
 rule_code Dbp = codes "dbp"
 rule_code Dibp = codes "dibp"
 
--- every rule, in the order of the numbers
+-- every rule that a text may name, in the order of the numbers
 abbrev pub all_rules : List Rule
 all_rules =
     Lead ∷ Mercury ∷ Cadmium ∷ ChromiumVi ∷ Pbb ∷ Pbde ∷ Dehp ∷ Bbp ∷ Dbp ∷ Dibp ∷ []
+
+-- the rules by which a material is judged: those that the law has a maximum concentration and first days for
+abbrev pub restricting_rules : List Rule
+restricting_rules = all_rules
+
+-- the rules of which a desk knows the substance from the start
+abbrev pub base_rules : List Rule
+base_rules = all_rules
 
 -- the rule that has this code, if one does
 unfoldable pub rule_of : List ℕ → Option Rule

@@ -56,25 +56,24 @@ pub fn judge_by(
     if !restriction.in_force(day) {
         return Verdict::NotInForce;
     }
-    let (rule, kind) = (restriction.rule, restriction.kind);
-    match first_covering(rows, claims, rule, kind, day, share, mass) {
+    match first_covering(rows, claims, restriction, day, share, mass) {
         Some(place) => Verdict::Exempt { place },
         None => Verdict::Breach,
     }
 }
 
-/// The place of the first row that covers the material.
+/// The place of the first row that covers the material for the restriction's rule and kind.
 fn first_covering(
     rows: &[Terms],
     claims: &[Claim],
-    rule: Rule,
-    kind: Kind,
+    restriction: &Restriction,
     day: Day,
     share: u128,
     mass: u64,
 ) -> Option<usize>
-    ensures { result ≡ covering_place rows.now claims.now rule kind day share mass }
+    ensures { result ≡ covering_place rows.now claims.now restriction.now.rule restriction.now.kind day share mass }
 {
+    let (rule, kind) = (restriction.rule, restriction.kind);
     rows.iter()
         .position(|row| covers(row, claims, rule, kind, day, share, mass))
 }

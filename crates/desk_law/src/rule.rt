@@ -31,7 +31,7 @@ pub enum Rule {
 }
 
 impl Rule {
-    /// Each rule once, in the order of the numbers.
+    /// Every rule that a text may name, each once, in the order of the numbers.
     pub const ALL: [Rule; 10] = [
         Rule::Lead,
         Rule::Mercury,
@@ -45,23 +45,18 @@ impl Rule {
         Rule::Dibp,
     ];
 
+    /// The rules by which a material is judged: those that the law has a maximum concentration and first days for.
+    pub const RESTRICTING: [Rule; 10] = Rule::ALL;
+
+    /// The rules of which a desk knows the substance from the start.
+    pub const BASE: [Rule; 10] = Rule::ALL;
+
     /// The rule's number, from 1 to 10.
     #[tactic(auto, unfolding(crate::specs::Rule::rule_number))]
     pub fn number(self) -> u8
         ensures { result ≡ rule_number self }
     {
-        match self {
-            Rule::Lead => 1,
-            Rule::Mercury => 2,
-            Rule::Cadmium => 3,
-            Rule::ChromiumVi => 4,
-            Rule::Pbb => 5,
-            Rule::Pbde => 6,
-            Rule::Dehp => 7,
-            Rule::Bbp => 8,
-            Rule::Dbp => 9,
-            Rule::Dibp => 10,
-        }
+        self as u8 + 1
     }
 
     /// The code that texts name the rule by. A read of it gives the rule back.
