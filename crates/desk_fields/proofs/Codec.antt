@@ -11,7 +11,7 @@ use Rattle.desk_text.proofs.FieldLemmas.{IsField, IsField-decimal}
 use Rattle.desk_text.proofs.Fields.{AreFields, AreFields-append, IsReader, number_reader}
 use Rattle.desk_text.specs.Forms.{a_number}
 use Rattle.desk_fields.specs.Forms.{maybe}
-use Rattle.desk_fields.specs.Reading.{Reader, both, counted, made, one, tested, times}
+use Rattle.desk_fields.specs.Reading.{Reader, both, counted_list, built_of, one, tested, times}
 
 -- what a field is read as, each value from its one text
 pub record IsForm {A : Type 0} (form : List ℕ → Option A) (text : A → List ℕ) (good : A → Type 0) : Type 0 where
@@ -168,7 +168,7 @@ module _ {A B : Type 0} (first : Reader A) (second : Reader B) (f : A → List (
   }
 
 -- what a value was made of
-pub made_of : {A B : Type 0} (make : A → B) (read : Reader A) (all rest : List (List ℕ)) (b : B) → made make read all ≡ Some (b, rest) → (a : A) × (read all ≡ Some (a, rest)) × (make a ≡ b)
+pub made_of : {A B : Type 0} (make : A → B) (read : Reader A) (all rest : List (List ℕ)) (b : B) → built_of make read all ≡ Some (b, rest) → (a : A) × (read all ≡ Some (a, rest)) × (make a ≡ b)
 made_of {A} {B} make read all rest b e = by (read all) refl e
   where
     by : (o : Option (A × List (List ℕ))) → read all ≡ o → making make o ≡ Some (b, rest) → (a : A) × (read all ≡ Some (a, rest)) × (make a ≡ b)
@@ -179,7 +179,7 @@ made_of {A} {B} make read all rest b e = by (read all) refl e
 
 -- a value that is made of what is read
 pub made_codec : {A B : Type 0} (make : A → B) (parts : B → A) → ((b : B) → make (parts b) ≡ b) → ((a : A) → parts (make a) ≡ a)
-    → (read : Reader A) (f : A → List (List ℕ)) (P : A → Type 0) → IsCodec read f P → IsCodec (made make read) (λ b. f (parts b)) (λ b. P (parts b))
+    → (read : Reader A) (f : A → List (List ℕ)) (P : A → Type 0) → IsCodec read f P → IsCodec (built_of make read) (λ b. f (parts b)) (λ b. P (parts b))
 made_codec make parts whole same read f P c = record {
   back = λ b rest is. ap (making make) (c.back (parts b) rest is) ∙ ap (λ x. Some (x, rest)) (whole b);
   exact = λ all rest b e.
@@ -247,7 +247,7 @@ module _ {A : Type 0} (read : Reader A) (f : A → List (List ℕ)) (P : A → T
   times_exact (suc n) all rest xs e = times_by n (times_exact n) all rest xs (read all) refl e
 
   -- a list of at most so many, with how many there are in front
-  pub counted_codec : (limit : ℕ) → limit < 2 ^ 64 → IsCodec (counted limit read) (λ xs. decimal (length xs) ∷ flat_map f xs) (λ xs. (length xs ≤ limit) × AllByRecursion P xs)
+  pub counted_codec : (limit : ℕ) → limit < 2 ^ 64 → IsCodec (counted_list limit read) (λ xs. decimal (length xs) ∷ flat_map f xs) (λ xs. (length xs ≤ limit) × AllByRecursion P xs)
   counted_codec limit small = record {
     back = back;
     exact = λ all rest xs e. by all rest xs (one (a_number 0 limit) all) refl e;
@@ -257,7 +257,7 @@ module _ {A : Type 0} (read : Reader A) (f : A → List (List ℕ)) (P : A → T
       count : IsCodec (one (a_number 0 limit)) (λ n. decimal n ∷ []) (λ n. (nat_le 0 n && nat_le n limit) ≡ true)
       count = one_codec (a_number 0 limit) decimal (λ n. (nat_le 0 n && nat_le n limit) ≡ true) (number_form 0 limit small)
 
-      back : (xs : List A) (rest : List (List ℕ)) → (length xs ≤ limit) × AllByRecursion P xs → counted limit read ((decimal (length xs) ∷ flat_map f xs) ++ rest) ≡ Some (xs, rest)
+      back : (xs : List A) (rest : List (List ℕ)) → (length xs ≤ limit) × AllByRecursion P xs → counted_list limit read ((decimal (length xs) ∷ flat_map f xs) ++ rest) ≡ Some (xs, rest)
       back xs rest is =
           let fits = and_from (nat_le 0 (length xs)) (nat_le (length xs) limit) (le-leb 0 (length xs) (omega arith)) (le-leb (length xs) limit is.0) in
           ap (option_and_then (λ n. times n.0 read n.1)) (count.back (length xs) (flat_map f xs ++ rest) fits) ∙ times_back xs rest is.1

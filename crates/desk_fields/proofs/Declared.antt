@@ -30,8 +30,8 @@ use Rattle.desk_model.proofs.EditTold.{four_parts, three_parts}
 use Rattle.desk_model.proofs.InForm.{form_parts, from_form_parts}
 use Rattle.desk_fields.specs.EditReading.{claim_in, claims_in, declared_in, exemption_behind, exemption_in, held_cmp, held_in, material_cmp, material_in, substances_in}
 use Rattle.desk_text.specs.Forms.{a_code, a_day, a_name, a_number, an_exemption_number}
-use Rattle.desk_fields.specs.Forms.{an_annex, maybe, some_kinds}
-use Rattle.desk_fields.specs.Reading.{Reader, both, counted, five, four, made, nine, one, rising, two}
+use Rattle.desk_fields.specs.Forms.{annex_of_text, maybe, kinds_of_text}
+use Rattle.desk_fields.specs.Reading.{Reader, both, counted_list, five, four, built_of, nine, one, rising, two}
 use Rattle.desk_fields.proofs.Codec.{IsCodec, beside, both_codec, codec_same, codec_with, counted_codec, made_codec, making, number_form, one_codec, tested_codec}
 use Rattle.desk_fields.proofs.KindFields.{kinds_form}
 use Rattle.desk_fields.proofs.Rising.{rises_on}
@@ -64,7 +64,7 @@ number_codec least greatest small = one_codec (a_number least greatest) decimal 
 pub rising_codec : {A : Type 0} (order : A → A → Ordering) (limit : ℕ) → limit < 2 ^ 64 → (read : Reader A) (f : A → List (List ℕ)) (P : A → Type 0) → IsCodec read f P
     → IsCodec (rising order limit read) (λ xs. decimal (length xs) ∷ flat_map f xs) (λ xs. ((length xs ≤ limit) × AllByRecursion P xs) × (rises order xs ≡ true))
 rising_codec order limit small read f P c =
-    tested_codec (rises order) (counted limit read) (λ xs. decimal (length xs) ∷ flat_map f xs) (λ xs. (length xs ≤ limit) × AllByRecursion P xs) (counted_codec read f P c limit small)
+    tested_codec (rises order) (counted_list limit read) (λ xs. decimal (length xs) ∷ flat_map f xs) (λ xs. (length xs ≤ limit) × AllByRecursion P xs) (counted_codec read f P c limit small)
 
 -- a substance of a material
 IsHeld : SubstanceMass → Type 0
@@ -282,14 +282,14 @@ row_of row annex number rule kinds first last floor cap application = record {
 
 abbrev behind_in : Reader Behind
 behind_in =
-    both (one an_annex) (both (one an_exemption_number) (both (one rule_of) (both (one some_kinds)
+    both (one annex_of_text) (both (one an_exemption_number) (both (one rule_of) (both (one kinds_of_text)
     (both (one a_day) (both (one a_day) (both (one (maybe (a_number 0 PPM_LIMIT))) (both (one (maybe (a_number 0 PPM_LIMIT))) (one a_name))))))))
 
 -- the code and the values behind it, at once
 abbrev all_of : Parts → ExemptionRow
 all_of x = nine (row_of x.0) x.1
 
-exemption_at_once : (fields : List (List ℕ)) → exemption_in fields ≡ made all_of (both (one a_code) behind_in) fields
+exemption_at_once : (fields : List (List ℕ)) → exemption_in fields ≡ built_of all_of (both (one a_code) behind_in) fields
 unfolding exemption_in exemption_behind
 exemption_at_once fields = by (one a_code fields)
   where
@@ -297,14 +297,14 @@ exemption_at_once fields = by (one a_code fields)
     then_ code None = refl
     then_ code (Some x) = refl
 
-    by : (o : Option (List ℕ × List (List ℕ))) → option_and_then (λ row. made (nine (row_of row.0)) behind_in row.1) o ≡ making all_of (option_and_then (λ x. beside x.0 (behind_in x.1)) o)
+    by : (o : Option (List ℕ × List (List ℕ))) → option_and_then (λ row. built_of (nine (row_of row.0)) behind_in row.1) o ≡ making all_of (option_and_then (λ x. beside x.0 (behind_in x.1)) o)
     by None = refl
     by (Some x) = then_ x.0 (behind_in x.1)
 
 pub exemption_codec : IsCodec exemption_in exemption_fields (λ row. is_exemption_row row ≡ true)
 exemption_codec =
-    codec_same exemption_in (made all_of (both (one a_code) behind_in)) exemption_fields (λ row. is_exemption_row row ≡ true) exemption_at_once
-    (codec_with (made all_of (both (one a_code) behind_in)) exemption_fields (λ row. ExemptionRead (exemption_parts row)) (λ row. is_exemption_row row ≡ true)
+    codec_same exemption_in (built_of all_of (both (one a_code) behind_in)) exemption_fields (λ row. is_exemption_row row ≡ true) exemption_at_once
+    (codec_with (built_of all_of (both (one a_code) behind_in)) exemption_fields (λ row. ExemptionRead (exemption_parts row)) (λ row. is_exemption_row row ≡ true)
     (made_codec all_of exemption_parts (λ row. refl) (λ x. refl) _ _ ExemptionRead
     (both_codec _ _ _ _ _ _ code_codec (both_codec _ _ _ _ _ _ (one_codec _ _ _ annex_form) (both_codec _ _ _ _ _ _ exemption_number_codec (both_codec _ _ _ _ _ _ rule_codec (both_codec _ _ _ _ _ _ (one_codec _ _ _ kinds_form)
     (both_codec _ _ _ _ _ _ day_codec (both_codec _ _ _ _ _ _ day_codec (both_codec _ _ _ _ _ _ (one_codec _ _ _ ppm_form) (both_codec _ _ _ _ _ _ (one_codec _ _ _ ppm_form) name_codec))))))))))

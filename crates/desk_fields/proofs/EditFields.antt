@@ -19,10 +19,10 @@ use Rattle.desk_model.specs.Values.{is_code, is_name}
 use Rattle.desk_model.proofs.EditTold.{four_parts, three_parts}
 use Rattle.desk_model.specs.declared.edit_word.EditWord.{EditWord}
 use Rattle.desk_model.specs.declared.edit_word.EditWord.TheVariants as word
-use Rattle.desk_fields.specs.EditReading.{edit_by, edit_in, edit_of}
+use Rattle.desk_fields.specs.EditReading.{edit_reader_of_word, edit_reader, edit_of_text}
 use Rattle.desk_text.specs.Forms.{a_cas, a_code, a_day, a_name, a_number}
 use Rattle.desk_fields.specs.Forms.{maybe}
-use Rattle.desk_fields.specs.Reading.{Reader, both, ended, fields_of, made, one, three, two, whole}
+use Rattle.desk_fields.specs.Reading.{Reader, both, ended, fields_of, built_of, one, three, two, all_fields}
 use Rattle.desk_fields.proofs.Codec.{IsCodec, both_codec, made_of, making, none_some, one_codec, some_same, with_rest}
 use Rattle.desk_fields.proofs.Declared.{Within, code_codec, day_codec, declared_codec, exemption_codec, name_codec, number_codec, rule_codec}
 use Rattle.desk_fields.proofs.Values.{kind_form, optional_cas_form, sort_form, word_form}
@@ -72,7 +72,7 @@ abbrev IsRead : List ℕ → EditWord → List (List ℕ) → List (List ℕ) �
 IsRead t w all rest e = (is_edit_in_form e ≡ true) × (word_text w ∷ all ≡ edit_fields e ++ rest)
 
 -- a value that a codec reads, made of what was read
-made_read : {A B : Type 0} {read : Reader A} {f : A → List (List ℕ)} {P : A → Type 0} → IsCodec read f P → (make : A → B) (all rest : List (List ℕ)) (b : B) → made make read all ≡ Some (b, rest)
+made_read : {A B : Type 0} {read : Reader A} {f : A → List (List ℕ)} {P : A → Type 0} → IsCodec read f P → (make : A → B) (all rest : List (List ℕ)) (b : B) → built_of make read all ≡ Some (b, rest)
     → (a : A) × (P a) × (all ≡ f a ++ rest) × (make a ≡ b)
 made_read {read = read} c make all rest b h =
     let of = made_of make read all rest b h in
@@ -80,8 +80,8 @@ made_read {read = read} c make all rest b h =
     (of.0, told.0, told.1, of.2)
 
 module _ (t : List ℕ) (good : is_code t ≡ true) (all rest : List (List ℕ)) where
-  pub by_word : (w : EditWord) (e : Edit) → edit_by t w all ≡ Some (e, rest) → IsRead t w all rest e
-  unfolding edit_by is_edit_in_form
+  pub by_word : (w : EditWord) (e : Edit) → edit_reader_of_word t w all ≡ Some (e, rest) → IsRead t w all rest e
+  unfolding edit_reader_of_word is_edit_in_form
   by_word word.Substance e h =
       let r = made_read substance_codec (three (Substance t)) all rest e h in
       subst (IsRead t word.Substance all rest) r.3 (and_from _ _ (and_from _ _ (and_from _ _ good r.1.0) r.1.1.0) r.1.1.1, ap (λ fields. codes "substance" ∷ fields) r.2)
@@ -124,11 +124,11 @@ pub record Found (t : List ℕ) (rest : List (List ℕ)) (e : Edit) : Type 0 whe
   pub w : EditWord
   pub fields : List (List ℕ)
   pub same : edit_fields e ≡ word_text w ∷ fields
-  pub read : edit_by t w (fields ++ rest) ≡ Some (with_ticket t e, rest)
+  pub read : edit_reader_of_word t w (fields ++ rest) ≡ Some (with_ticket t e, rest)
   pub are : AreFields fields
 
 found : {A : Type 0} {reader : Reader A} {f : A → List (List ℕ)} {P : A → Type 0} → IsCodec reader f P → (t : List ℕ) (word_ : EditWord) (make : A → Edit) (e : Edit) (a : A) (rest : List (List ℕ)) → P a
-    → edit_fields e ≡ word_text word_ ∷ f a → with_ticket t e ≡ make a → ((all : List (List ℕ)) → edit_by t word_ all ≡ made make reader all) → Found t rest e
+    → edit_fields e ≡ word_text word_ ∷ f a → with_ticket t e ≡ make a → ((all : List (List ℕ)) → edit_reader_of_word t word_ all ≡ built_of make reader all) → Found t rest e
 found {f = f} c t word_ make e a rest is same is_made by = record {
   w = word_;
   fields = f a;
@@ -138,7 +138,7 @@ found {f = f} c t word_ make e a rest is same is_made by = record {
 }
 
 pub to_word : (t : List ℕ) (rest : List (List ℕ)) (e : Edit) → is_edit_in_form e ≡ true → Found t rest e
-unfolding edit_by is_edit_in_form with_ticket
+unfolding edit_reader_of_word is_edit_in_form with_ticket
 to_word t rest (Substance ticket code name cas) good =
     let f = four_parts (is_code ticket) (is_code code) (is_name name) (is_optional_cas cas) good in
     found substance_codec t word.Substance (three (Substance t)) (Substance ticket code name cas) (code, (name, cas)) rest (f.1, (f.2, f.3)) refl refl (λ all. refl)
@@ -186,13 +186,13 @@ text_fields e good =
     ∙ sym told.same
 
 -- reads as it is, under the ticket that is given
-pub read_back : (t : List ℕ) (e : Edit) → is_edit_in_form e ≡ true → edit_of t (edit_text e) ≡ Some (with_ticket t e)
-unfolding edit_of edit_in
+pub read_back : (t : List ℕ) (e : Edit) → is_edit_in_form e ≡ true → edit_of_text t (edit_text e) ≡ Some (with_ticket t e)
+unfolding edit_of_text edit_reader
 read_back t e good =
     let told = to_word t [] e good in
     let fields : edit_fields e ≡ word_text told.w ∷ (told.fields ++ []) = told.same ∙ ap (λ rest. word_text told.w ∷ rest) (sym (append-nil told.fields)) in
-    ap (whole (edit_in t)) (text_fields e good ∙ fields)
-    ∙ ap (λ (w : Option EditWord). option_and_then ended (option_and_then (λ w. edit_by t w.0 w.1) (with_rest (told.fields ++ []) w))) (word_form.back told.w tt)
+    ap (all_fields (edit_reader t)) (text_fields e good ∙ fields)
+    ∙ ap (λ (w : Option EditWord). option_and_then ended (option_and_then (λ w. edit_reader_of_word t w.0 w.1) (with_rest (told.fields ++ []) w))) (word_form.back told.w tt)
     ∙ ap (option_and_then ended) told.read
 
 ended_so : (o : Option (Edit × List (List ℕ))) (e : Edit) → option_and_then ended o ≡ Some e → o ≡ Some (e, [])
@@ -201,13 +201,13 @@ ended_so (Some (a, [])) e h = ap (λ x. Some (x, [])) (some_same a e h)
 ended_so (Some (a, field ∷ fields)) e h = none_some e h
 
 -- and what is read is an edit in form of this text
-pub read_exact : (t text : List ℕ) (e : Edit) → is_code t ≡ true → edit_of t text ≡ Some e → (is_edit_in_form e ≡ true) × (text ≡ edit_text e)
-unfolding edit_of edit_in edit_text fields_of
+pub read_exact : (t text : List ℕ) (e : Edit) → is_code t ≡ true → edit_of_text t text ≡ Some e → (is_edit_in_form e ≡ true) × (text ≡ edit_text e)
+unfolding edit_of_text edit_reader edit_text fields_of
 read_exact t text e good h =
-    let told = then_ (one edit_word_of (fields_of text)) refl (ended_so (edit_in t (fields_of text)) e h) in
+    let told = then_ (one edit_word_of (fields_of text)) refl (ended_so (edit_reader t (fields_of text)) e h) in
     (told.0, sym (join_with_byte-slice_split 9 text) ∙ ap (join_with_byte 9) told.1)
   where
-    then_ : (w : Option (EditWord × List (List ℕ))) → one edit_word_of (fields_of text) ≡ w → option_and_then (λ w. edit_by t w.0 w.1) w ≡ Some (e, []) → (is_edit_in_form e ≡ true) × (fields_of text ≡ edit_fields e)
+    then_ : (w : Option (EditWord × List (List ℕ))) → one edit_word_of (fields_of text) ≡ w → option_and_then (λ w. edit_reader_of_word t w.0 w.1) w ≡ Some (e, []) → (is_edit_in_form e ≡ true) × (fields_of text ≡ edit_fields e)
     then_ None is read = none_some (e, []) read
     then_ (Some w) is read =
         let told = (one_codec edit_word_of word_text (λ _. Unit {0}) word_form).exact (fields_of text) w.1 w.0 is in

@@ -21,7 +21,7 @@ use Rattle.desk_law.proofs.KindSets.{set_of-none}
 use Rattle.desk_law.proofs.Told.{kinds_told}
 use Rattle.desk_model.specs.Content.{rises}
 use Rattle.desk_model.specs.Terms.{are_kinds}
-use Rattle.desk_fields.specs.Forms.{kinds_with, some_kinds}
+use Rattle.desk_fields.specs.Forms.{kinds_with, kinds_of_text}
 use Rattle.desk_fields.proofs.Codec.{IsForm}
 
 -- kinds at one place are one kind
@@ -258,14 +258,14 @@ unfolding kinds_text
 split_codes [] some = absurd (omega (arith, some))
 split_codes (k ∷ ks) some = split-joined 44 (kind_code k) (map kind_code ks) (codes_lack (k ∷ ks))
 
-pub kinds_form : IsForm some_kinds kinds_text (λ kinds. are_kinds kinds ≡ true)
-unfolding some_kinds
+pub kinds_form : IsForm kinds_of_text kinds_text (λ kinds. are_kinds kinds ≡ true)
+unfolding kinds_of_text
 kinds_form = record { back = back; exact = exact; field = λ kinds are. kinds_told.field kinds (some kinds are) }
   where
     some : (kinds : List Kind) → are_kinds kinds ≡ true → 0 < length kinds
     some kinds are = ltb-true 0 (length kinds) (and_parts (nat_lt 0 (length kinds)) (rises (on kind_place nat_cmp) kinds) are).0
 
-    back : (kinds : List Kind) → are_kinds kinds ≡ true → some_kinds (kinds_text kinds) ≡ Some kinds
+    back : (kinds : List Kind) → are_kinds kinds ≡ true → kinds_of_text (kinds_text kinds) ≡ Some kinds
     back kinds are =
         let read : kinds_with [] (map kind_code kinds) ≡ Some kinds =
         ap (λ (set : List Kind). kinds_with set (map kind_code kinds)) (sym set_of-none) ∙ read_back [] kinds ∙ ap (λ (set : List Kind). Some set) (put_in-set kinds ∙ set_of-rising kinds are) in
@@ -280,5 +280,5 @@ kinds_form = record { back = back; exact = exact; field = λ kinds are. kinds_to
         let parts = and_parts (are_kinds ks) (bytes_eq (kinds_text ks) field) passed.0 in
         subst (λ (set : List Kind). (are_kinds set ≡ true) × (kinds_text set ≡ field)) passed.1 (parts.0, (bytes_eq-Decides (kinds_text ks) field).0 parts.1)
 
-    exact : (field : List ℕ) (kinds : List Kind) → some_kinds field ≡ Some kinds → (are_kinds kinds ≡ true) × (kinds_text kinds ≡ field)
+    exact : (field : List ℕ) (kinds : List Kind) → kinds_of_text field ≡ Some kinds → (are_kinds kinds ≡ true) × (kinds_text kinds ≡ field)
     exact field kinds e = by field kinds (kinds_with [] (slice_split (λ b. b == 44) field)) e

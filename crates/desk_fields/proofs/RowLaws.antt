@@ -22,11 +22,11 @@ use Rattle.desk_fields.specs.declared.field_fault.FieldFault.TheVariants.{Shape,
 use Rattle.desk_fields.specs.declared.row_fault.RowFault.{RowFault}
 use Rattle.desk_fields.specs.declared.row_fault.RowFault.TheVariants as row
 use Rattle.desk_fields.specs.Faults.{row_fault_of}
-use Rattle.desk_fields.specs.EditReading.{edit_in, edit_of}
+use Rattle.desk_fields.specs.EditReading.{edit_reader, edit_of_text}
 use Rattle.desk_fields.specs.EditTexts.{IsEditText}
 use Rattle.desk_text.specs.Forms.{a_number}
 use Rattle.desk_fields.specs.Reading.{fields_of, one}
-use Rattle.desk_fields.specs.RowReading.{is_ticket_code, row_of, ticket_of, ticket_row_in}
+use Rattle.desk_fields.specs.RowReading.{is_ticket_code, row_of_fields, ticket_of, ticket_row_in}
 use Rattle.desk_fields.specs.RowTexts.{IsRowInForm, IsRowOf, IsTicketRow, body_fields, body_text, version}
 use Rattle.desk_fields.proofs.Codec.{IsCodec, none_some, some_same}
 use Rattle.desk_fields.proofs.Declared.{Within, exemption_codec, number_codec, number_good, number_read}
@@ -40,8 +40,8 @@ mapped_so : {A B : Type 0} (make : A → B) (o : Option A) (b : B) → option_ma
 mapped_so make None b h = none_some b h
 mapped_so make (Some a) b h = (a, refl, some_same (make a) b h)
 
-no_edit : is_some (edit_of (codes "D") []) ≡ false
-unfolding edit_of edit_in fields_of edit_word_of
+no_edit : is_some (edit_of_text (codes "D") []) ≡ false
+unfolding edit_of_text edit_reader fields_of edit_word_of
 no_edit = refl
 
 -- the table's number decides
@@ -64,7 +64,7 @@ module _ (table : ℕ) (code body : List ℕ) (fields : List (List ℕ)) (is : f
   there None h = absurd (false≢true h)
   there (Some a) h = (a, refl)
 
-  ticket_text : (n : ℕ) (rest : List (List ℕ)) → is_some (edit_of (codes "D") (joined rest)) ≡ true → fields ≡ decimal n ∷ rest → body ≡ join_with_byte 9 (version ∷ decimal n ∷ joined rest ∷ [])
+  ticket_text : (n : ℕ) (rest : List (List ℕ)) → is_some (edit_of_text (codes "D") (joined rest)) ≡ true → fields ≡ decimal n ∷ rest → body ≡ join_with_byte 9 (version ∷ decimal n ∷ joined rest ∷ [])
   unfolding fields_of
   ticket_text n [] h same = absurd (false≢true (sym no_edit ∙ h))
   ticket_text n (field ∷ rest) h same = sym (join_with_byte-slice_split 9 body) ∙ ap (join_with_byte 9) (is ∙ ap (λ fs. version ∷ fs) same)
@@ -74,9 +74,9 @@ module _ (table : ℕ) (code body : List ℕ) (fields : List (List ℕ)) (is : f
   ticket_by r None t read h = none_some r h
   ticket_by r (Some n) t read h =
       let number = number_in.exact fields n.1 n.0 read in
-      let passed = cond_some (is_ticket_code code && is_some (edit_of (codes "D") (joined n.1))) (record { code = code; number = n.0; text = joined n.1 }) r h in
-      let parts = and_parts (is_ticket_code code) (is_some (edit_of (codes "D") (joined n.1))) passed.0 in
-      let edit = there (edit_of (codes "D") (joined n.1)) parts.1 in
+      let passed = cond_some (is_ticket_code code && is_some (edit_of_text (codes "D") (joined n.1))) (record { code = code; number = n.0; text = joined n.1 }) r h in
+      let parts = and_parts (is_ticket_code code) (is_some (edit_of_text (codes "D") (joined n.1))) passed.0 in
+      let edit = there (edit_of_text (codes "D") (joined n.1)) parts.1 in
       subst (λ row. IsRowOf table code body (Ticket row)) passed.1 (record {
         form = record { code = ticket_code_exact code parts.0; number = number_good n.0 number.0; text = text_read (joined n.1) (codes "D") edit.0 other_good edit.1 };
         of_table = t;
@@ -90,8 +90,8 @@ module _ (table : ℕ) (code body : List ℕ) (fields : List (List ℕ)) (is : f
       let m = mapped_so Ticket (ticket_row_in code fields) row h in
       subst (IsRowOf table code body) m.2 (ticket_by m.0 (one (a_number 1 (2 ^ 64 - 1)) fields) t refl m.1)
 
-  pub row_exact : (row : Row) → row_of table code fields ≡ Some row → IsRowOf table code body row
-  unfolding row_of IsRowInForm table_number record_code body_fields
+  pub row_exact : (row : Row) → row_of_fields table code fields ≡ Some row → IsRowOf table code body row
+  unfolding row_of_fields IsRowInForm table_number record_code body_fields
   row_exact row h =
       decide 1 table _ _ row (table == 1) refl h (λ t here.
       let m = mapped_so Substance _ row here in
@@ -150,51 +150,51 @@ module _ (table : ℕ) (code body : List ℕ) (fields : List (List ℕ)) (is : f
       ∙ slice_split_at tab version 9 (decimal r.number ++ (9 ∷ r.text)) (All-cons (λ b. (b == 9) ≡ false) 49 [] refl (All-nil (λ b. (b == 9) ≡ false))) refl
       ∙ ap (λ rest. version ∷ rest) (slice_split_at tab (decimal r.number) 9 r.text (number_lacks 9 refl r.number (number_small r.number fits)) refl))
 
-  edit_there : (text : List ℕ) → IsEditText text → is_some (edit_of (codes "D") text) ≡ true
-  edit_there text e = ap is_some (ap (edit_of (codes "D")) e.2 ∙ read_back (codes "D") e.0 e.1)
+  edit_there : (text : List ℕ) → IsEditText text → is_some (edit_of_text (codes "D") text) ≡ true
+  edit_there text e = ap is_some (ap (edit_of_text (codes "D")) e.2 ∙ read_back (codes "D") e.0 e.1)
 
   ticket_read : (r : TicketRow) → IsTicketRow r → ticket_row_in r.code (decimal r.number ∷ fields_of r.text) ≡ Some r
   unfolding ticket_row_in fields_of
   ticket_read r form =
       ap (option_and_then (λ n. ticket_of r.code n.0 (joined n.1))) (number_in.back r.number (fields_of r.text) (number_read r.number form.number))
       ∙ ap (ticket_of r.code r.number) (join_with_byte-slice_split 9 r.text)
-      ∙ ap (λ b. cond b (Some r) None) (and_from (is_ticket_code r.code) (is_some (edit_of (codes "D") r.text)) (ticket_code_back r.code form.code) (edit_there r.text form.text))
+      ∙ ap (λ b. cond b (Some r) None) (and_from (is_ticket_code r.code) (is_some (edit_of_text (codes "D") r.text)) (ticket_code_back r.code form.code) (edit_there r.text form.text))
 
-  pub row_back : (row : Row) → IsRowOf table code body row → row_of table code fields ≡ Some row
-  unfolding row_of IsRowInForm table_number record_code body_fields body_text
+  pub row_back : (row : Row) → IsRowOf table code body row → row_of_fields table code fields ≡ Some row
+  unfolding row_of_fields IsRowInForm table_number record_code body_fields body_text
   row_back (Substance r) of =
       let same = same_fields (body_fields (Substance r)) (substance_row_codec.are r of.form).1 of.has_body in
-      (λ i. row_of (of.of_table i) (of.has_code i) (same i)) ∙ ap (option_map Substance) (single_back substance_row_codec (λ r. r.code) (λ r. body_fields (Substance r)) (λ r. refl) r of.form)
+      (λ i. row_of_fields (of.of_table i) (of.has_code i) (same i)) ∙ ap (option_map Substance) (single_back substance_row_codec (λ r. r.code) (λ r. body_fields (Substance r)) (λ r. refl) r of.form)
   row_back (Member r) of =
       let same = same_fields (body_fields (Member r)) (member_row_codec.are r of.form).1.1 of.has_body in
-      (λ i. row_of (of.of_table i) (of.has_code i) (same i))
+      (λ i. row_of_fields (of.of_table i) (of.has_code i) (same i))
       ∙ ap (option_map Member) (pair_row_back member_row_codec (λ r. r.substance) (λ r. rule_code r.rule) (λ r. body_fields (Member r)) (λ r. refl) member_lacks (λ r _. rule_lacks r.rule) r of.form)
   row_back (Material r) of =
       let same = same_fields (body_fields (Material r)) (material_row_codec.are r of.form).1 of.has_body in
-      (λ i. row_of (of.of_table i) (of.has_code i) (same i)) ∙ ap (option_map Material) (single_back material_row_codec (λ r. r.code) (λ r. body_fields (Material r)) (λ r. refl) r of.form)
+      (λ i. row_of_fields (of.of_table i) (of.has_code i) (same i)) ∙ ap (option_map Material) (single_back material_row_codec (λ r. r.code) (λ r. body_fields (Material r)) (λ r. refl) r of.form)
   row_back (Part r) of =
       let same = same_fields (body_fields (Part r)) (part_row_codec.are r of.form).1 of.has_body in
-      (λ i. row_of (of.of_table i) (of.has_code i) (same i)) ∙ ap (option_map Part) (single_back part_row_codec (λ r. r.code) (λ r. body_fields (Part r)) (λ r. refl) r of.form)
+      (λ i. row_of_fields (of.of_table i) (of.has_code i) (same i)) ∙ ap (option_map Part) (single_back part_row_codec (λ r. r.code) (λ r. body_fields (Part r)) (λ r. refl) r of.form)
   row_back (Line r) of =
       let same = same_fields (body_fields (Line r)) (line_row_codec.are r of.form).1.1 of.has_body in
-      (λ i. row_of (of.of_table i) (of.has_code i) (same i))
+      (λ i. row_of_fields (of.of_table i) (of.has_code i) (same i))
       ∙ ap (option_map Line) (pair_row_back line_row_codec (λ r. r.parent) (λ r. r.child) (λ r. body_fields (Line r)) (λ r. refl) parent_lacks child_lacks r of.form)
   row_back (Product r) of =
       let same = same_fields (body_fields (Product r)) (product_row_codec.are r of.form).1 of.has_body in
-      (λ i. row_of (of.of_table i) (of.has_code i) (same i)) ∙ ap (option_map Product) (single_back product_row_codec (λ r. r.part) (λ r. body_fields (Product r)) (λ r. refl) r of.form)
+      (λ i. row_of_fields (of.of_table i) (of.has_code i) (same i)) ∙ ap (option_map Product) (single_back product_row_codec (λ r. r.part) (λ r. body_fields (Product r)) (λ r. refl) r of.form)
   row_back (Exemption r) of =
       let same = same_fields (body_fields (Exemption r)) (exemption_codec.are r of.form).1 of.has_body in
-      (λ i. row_of (of.of_table i) (of.has_code i) (same i)) ∙ ap (option_map Exemption) (single_back exemption_codec (λ r. r.terms.row) (λ r. body_fields (Exemption r)) (λ r. refl) r of.form)
+      (λ i. row_of_fields (of.of_table i) (of.has_code i) (same i)) ∙ ap (option_map Exemption) (single_back exemption_codec (λ r. r.terms.row) (λ r. body_fields (Exemption r)) (λ r. refl) r of.form)
   row_back (Candidate r) of =
       let same = same_fields (body_fields (Candidate r)) (candidate_row_codec.are r of.form).1 of.has_body in
-      (λ i. row_of (of.of_table i) (of.has_code i) (same i)) ∙ ap (option_map Candidate) (single_back candidate_row_codec (λ r. r.substance) (λ r. body_fields (Candidate r)) (λ r. refl) r of.form)
+      (λ i. row_of_fields (of.of_table i) (of.has_code i) (same i)) ∙ ap (option_map Candidate) (single_back candidate_row_codec (λ r. r.substance) (λ r. body_fields (Candidate r)) (λ r. refl) r of.form)
   row_back (Shipment r) of =
       let same = same_fields (body_fields (Shipment r)) (shipment_row_codec.are r of.form).1.1 of.has_body in
-      (λ i. row_of (of.of_table i) (of.has_code i) (same i))
+      (λ i. row_of_fields (of.of_table i) (of.has_code i) (same i))
       ∙ ap (option_map Shipment) (pair_row_back shipment_row_codec (λ r. decimal r.year) (λ r. r.product) (λ r. body_fields (Shipment r)) (λ r. refl) year_lacks product_lacks r of.form)
   row_back (Ticket r) of =
       let same = ticket_fields r of.form.number of.has_body in
-      (λ i. row_of (of.of_table i) (of.has_code i) (same i)) ∙ ap (option_map Ticket) (ticket_read r of.form)
+      (λ i. row_of_fields (of.of_table i) (of.has_code i) (same i)) ∙ ap (option_map Ticket) (ticket_read r of.form)
 
 -- the fields of a row's text are the version and others
 pub has_version : (table : ℕ) (code body : List ℕ) (row : Row) → IsRowOf table code body row → (fields : List (List ℕ)) × (fields_of body ≡ version ∷ fields)

@@ -13,7 +13,7 @@ use Rattle.desk_model.specs.EditText.{declared_code, sent_code}
 use Rattle.desk_model.specs.Values.{is_code}
 use Rattle.desk_model.proofs.EditTold.{number_small}
 use Rattle.desk_text.specs.Forms.{a_code, a_number}
-use Rattle.desk_fields.specs.Reading.{both, one, whole}
+use Rattle.desk_fields.specs.Reading.{both, one, all_fields}
 use Rattle.desk_fields.specs.RowReading.{are_ticket_parts, is_ticket_code}
 use Rattle.desk_fields.specs.RowTexts.{IsTicketCode}
 use Rattle.desk_fields.proofs.Codec.{IsCodec, both_codec}
@@ -34,16 +34,16 @@ module _ (code : List ℕ) where
   joins : (parts : List (List ℕ)) → split ≡ parts → code ≡ join_with_byte 58 parts
   joins parts e = sym (join_with_byte-slice_split 58 code) ∙ ap (join_with_byte 58) e
 
-  sent : (word : List ℕ) (parts : List (List ℕ)) → split ≡ word ∷ parts → bytes_eq word (codes "E") ≡ true → is_some (whole (one a_code) parts) ≡ true → IsTicketCode code
+  sent : (word : List ℕ) (parts : List (List ℕ)) → split ≡ word ∷ parts → bytes_eq word (codes "E") ≡ true → is_some (all_fields (one a_code) parts) ≡ true → IsTicketCode code
   sent word parts e is h =
-      let there = some_there (whole (one a_code) parts) h in
+      let there = some_there (all_fields (one a_code) parts) h in
       let told = whole_exact code_codec parts there.0 there.1 in
       let first : word ≡ codes "E" = (bytes_eq-Decides word (codes "E")).0 is in
       inl (there.0, told.0, joins (word ∷ parts) e ∙ (λ i. join_with_byte 58 (first i ∷ told.1 i)))
 
-  declared : (word : List ℕ) (parts : List (List ℕ)) → split ≡ word ∷ parts → bytes_eq word (codes "D") ≡ true → is_some (whole (both (one a_code) (one (a_number 1 (2 ^ 64 - 1)))) parts) ≡ true → IsTicketCode code
+  declared : (word : List ℕ) (parts : List (List ℕ)) → split ≡ word ∷ parts → bytes_eq word (codes "D") ≡ true → is_some (all_fields (both (one a_code) (one (a_number 1 (2 ^ 64 - 1)))) parts) ≡ true → IsTicketCode code
   declared word parts e is h =
-      let there = some_there (whole (both (one a_code) (one (a_number 1 (2 ^ 64 - 1)))) parts) h in
+      let there = some_there (all_fields (both (one a_code) (one (a_number 1 (2 ^ 64 - 1)))) parts) h in
       let told = whole_exact declared_codes parts there.0 there.1 in
       let first : word ≡ codes "D" = (bytes_eq-Decides word (codes "D")).0 is in
       let supplier = there.0.0 in
@@ -56,10 +56,10 @@ module _ (code : List ℕ) where
   by_parts (word ∷ parts) e h = by (bytes_eq word (codes "E")) refl h
     where
       by : (b : Bool) → bytes_eq word (codes "E") ≡ b
-          → cond b (is_some (whole (one a_code) parts)) (bytes_eq word (codes "D") && is_some (whole (both (one a_code) (one (a_number 1 (2 ^ 64 - 1)))) parts)) ≡ true → IsTicketCode code
+          → cond b (is_some (all_fields (one a_code) parts)) (bytes_eq word (codes "D") && is_some (all_fields (both (one a_code) (one (a_number 1 (2 ^ 64 - 1)))) parts)) ≡ true → IsTicketCode code
       by true is k = sent word parts e is k
       by false is k =
-          let both_ = and_parts (bytes_eq word (codes "D")) (is_some (whole (both (one a_code) (one (a_number 1 (2 ^ 64 - 1)))) parts)) k in
+          let both_ = and_parts (bytes_eq word (codes "D")) (is_some (all_fields (both (one a_code) (one (a_number 1 (2 ^ 64 - 1)))) parts)) k in
           declared word parts e both_.0 both_.1
 
   pub ticket_code_exact : is_ticket_code code ≡ true → IsTicketCode code

@@ -17,7 +17,7 @@ use Rattle.desk_fields.specs.declared.field_fault.FieldFault.TheVariants.{Shape,
 use Rattle.desk_fields.specs.declared.text_fault.TextFault.{TextFault}
 use Rattle.desk_fields.specs.declared.text_fault.TextFault.TheVariants.{NotAnEdit}
 use Rattle.desk_fields.specs.Faults.{text_fault_of}
-use Rattle.desk_fields.specs.EditReading.{edit_of, ticket_in}
+use Rattle.desk_fields.specs.EditReading.{edit_of_text, ticket_in}
 use Rattle.desk_fields.specs.EditTexts.{IsEditOf, IsEditText}
 use Rattle.desk_text.specs.Forms.{a_code}
 use Rattle.desk_fields.proofs.Codec.{none_some, some_same}
@@ -68,34 +68,34 @@ same_ticket code (Unship ticket product year units) good is =
     ap (λ t. Unship t product year units) (sent_ticket code ticket (four_parts (is_code ticket) (is_code product) (is_year year) (are_units units) good).0 is)
 
 -- an edit of this code and text is what is read of the text
-pub is_read : (code text : List ℕ) (e : Edit) → is_edit_in_form e ≡ true → code ≡ ticket_code e → text ≡ edit_text e → edit_of (ticket_in code) text ≡ Some e
+pub is_read : (code text : List ℕ) (e : Edit) → is_edit_in_form e ≡ true → code ≡ ticket_code e → text ≡ edit_text e → edit_of_text (ticket_in code) text ≡ Some e
 is_read code text e good is told =
-    ap (edit_of (ticket_in code)) told ∙ read_back (ticket_in code) e good ∙ ap (λ x. Some x) (same_ticket code e good is)
+    ap (edit_of_text (ticket_in code)) told ∙ read_back (ticket_in code) e good ∙ ap (λ x. Some x) (same_ticket code e good is)
 
 -- where nothing is read there is none
-pub none_of : {code text ticket : List ℕ} → ticket ≡ ticket_in code → edit_of ticket text ≡ None → (e : Edit) → is_edit_in_form e ≡ true → code ≡ ticket_code e → text ≡ edit_text e → ⊥
+pub none_of : {code text ticket : List ℕ} → ticket ≡ ticket_in code → edit_of_text ticket text ≡ None → (e : Edit) → is_edit_in_form e ≡ true → code ≡ ticket_code e → text ≡ edit_text e → ⊥
 none_of {code = code} {text = text} asked none e good is told =
-    none_some e (sym none ∙ ap (λ t. edit_of t text) asked ∙ is_read code text e good is told)
+    none_some e (sym none ∙ ap (λ t. edit_of_text t text) asked ∙ is_read code text e good is told)
 
 -- nor where what is read is of another code
-pub other_code : {code text ticket : List ℕ} (x : Edit) → ticket ≡ ticket_in code → edit_of ticket text ≡ Some x → (code ≡ ticket_code x → ⊥)
+pub other_code : {code text ticket : List ℕ} (x : Edit) → ticket ≡ ticket_in code → edit_of_text ticket text ≡ Some x → (code ≡ ticket_code x → ⊥)
     → (e : Edit) → is_edit_in_form e ≡ true → code ≡ ticket_code e → text ≡ edit_text e → ⊥
 other_code {code = code} {text = text} x asked read other e good is told =
-    other (is ∙ ap ticket_code (some_same e x (sym (is_read code text e good is told) ∙ ap (λ t. edit_of t text) (sym asked) ∙ read)))
+    other (is ∙ ap ticket_code (some_same e x (sym (is_read code text e good is told) ∙ ap (λ t. edit_of_text t text) (sym asked) ∙ read)))
 
 -- and what is read of this code is the edit
-pub edit_read : {code text ticket : List ℕ} (x : Edit) → ticket ≡ ticket_in code → edit_of ticket text ≡ Some x → code ≡ ticket_code x → IsEditOf code text x
+pub edit_read : {code text ticket : List ℕ} (x : Edit) → ticket ≡ ticket_in code → edit_of_text ticket text ≡ Some x → code ≡ ticket_code x → IsEditOf code text x
 edit_read {code = code} {text = text} x asked read is =
-    let told = read_exact (ticket_in code) text x (ticket_good code) (ap (λ t. edit_of t text) (sym asked) ∙ read) in
+    let told = read_exact (ticket_in code) text x (ticket_good code) (ap (λ t. edit_of_text t text) (sym asked) ∙ read) in
     (told.0, is, told.1)
 
 -- whichever the code, a text is an edit's where it is read as one
-pub text_read : (text ticket : List ℕ) (x : Edit) → is_code ticket ≡ true → edit_of ticket text ≡ Some x → IsEditText text
+pub text_read : (text ticket : List ℕ) (x : Edit) → is_code ticket ≡ true → edit_of_text ticket text ≡ Some x → IsEditText text
 text_read text ticket x good read = let told = read_exact ticket text x good read in (x, told.0, told.1)
 
 -- and none's where it isn't
-pub none_text : (text ticket : List ℕ) → edit_of ticket text ≡ None → IsEditText text → ⊥
-none_text text ticket none is = none_some (with_ticket ticket is.0) (sym none ∙ ap (edit_of ticket) is.2 ∙ read_back ticket is.0 is.1)
+pub none_text : (text ticket : List ℕ) → edit_of_text ticket text ≡ None → IsEditText text → ⊥
+none_text text ticket none is = none_some (with_ticket ticket is.0) (sym none ∙ ap (edit_of_text ticket) is.2 ∙ read_back ticket is.0 is.1)
 
 -- a fault of the fields that is handed on
 pub handed_text : {T : Type 0} (r : Result T TextFault) (fault : FieldFault) → IsErrAnd r (λ e. e ≡ text_fault_of fault) → r ≡ Err NotAnEdit → fault ≡ Shape

@@ -31,7 +31,7 @@ use Rattle.desk_model.specs.declared.edit_word.EditWord.{EditWord}
 use Rattle.desk_model.specs.declared.edit_word.EditWord.TheVariants as word
 use Rattle.desk_model.specs.EditWords.{all_words, edit_word_of, word_text}
 use Rattle.desk_text.specs.Forms.{a_cas, a_code, a_day, a_name, a_number, an_exemption_number}
-use Rattle.desk_fields.specs.Forms.{an_annex, maybe}
+use Rattle.desk_fields.specs.Forms.{annex_of_text, maybe}
 use Rattle.desk_fields.proofs.Codec.{IsForm, maybe_form, number_form, ok_of_some, reader_form}
 
 pub code_form : IsForm a_code (λ code. code) (λ code. is_code code ≡ true)
@@ -140,12 +140,12 @@ unfolding annex_number
 annex_small Three = omega arith
 annex_small Four = omega arith
 
-annex_back : (annex : Annex) → an_annex (decimal (annex_number annex)) ≡ Some annex
-unfolding an_annex
+annex_back : (annex : Annex) → annex_of_text (decimal (annex_number annex)) ≡ Some annex
+unfolding annex_of_text
 annex_back annex = rw ((number_reader (2 ^ 64) (omega arith)).back (annex_number annex) (annex_small annex)) (annex_found annex)
 
-annex_exact : (field : List ℕ) (annex : Annex) → an_annex field ≡ Some annex → decimal (annex_number annex) ≡ field
-unfolding an_annex
+annex_exact : (field : List ℕ) (annex : Annex) → annex_of_text field ≡ Some annex → decimal (annex_number annex) ≡ field
+unfolding annex_of_text
 annex_exact field annex e = by (result_ok (number_below (2 ^ 64) field)) refl e
   where
     by : (o : Option ℕ) → result_ok (number_below (2 ^ 64) field) ≡ o → option_and_then annex_of o ≡ Some annex → decimal (annex_number annex) ≡ field
@@ -153,7 +153,7 @@ annex_exact field annex e = by (result_ok (number_below (2 ^ 64) field)) refl e
     by (Some n) is e =
         ap decimal (annex_found_by n annex e) ∙ ((number_reader (2 ^ 64) (omega arith)).exact field n (ok_of_some (number_below (2 ^ 64) field) n is)).1
 
-pub annex_form : IsForm an_annex (λ annex. decimal (annex_number annex)) (λ _. Unit {0})
+pub annex_form : IsForm annex_of_text (λ annex. decimal (annex_number annex)) (λ _. Unit {0})
 annex_form = record { back = λ annex _. annex_back annex; exact = λ field annex e. (tt, annex_exact field annex e); field = annex_told.field }
 
 -- what may be absent

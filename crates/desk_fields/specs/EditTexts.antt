@@ -18,13 +18,13 @@ abbrev pub IsEditText : List ℕ → Type 0
 IsEditText text = (edit : Edit) × (is_edit_in_form edit ≡ true) × (text ≡ edit_text edit)
 
 -- the edit holds texts or a list, for which memory is taken as it is read: a name, or the materials of a declaration
-unfoldable pub has_texts : EditWord → Bool
-has_texts word.Substance = true
-has_texts word.Declare = true
-has_texts word.Part = true
-has_texts word.Exemption = true
-has_texts _ = false
+unfoldable pub edit_has_texts : EditWord → Bool
+edit_has_texts word.Substance = true
+edit_has_texts word.Declare = true
+edit_has_texts word.Part = true
+edit_has_texts word.Exemption = true
+edit_has_texts _ = false
 
 -- the first of the fields is the word of such an edit
 unfoldable pub begins_with_texts : List (List ℕ) → Bool
-begins_with_texts fields = option_map_or (λ w. has_texts w.0) (one edit_word_of fields) false
+begins_with_texts fields = option_map_or (λ w. edit_has_texts w.0) (one edit_word_of fields) false

@@ -16,8 +16,8 @@ use Rattle.desk_law.specs.KindSet.{kinds_text, set_of}
 use Rattle.desk_model.specs.Terms.{are_kinds}
 
 -- an annex, by its number
-unfoldable pub an_annex : List ℕ → Option Annex
-an_annex field = option_and_then annex_of (result_ok (number_below (2 ^ 64) field))
+unfoldable pub annex_of_text : List ℕ → Option Annex
+annex_of_text field = option_and_then annex_of (result_ok (number_below (2 ^ 64) field))
 
 -- what may be absent: the field is empty then
 abbrev pub maybe : {A : Type 0} → (List ℕ → Option A) → List ℕ → Option (Option A)
@@ -30,7 +30,7 @@ kinds_with set [] = Some set
 kinds_with set (word ∷ words) = option_and_then (λ kind. kinds_with (set_of (kind ∷ set)) words) (kind_of word)
 
 -- a set of at least one kind, by the codes of its kinds with commas between them, in the one order in which a set is written
-unfoldable pub some_kinds : List ℕ → Option (List Kind)
-some_kinds field =
+unfoldable pub kinds_of_text : List ℕ → Option (List Kind)
+kinds_of_text field =
     option_and_then (λ kinds. if are_kinds kinds && bytes_eq (kinds_text kinds) field then Some kinds else None)
     (kinds_with [] (slice_split (λ b. b == 44) field))

@@ -24,8 +24,8 @@ abbrev pub both : {A B : Type 0} → Reader A → Reader B → Reader (A × B)
 both first second fields = option_and_then (λ x. option_map (λ y. ((x.0, y.0), y.1)) (second x.1)) (first fields)
 
 -- a value that is made of what is read
-abbrev pub made : {A B : Type 0} → (A → B) → Reader A → Reader B
-made make read fields = option_map (λ x. (make x.0, x.1)) (read fields)
+abbrev pub built_of : {A B : Type 0} → (A → B) → Reader A → Reader B
+built_of make read fields = option_map (λ x. (make x.0, x.1)) (read fields)
 
 -- what is made of values that were read one behind the other
 abbrev pub two : {A B M : Type 0} → (A → B → M) → A × B → M
@@ -56,8 +56,8 @@ times zero read fields = Some ([], fields)
 times (suc n) read fields = option_and_then (λ x. option_map (λ y. (x.0 ∷ y.0, y.1)) (times n read x.1)) (read fields)
 
 -- a list of at most so many values, with how many there are in front
-abbrev pub counted : {A : Type 0} → ℕ → Reader A → Reader (List A)
-counted limit read fields = option_and_then (λ n. times n.0 read n.1) (one (a_number 0 limit) fields)
+abbrev pub counted_list : {A : Type 0} → ℕ → Reader A → Reader (List A)
+counted_list limit read fields = option_and_then (λ n. times n.0 read n.1) (one (a_number 0 limit) fields)
 
 -- each value is below the one behind it, which is what a loop over neighbours finds: in an order these are the lists that rise
 abbrev pub in_turn : {A : Type 0} → (A → A → Ordering) → List A → Bool
@@ -67,7 +67,7 @@ in_turn order (a ∷ b ∷ rest) = is_lt (order a b) && in_turn order (b ∷ res
 
 -- a counted list whose values rise
 abbrev pub rising : {A : Type 0} → (A → A → Ordering) → ℕ → Reader A → Reader (List A)
-rising order limit read = tested (rises order) (counted limit read)
+rising order limit read = tested (rises order) (counted_list limit read)
 
 -- a value is all that was read
 abbrev pub ended : {A : Type 0} → A × List (List ℕ) → Option A
@@ -75,5 +75,5 @@ ended (a, []) = Some a
 ended (a, field ∷ fields) = None
 
 -- the value that all of the fields are
-abbrev pub whole : {A : Type 0} → Reader A → List (List ℕ) → Option A
-whole read fields = option_and_then ended (read fields)
+abbrev pub all_fields : {A : Type 0} → Reader A → List (List ℕ) → Option A
+all_fields read fields = option_and_then ended (read fields)

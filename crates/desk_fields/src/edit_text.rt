@@ -3,7 +3,7 @@ ghost use Rattle.desk_model.specs.declared.edit.Edit.{Edit};
 ghost use Rattle.desk_model.specs.EditText.{edit_text, ticket_code};
 ghost use Rattle.desk_model.specs.Forms.{is_edit_in_form};
 ghost use Rattle.desk_fields.specs.EditTexts.{IsEditOf, IsEditText, begins_with_texts};
-ghost use Rattle.desk_fields.specs.EditReading.{edit_of, ticket_in};
+ghost use Rattle.desk_fields.specs.EditReading.{edit_of_text, ticket_in};
 ghost use Rattle.desk_fields.specs.Reading.{fields_of};
 
 use crate::TextFault;
@@ -47,8 +47,8 @@ pub fn is_edit_text(alloc: Global, text: &[u8]) -> Result<bool, OutOfMemory>
 
 /// Says that the bytes are the text of an edit, under whichever ticket.
 pub(crate) fn check_edit_text(alloc: Global, text: &[u8]) -> Result<(), FieldFault>
-    ensures ok { OnOk result (is_some (edit_of (codes "D") text.now) ≡ true) }
-    ensures shape { result ≡ Err FieldFault.Shape → is_some (edit_of (codes "D") text.now) ≡ false }
+    ensures ok { OnOk result (is_some (edit_of_text (codes "D") text.now) ≡ true) }
+    ensures shape { result ≡ Err FieldFault.Shape → is_some (edit_of_text (codes "D") text.now) ≡ false }
     ensures memory { result ≡ Err FieldFault.OutOfMemory → begins_with_texts (fields_of text.now) ≡ true }
 {
     drop(edit_of(alloc, no_ticket(), text)?);

@@ -1,6 +1,6 @@
 ghost use Rattle.std.specs.Prelude.{◌≡◌, ◌≢◌, Err, IfOk, None, Some, true};
-ghost use Rattle.desk_fields.specs.EditReading.{edit_by, edit_in, edit_of};
-ghost use Rattle.desk_fields.specs.EditTexts.{begins_with_texts, has_texts};
+ghost use Rattle.desk_fields.specs.EditReading.{edit_reader_of_word, edit_reader, edit_of_text};
+ghost use Rattle.desk_fields.specs.EditTexts.{begins_with_texts, edit_has_texts};
 ghost use Rattle.desk_fields.specs.Reading.{fields_of};
 ghost use Rattle.desk_model.specs.declared.edit_word.EditWord.TheVariants as word;
 
@@ -13,10 +13,10 @@ use desk_text::Code;
 use std::alloc::Global;
 
 /// The edit whose text the bytes are, under a sender's ticket. A declaration has none, and is read as it is.
-#[tactic(auto, unfolding(crate::specs::EditReading::edit_of, crate::specs::Reading::fields_of))]
+#[tactic(auto, unfolding(crate::specs::EditReading::edit_of_text, crate::specs::Reading::fields_of))]
 pub(crate) fn edit_of(alloc: Global, ticket: Code, text: &[u8]) -> Result<Edit, FieldFault>
-    ensures ok { IfOk result (λ edit. edit_of ticket text.now ≡ Some edit) }
-    ensures shape { result ≡ Err FieldFault.Shape → edit_of ticket text.now ≡ None }
+    ensures ok { IfOk result (λ edit. edit_of_text ticket text.now ≡ Some edit) }
+    ensures shape { result ≡ Err FieldFault.Shape → edit_of_text ticket text.now ≡ None }
     ensures memory { result ≡ Err FieldFault.OutOfMemory → begins_with_texts (fields_of text.now) ≡ true }
 {
     let mut fields = Fields::of(text);
@@ -26,10 +26,10 @@ pub(crate) fn edit_of(alloc: Global, ticket: Code, text: &[u8]) -> Result<Edit, 
 }
 
 /// The edit that the fields begin with.
-#[tactic(auto, unfolding(crate::specs::EditReading::edit_in, crate::specs::EditTexts::begins_with_texts))]
+#[tactic(auto, unfolding(crate::specs::EditReading::edit_reader, crate::specs::EditTexts::begins_with_texts))]
 fn edit(alloc: Global, ticket: Code, fields: &mut Fields<'_>) -> Result<Edit, FieldFault>
-    ensures ok { IfOk result (λ edit. edit_in ticket fields.old ≡ Some (edit, fields.new)) }
-    ensures shape { result ≡ Err FieldFault.Shape → edit_in ticket fields.old ≡ None }
+    ensures ok { IfOk result (λ edit. edit_reader ticket fields.old ≡ Some (edit, fields.new)) }
+    ensures shape { result ≡ Err FieldFault.Shape → edit_reader ticket fields.old ≡ None }
     ensures memory { result ≡ Err FieldFault.OutOfMemory → begins_with_texts fields.old ≡ true }
 {
     let word = fields.take()?;
@@ -37,16 +37,16 @@ fn edit(alloc: Global, ticket: Code, fields: &mut Fields<'_>) -> Result<Edit, Fi
 }
 
 /// The edit of a word.
-#[tactic(auto, unfolding(crate::specs::EditReading::edit_by, crate::specs::EditTexts::has_texts))]
+#[tactic(auto, unfolding(crate::specs::EditReading::edit_reader_of_word, crate::specs::EditTexts::edit_has_texts))]
 fn edit_by(
     alloc: Global,
     ticket: Code,
     word: EditWord,
     fields: &mut Fields<'_>,
 ) -> Result<Edit, FieldFault>
-    ensures ok { IfOk result (λ edit. edit_by ticket word fields.old ≡ Some (edit, fields.new)) }
-    ensures shape { result ≡ Err FieldFault.Shape → edit_by ticket word fields.old ≡ None }
-    ensures memory { result ≡ Err FieldFault.OutOfMemory → has_texts word ≡ true }
+    ensures ok { IfOk result (λ edit. edit_reader_of_word ticket word fields.old ≡ Some (edit, fields.new)) }
+    ensures shape { result ≡ Err FieldFault.Shape → edit_reader_of_word ticket word fields.old ≡ None }
+    ensures memory { result ≡ Err FieldFault.OutOfMemory → edit_has_texts word ≡ true }
 {
     match word {
         EditWord::Substance => substance(alloc, ticket, fields),
@@ -67,10 +67,10 @@ fn edit_by(
 }
 
 /// The edit that enters a substance.
-#[tactic(auto, unfolding(crate::specs::EditReading::edit_by))]
+#[tactic(auto, unfolding(crate::specs::EditReading::edit_reader_of_word))]
 fn substance(alloc: Global, ticket: Code, fields: &mut Fields<'_>) -> Result<Edit, FieldFault>
-    ensures ok { IfOk result (λ edit. edit_by ticket word.Substance fields.old ≡ Some (edit, fields.new)) }
-    ensures shape { result ≡ Err FieldFault.Shape → edit_by ticket word.Substance fields.old ≡ None }
+    ensures ok { IfOk result (λ edit. edit_reader_of_word ticket word.Substance fields.old ≡ Some (edit, fields.new)) }
+    ensures shape { result ≡ Err FieldFault.Shape → edit_reader_of_word ticket word.Substance fields.old ≡ None }
 {
     Ok(Edit::Substance {
         ticket,
@@ -81,10 +81,10 @@ fn substance(alloc: Global, ticket: Code, fields: &mut Fields<'_>) -> Result<Edi
 }
 
 /// The edit that sets a factor.
-#[tactic(auto, unfolding(crate::specs::EditReading::edit_by))]
+#[tactic(auto, unfolding(crate::specs::EditReading::edit_reader_of_word))]
 fn member(ticket: Code, fields: &mut Fields<'_>) -> Result<Edit, FieldFault>
-    ensures ok { IfOk result (λ edit. edit_by ticket word.Member fields.old ≡ Some (edit, fields.new)) }
-    ensures shape { result ≡ Err FieldFault.Shape → edit_by ticket word.Member fields.old ≡ None }
+    ensures ok { IfOk result (λ edit. edit_reader_of_word ticket word.Member fields.old ≡ Some (edit, fields.new)) }
+    ensures shape { result ≡ Err FieldFault.Shape → edit_reader_of_word ticket word.Member fields.old ≡ None }
     ensures memory { result ≢ Err FieldFault.OutOfMemory }
 {
     Ok(Edit::Member {
@@ -96,10 +96,10 @@ fn member(ticket: Code, fields: &mut Fields<'_>) -> Result<Edit, FieldFault>
 }
 
 /// The edit that enters a part.
-#[tactic(auto, unfolding(crate::specs::EditReading::edit_by))]
+#[tactic(auto, unfolding(crate::specs::EditReading::edit_reader_of_word))]
 fn part(alloc: Global, ticket: Code, fields: &mut Fields<'_>) -> Result<Edit, FieldFault>
-    ensures ok { IfOk result (λ edit. edit_by ticket word.Part fields.old ≡ Some (edit, fields.new)) }
-    ensures shape { result ≡ Err FieldFault.Shape → edit_by ticket word.Part fields.old ≡ None }
+    ensures ok { IfOk result (λ edit. edit_reader_of_word ticket word.Part fields.old ≡ Some (edit, fields.new)) }
+    ensures shape { result ≡ Err FieldFault.Shape → edit_reader_of_word ticket word.Part fields.old ≡ None }
 {
     Ok(Edit::Part {
         ticket,
@@ -110,10 +110,10 @@ fn part(alloc: Global, ticket: Code, fields: &mut Fields<'_>) -> Result<Edit, Fi
 }
 
 /// The edit that enters a line.
-#[tactic(auto, unfolding(crate::specs::EditReading::edit_by))]
+#[tactic(auto, unfolding(crate::specs::EditReading::edit_reader_of_word))]
 fn line(ticket: Code, fields: &mut Fields<'_>) -> Result<Edit, FieldFault>
-    ensures ok { IfOk result (λ edit. edit_by ticket word.Line fields.old ≡ Some (edit, fields.new)) }
-    ensures shape { result ≡ Err FieldFault.Shape → edit_by ticket word.Line fields.old ≡ None }
+    ensures ok { IfOk result (λ edit. edit_reader_of_word ticket word.Line fields.old ≡ Some (edit, fields.new)) }
+    ensures shape { result ≡ Err FieldFault.Shape → edit_reader_of_word ticket word.Line fields.old ≡ None }
     ensures memory { result ≢ Err FieldFault.OutOfMemory }
 {
     Ok(Edit::Line {
@@ -125,10 +125,10 @@ fn line(ticket: Code, fields: &mut Fields<'_>) -> Result<Edit, FieldFault>
 }
 
 /// The edit that takes a line out.
-#[tactic(auto, unfolding(crate::specs::EditReading::edit_by))]
+#[tactic(auto, unfolding(crate::specs::EditReading::edit_reader_of_word))]
 fn unline(ticket: Code, fields: &mut Fields<'_>) -> Result<Edit, FieldFault>
-    ensures ok { IfOk result (λ edit. edit_by ticket word.Unline fields.old ≡ Some (edit, fields.new)) }
-    ensures shape { result ≡ Err FieldFault.Shape → edit_by ticket word.Unline fields.old ≡ None }
+    ensures ok { IfOk result (λ edit. edit_reader_of_word ticket word.Unline fields.old ≡ Some (edit, fields.new)) }
+    ensures shape { result ≡ Err FieldFault.Shape → edit_reader_of_word ticket word.Unline fields.old ≡ None }
     ensures memory { result ≢ Err FieldFault.OutOfMemory }
 {
     Ok(Edit::Unline {
@@ -139,10 +139,10 @@ fn unline(ticket: Code, fields: &mut Fields<'_>) -> Result<Edit, FieldFault>
 }
 
 /// The edit that names a product.
-#[tactic(auto, unfolding(crate::specs::EditReading::edit_by))]
+#[tactic(auto, unfolding(crate::specs::EditReading::edit_reader_of_word))]
 fn product(ticket: Code, fields: &mut Fields<'_>) -> Result<Edit, FieldFault>
-    ensures ok { IfOk result (λ edit. edit_by ticket word.Product fields.old ≡ Some (edit, fields.new)) }
-    ensures shape { result ≡ Err FieldFault.Shape → edit_by ticket word.Product fields.old ≡ None }
+    ensures ok { IfOk result (λ edit. edit_reader_of_word ticket word.Product fields.old ≡ Some (edit, fields.new)) }
+    ensures shape { result ≡ Err FieldFault.Shape → edit_reader_of_word ticket word.Product fields.old ≡ None }
     ensures memory { result ≢ Err FieldFault.OutOfMemory }
 {
     Ok(Edit::Product {
@@ -153,10 +153,10 @@ fn product(ticket: Code, fields: &mut Fields<'_>) -> Result<Edit, FieldFault>
 }
 
 /// The edit that takes an exemption row out.
-#[tactic(auto, unfolding(crate::specs::EditReading::edit_by))]
+#[tactic(auto, unfolding(crate::specs::EditReading::edit_reader_of_word))]
 fn unexempt(ticket: Code, fields: &mut Fields<'_>) -> Result<Edit, FieldFault>
-    ensures ok { IfOk result (λ edit. edit_by ticket word.Unexempt fields.old ≡ Some (edit, fields.new)) }
-    ensures shape { result ≡ Err FieldFault.Shape → edit_by ticket word.Unexempt fields.old ≡ None }
+    ensures ok { IfOk result (λ edit. edit_reader_of_word ticket word.Unexempt fields.old ≡ Some (edit, fields.new)) }
+    ensures shape { result ≡ Err FieldFault.Shape → edit_reader_of_word ticket word.Unexempt fields.old ≡ None }
     ensures memory { result ≢ Err FieldFault.OutOfMemory }
 {
     Ok(Edit::Unexempt {
@@ -166,10 +166,10 @@ fn unexempt(ticket: Code, fields: &mut Fields<'_>) -> Result<Edit, FieldFault>
 }
 
 /// The edit that enters a candidate.
-#[tactic(auto, unfolding(crate::specs::EditReading::edit_by))]
+#[tactic(auto, unfolding(crate::specs::EditReading::edit_reader_of_word))]
 fn candidate(ticket: Code, fields: &mut Fields<'_>) -> Result<Edit, FieldFault>
-    ensures ok { IfOk result (λ edit. edit_by ticket word.Candidate fields.old ≡ Some (edit, fields.new)) }
-    ensures shape { result ≡ Err FieldFault.Shape → edit_by ticket word.Candidate fields.old ≡ None }
+    ensures ok { IfOk result (λ edit. edit_reader_of_word ticket word.Candidate fields.old ≡ Some (edit, fields.new)) }
+    ensures shape { result ≡ Err FieldFault.Shape → edit_reader_of_word ticket word.Candidate fields.old ≡ None }
     ensures memory { result ≢ Err FieldFault.OutOfMemory }
 {
     Ok(Edit::Candidate {
@@ -180,10 +180,10 @@ fn candidate(ticket: Code, fields: &mut Fields<'_>) -> Result<Edit, FieldFault>
 }
 
 /// The edit that adds shipped units.
-#[tactic(auto, unfolding(crate::specs::EditReading::edit_by))]
+#[tactic(auto, unfolding(crate::specs::EditReading::edit_reader_of_word))]
 fn ship(ticket: Code, fields: &mut Fields<'_>) -> Result<Edit, FieldFault>
-    ensures ok { IfOk result (λ edit. edit_by ticket word.Ship fields.old ≡ Some (edit, fields.new)) }
-    ensures shape { result ≡ Err FieldFault.Shape → edit_by ticket word.Ship fields.old ≡ None }
+    ensures ok { IfOk result (λ edit. edit_reader_of_word ticket word.Ship fields.old ≡ Some (edit, fields.new)) }
+    ensures shape { result ≡ Err FieldFault.Shape → edit_reader_of_word ticket word.Ship fields.old ≡ None }
     ensures memory { result ≢ Err FieldFault.OutOfMemory }
 {
     Ok(Edit::Ship {
@@ -195,10 +195,10 @@ fn ship(ticket: Code, fields: &mut Fields<'_>) -> Result<Edit, FieldFault>
 }
 
 /// The edit that takes shipped units off.
-#[tactic(auto, unfolding(crate::specs::EditReading::edit_by))]
+#[tactic(auto, unfolding(crate::specs::EditReading::edit_reader_of_word))]
 fn unship(ticket: Code, fields: &mut Fields<'_>) -> Result<Edit, FieldFault>
-    ensures ok { IfOk result (λ edit. edit_by ticket word.Unship fields.old ≡ Some (edit, fields.new)) }
-    ensures shape { result ≡ Err FieldFault.Shape → edit_by ticket word.Unship fields.old ≡ None }
+    ensures ok { IfOk result (λ edit. edit_reader_of_word ticket word.Unship fields.old ≡ Some (edit, fields.new)) }
+    ensures shape { result ≡ Err FieldFault.Shape → edit_reader_of_word ticket word.Unship fields.old ≡ None }
     ensures memory { result ≢ Err FieldFault.OutOfMemory }
 {
     Ok(Edit::Unship {
@@ -210,10 +210,10 @@ fn unship(ticket: Code, fields: &mut Fields<'_>) -> Result<Edit, FieldFault>
 }
 
 /// The edit that enters an exemption row.
-#[tactic(auto, unfolding(crate::specs::EditReading::edit_by))]
+#[tactic(auto, unfolding(crate::specs::EditReading::edit_reader_of_word))]
 fn exemption(alloc: Global, ticket: Code, fields: &mut Fields<'_>) -> Result<Edit, FieldFault>
-    ensures ok { IfOk result (λ edit. edit_by ticket word.Exemption fields.old ≡ Some (edit, fields.new)) }
-    ensures shape { result ≡ Err FieldFault.Shape → edit_by ticket word.Exemption fields.old ≡ None }
+    ensures ok { IfOk result (λ edit. edit_reader_of_word ticket word.Exemption fields.old ≡ Some (edit, fields.new)) }
+    ensures shape { result ≡ Err FieldFault.Shape → edit_reader_of_word ticket word.Exemption fields.old ≡ None }
 {
     Ok(Edit::Exemption {
         ticket,

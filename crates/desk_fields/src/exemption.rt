@@ -4,7 +4,7 @@ ghost use Rattle.desk_model.specs.declared.limits.TheConstants.{PPM_LIMIT};
 ghost use Rattle.desk_model.specs.Terms.{are_kinds, is_ppm};
 ghost use Rattle.desk_fields.specs.EditReading.{exemption_behind, exemption_in};
 ghost use Rattle.desk_text.specs.Forms.{a_number};
-ghost use Rattle.desk_fields.specs.Forms.{kinds_with, maybe, some_kinds};
+ghost use Rattle.desk_fields.specs.Forms.{kinds_with, maybe, kinds_of_text};
 ghost use Rattle.desk_fields.specs.Reading.{one};
 
 use crate::field_fault::FieldFault;
@@ -87,11 +87,11 @@ fn take_ppm(fields: &mut Fields<'_>) -> Result<Option<u32>, FieldFault>
 }
 
 /// Takes a set of kinds: at least one, in the order of Annex I, with commas between them.
-#[tactic(auto, unfolding(crate::specs::Forms::some_kinds))]
+#[tactic(auto, unfolding(crate::specs::Forms::kinds_of_text))]
 fn take_kinds(alloc: Global, fields: &mut Fields<'_>) -> Result<KindSet, FieldFault>
-    ensures ok { IfOk result (λ kinds. one some_kinds fields.old ≡ Some (kinds, fields.new)) }
+    ensures ok { IfOk result (λ kinds. one kinds_of_text fields.old ≡ Some (kinds, fields.new)) }
     ensures range { IfOk result (λ kinds. are_kinds kinds ≡ true) }
-    ensures shape { result ≡ Err FieldFault.Shape → one some_kinds fields.old ≡ None }
+    ensures shape { result ≡ Err FieldFault.Shape → one kinds_of_text fields.old ≡ None }
 {
     let Some(field) = fields.next() else {
         return Err(FieldFault::Shape);

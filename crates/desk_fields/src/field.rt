@@ -92,11 +92,11 @@ impl Field for EditWord {
 }
 
 impl Field for Annex {
-    ghost use Rattle.desk_fields.specs.Forms.{an_annex};
+    ghost use Rattle.desk_fields.specs.Forms.{annex_of_text};
 
-    ghost form = { an_annex };
+    ghost form = { annex_of_text };
 
-    #[tactic(auto, unfolding(crate::specs::Forms::an_annex))]
+    #[tactic(auto, unfolding(crate::specs::Forms::annex_of_text))]
     fn from_field(field: &[u8]) -> Option<Annex> {
         Annex::with_number(read_u64(field).ok()?)
     }

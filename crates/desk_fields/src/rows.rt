@@ -1,8 +1,8 @@
 ghost use Rattle.std.specs.Prelude.{◌≡◌, ◌≢◌, ◌^◌, ◌-◌, ◌∷◌, Err, false, IfOk, is_some, None, OnOk, Some, true};
 ghost use Rattle.desk_text.specs.Forms.{a_code, a_number};
-ghost use Rattle.desk_fields.specs.Reading.{both, one, whole};
+ghost use Rattle.desk_fields.specs.Reading.{both, one, all_fields};
 ghost use Rattle.desk_fields.specs.RowReading.{candidate_row_in, is_ticket_code, line_row_in, material_row_in};
-ghost use Rattle.desk_fields.specs.RowReading.{member_row_in, pair_in, paired, part_row_in, product_row_in, row_of};
+ghost use Rattle.desk_fields.specs.RowReading.{member_row_in, pair_in, paired, part_row_in, product_row_in, row_of_fields};
 ghost use Rattle.desk_fields.specs.RowReading.{shipment_row_in, substance_row_in, ticket_row_in};
 ghost use Rattle.desk_fields.specs.EditReading.{exemption_in};
 ghost use Rattle.desk_fields.specs.RowTexts.{has_texts};
@@ -22,15 +22,15 @@ use desk_text::{Bytes, Code};
 use std::alloc::Global;
 
 /// The row of a table, of its code and its fields behind the version.
-#[tactic(auto, unfolding(crate::specs::RowReading::row_of, crate::specs::RowTexts::has_texts))]
+#[tactic(auto, unfolding(crate::specs::RowReading::row_of_fields, crate::specs::RowTexts::has_texts))]
 pub(crate) fn row_of(
     alloc: Global,
     table: u8,
     code: &[u8],
     fields: &mut Fields<'_>,
 ) -> Result<Row, FieldFault>
-    ensures ok { IfOk result (λ row. row_of table code.now fields.old ≡ Some row) }
-    ensures shape { result ≡ Err FieldFault.Shape → row_of table code.now fields.old ≡ None }
+    ensures ok { IfOk result (λ row. row_of_fields table code.now fields.old ≡ Some row) }
+    ensures shape { result ≡ Err FieldFault.Shape → row_of_fields table code.now fields.old ≡ None }
     ensures memory { result ≡ Err FieldFault.OutOfMemory → has_texts table ≡ true }
 {
     match table {
@@ -78,8 +78,8 @@ fn substance(
     code: &[u8],
     fields: &mut Fields<'_>,
 ) -> Result<SubstanceRow, FieldFault>
-    ensures ok { IfOk result (λ row. whole substance_row_in (code.now ∷ fields.old) ≡ Some row) }
-    ensures shape { result ≡ Err FieldFault.Shape → whole substance_row_in (code.now ∷ fields.old) ≡ None }
+    ensures ok { IfOk result (λ row. all_fields substance_row_in (code.now ∷ fields.old) ≡ Some row) }
+    ensures shape { result ≡ Err FieldFault.Shape → all_fields substance_row_in (code.now ∷ fields.old) ≡ None }
 {
     let row = SubstanceRow {
         code: key(code)?,
@@ -110,8 +110,8 @@ fn member(code: &[u8], fields: &mut Fields<'_>) -> Result<MemberRow, FieldFault>
 /// A material, of its code and its fields.
 #[tactic(auto, unfolding(crate::specs::RowReading::material_row_in))]
 fn material(alloc: Global, code: &[u8], fields: &mut Fields<'_>) -> Result<MaterialRow, FieldFault>
-    ensures ok { IfOk result (λ row. whole material_row_in (code.now ∷ fields.old) ≡ Some row) }
-    ensures shape { result ≡ Err FieldFault.Shape → whole material_row_in (code.now ∷ fields.old) ≡ None }
+    ensures ok { IfOk result (λ row. all_fields material_row_in (code.now ∷ fields.old) ≡ Some row) }
+    ensures shape { result ≡ Err FieldFault.Shape → all_fields material_row_in (code.now ∷ fields.old) ≡ None }
 {
     let row = MaterialRow {
         code: key(code)?,
@@ -130,8 +130,8 @@ fn material(alloc: Global, code: &[u8], fields: &mut Fields<'_>) -> Result<Mater
 /// A part, of its code and its fields.
 #[tactic(auto, unfolding(crate::specs::RowReading::part_row_in))]
 fn part(alloc: Global, code: &[u8], fields: &mut Fields<'_>) -> Result<PartRow, FieldFault>
-    ensures ok { IfOk result (λ row. whole part_row_in (code.now ∷ fields.old) ≡ Some row) }
-    ensures shape { result ≡ Err FieldFault.Shape → whole part_row_in (code.now ∷ fields.old) ≡ None }
+    ensures ok { IfOk result (λ row. all_fields part_row_in (code.now ∷ fields.old) ≡ Some row) }
+    ensures shape { result ≡ Err FieldFault.Shape → all_fields part_row_in (code.now ∷ fields.old) ≡ None }
 {
     let row = PartRow {
         code: key(code)?,
@@ -162,8 +162,8 @@ fn line(code: &[u8], fields: &mut Fields<'_>) -> Result<LineRow, FieldFault>
 /// A product, of its code and its fields.
 #[tactic(auto, unfolding(crate::specs::RowReading::product_row_in))]
 fn product(code: &[u8], fields: &mut Fields<'_>) -> Result<ProductRow, FieldFault>
-    ensures ok { IfOk result (λ row. whole product_row_in (code.now ∷ fields.old) ≡ Some row) }
-    ensures shape { result ≡ Err FieldFault.Shape → whole product_row_in (code.now ∷ fields.old) ≡ None }
+    ensures ok { IfOk result (λ row. all_fields product_row_in (code.now ∷ fields.old) ≡ Some row) }
+    ensures shape { result ≡ Err FieldFault.Shape → all_fields product_row_in (code.now ∷ fields.old) ≡ None }
     ensures memory { result ≢ Err FieldFault.OutOfMemory }
 {
     let row = ProductRow {
@@ -177,8 +177,8 @@ fn product(code: &[u8], fields: &mut Fields<'_>) -> Result<ProductRow, FieldFaul
 /// A candidate, of its code and its fields.
 #[tactic(auto, unfolding(crate::specs::RowReading::candidate_row_in))]
 fn candidate(code: &[u8], fields: &mut Fields<'_>) -> Result<CandidateRow, FieldFault>
-    ensures ok { IfOk result (λ row. whole candidate_row_in (code.now ∷ fields.old) ≡ Some row) }
-    ensures shape { result ≡ Err FieldFault.Shape → whole candidate_row_in (code.now ∷ fields.old) ≡ None }
+    ensures ok { IfOk result (λ row. all_fields candidate_row_in (code.now ∷ fields.old) ≡ Some row) }
+    ensures shape { result ≡ Err FieldFault.Shape → all_fields candidate_row_in (code.now ∷ fields.old) ≡ None }
     ensures memory { result ≢ Err FieldFault.OutOfMemory }
 {
     let row = CandidateRow {
@@ -213,8 +213,8 @@ fn exemption(
     code: &[u8],
     fields: &mut Fields<'_>,
 ) -> Result<ExemptionRow, FieldFault>
-    ensures ok { IfOk result (λ row. whole exemption_in (code.now ∷ fields.old) ≡ Some row) }
-    ensures shape { result ≡ Err FieldFault.Shape → whole exemption_in (code.now ∷ fields.old) ≡ None }
+    ensures ok { IfOk result (λ row. all_fields exemption_in (code.now ∷ fields.old) ≡ Some row) }
+    ensures shape { result ≡ Err FieldFault.Shape → all_fields exemption_in (code.now ∷ fields.old) ≡ None }
 {
     let row = key(code)?;
     let Exemption { terms, application } = read_exemption_behind(alloc, row, fields)?;
@@ -256,8 +256,8 @@ fn check_ticket_code(code: &[u8]) -> Result<(), FieldFault>
 
 /// Says that the parts are the ticket that a sender chose.
 fn check_sent(parts: &mut Parts<'_, COLON>) -> Result<(), FieldFault>
-    ensures ok { OnOk result (is_some (whole (one a_code) parts.old) ≡ true) }
-    ensures shape { result ≡ Err FieldFault.Shape → is_some (whole (one a_code) parts.old) ≡ false }
+    ensures ok { OnOk result (is_some (all_fields (one a_code) parts.old) ≡ true) }
+    ensures shape { result ≡ Err FieldFault.Shape → is_some (all_fields (one a_code) parts.old) ≡ false }
     ensures memory { result ≢ Err FieldFault.OutOfMemory }
 {
     drop(parts.take::<Code>()?);
@@ -266,9 +266,9 @@ fn check_sent(parts: &mut Parts<'_, COLON>) -> Result<(), FieldFault>
 
 /// Says that the parts are the supplier and the number of a declaration.
 fn check_declared(parts: &mut Parts<'_, COLON>) -> Result<(), FieldFault>
-    ensures ok { OnOk result (is_some (whole (both (one a_code) (one (a_number 1 (2 ^ 64 - 1)))) parts.old) ≡ true) }
+    ensures ok { OnOk result (is_some (all_fields (both (one a_code) (one (a_number 1 (2 ^ 64 - 1)))) parts.old) ≡ true) }
     ensures shape { result ≡ Err FieldFault.Shape
-        → is_some (whole (both (one a_code) (one (a_number 1 (2 ^ 64 - 1)))) parts.old) ≡ false }
+        → is_some (all_fields (both (one a_code) (one (a_number 1 (2 ^ 64 - 1)))) parts.old) ≡ false }
     ensures memory { result ≢ Err FieldFault.OutOfMemory }
 {
     drop(parts.take::<Code>()?);

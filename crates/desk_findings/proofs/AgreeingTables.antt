@@ -7,7 +7,7 @@ use Rattle.std.proofs.lemmas.Bool.{and_parts, and_right, le-ltb, or_cases}
 use Rattle.desk_text.specs.Code.{same_code}
 use Rattle.desk_law.specs.declared.rule.Rule.{Rule}
 use Rattle.desk_law.specs.Limit.{is_over, limit_of}
-use Rattle.desk_law.specs.Rule.{all_rules}
+use Rattle.desk_law.specs.Rule.{restricting_rules}
 use Rattle.desk_model.specs.declared.rows.line.LineRow.{LineRow}
 use Rattle.desk_model.specs.declared.rows.material.MaterialRow.{MaterialRow}
 use Rattle.desk_model.specs.declared.rows.part.PartRow.{PartRow}
@@ -171,7 +171,7 @@ module _ (t u : Lists) (s : IsBill t) (r : IsBill u) (Free : List ℕ → Type 0
   same_rules : (material : MaterialRow) → ((rule : Rule) → share u rule material ≡ share t rule material) → findings_on u material ≡ findings_on t material
   same_rules material shares =
       ap (λ rules. map (over material.code) rules)
-      (filter_same (λ rule. is_over (share u rule material) material.mass (limit_of rule)) (λ rule. is_over (share t rule material) material.mass (limit_of rule)) all_rules (λ rule. ap (λ n. is_over n material.mass (limit_of rule)) (shares rule)))
+      (filter_same (λ rule. is_over (share u rule material) material.mass (limit_of rule)) (λ rule. is_over (share t rule material) material.mass (limit_of rule)) restricting_rules (λ rule. ap (λ n. is_over n material.mass (limit_of rule)) (shares rule)))
 
   same_materials : (code : List ℕ) → Free code → flat_map (findings_on u) (materials_in u code) ≡ flat_map (findings_on t) (materials_in t code)
   same_materials code free =

@@ -14,7 +14,7 @@ use Rattle.desk_law.specs.Rule.{rule_code, rule_number}
 use Rattle.desk_law.specs.Restriction.{restriction_of}
 use Rattle.desk_law.specs.Verdict.{verdict, verdict_by}
 use Rattle.desk_model.specs.EditText.{edit_text, ticket_code}
-use Rattle.desk_model.specs.Effect.{entered, made}
+use Rattle.desk_model.specs.Effect.{with_edit_entered, with_edit_made}
 use Rattle.desk_model.specs.Forms.{is_declaration_in_form, is_edit_in_form, is_exemption_row, is_material_row}
 use Rattle.desk_model.specs.Start.{start}
 use Rattle.desk_findings.specs.Above.{content, is_above}
@@ -34,7 +34,7 @@ use Rattle.desk_findings.specs.Examples.Shares.{ShareExamples}
 
 -- what the examples compute with
 unfoldable pub examples : Bool
-unfolding annex_kinds annex_number cas_of chain_within code_of content covers date_text digits due_day duties edit_text entered exemption_number_of finding_count findings first_day has_kind has_too_many_findings is_above is_declaration_in_form is_edit_in_form is_exemption_row is_material_row is_over is_valid_on kind_code kind_place kinds_text limit_of made notices reaches_within restriction_of rolled_within rule_code rule_number share six_months_after start ticket_code tonnage too_heavy_part too_heavy_year verdict verdict_by verdict_on
+unfolding annex_kinds annex_number cas_of chain_within code_of content covers date_text digits due_day duties edit_text with_edit_entered exemption_number_of finding_count findings first_day has_kind has_too_many_findings is_above is_declaration_in_form is_edit_in_form is_exemption_row is_material_row is_over is_valid_on kind_code kind_place kinds_text limit_of with_edit_made notices reaches_within restriction_of rolled_within rule_code rule_number share six_months_after start ticket_code tonnage too_heavy_part too_heavy_year verdict verdict_by verdict_on
 examples = true
 
 pub duty_examples : DutyExamples

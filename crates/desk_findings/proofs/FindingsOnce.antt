@@ -1,15 +1,15 @@
 -- Each finding stands once where it is found, and lists with the same findings, each once, are equally long.
-use Rattle.std.proofs.Common.{◌≡◌, ℕ, ◌≤◌, Bool, true, false, cond, ◌&&◌, List, [], ◌∷◌, ◌++◌, filter, map, sum_by, count_by, get_or, Option, Some, None, is_some, refl, sym, ap, ◌∙◌, subst, arith}
+use Rattle.std.proofs.Common.{◌≡◌, ℕ, ◌≤◌, Bool, true, false, cond, ◌&&◌, List, [], ◌∷◌, ◌++◌, filter, map, sum_by, count_by, Option, Some, None, is_some, refl, sym, ap, ◌∙◌, subst, arith}
 use Rattle.std.specs.Prelude.{if◌then◌else◌}
 use Rattle.std.specs.List.{flat_map}
 use Rattle.std.specs.Option.{option_map_or}
-use Rattle.std.proofs.lemmas.Bool.{and_parts, and_right, both_ways, eqb-true, false_from_ne_true, true≢false}
+use Rattle.std.proofs.lemmas.Bool.{and_parts, and_right, both_ways, false_from_ne_true, true≢false}
 use Rattle.std.proofs.lemmas.List.Sums.{sum_by-cons}
 use Rattle.desk_text.specs.Code.{code_cmp, same_code}
 use Rattle.desk_rows.specs.Rows.{IsByKey, row_of}
 use Rattle.desk_law.specs.declared.rule.Rule.{Rule}
-use Rattle.desk_law.specs.declared.rule.Rule.TheVariants.{Lead, Mercury, Cadmium, ChromiumVi, Pbb, Pbde, Dehp, Bbp, Dbp, Dibp}
-use Rattle.desk_law.specs.Rule.{all_rules, rule_number, same_rule}
+use Rattle.desk_law.specs.Rule.{restricting_rules, same_rule}
+use Rattle.desk_law.proofs.Rules.{rule_once, same_rule-true}
 use Rattle.desk_model.specs.declared.rows.material.MaterialRow.{MaterialRow}
 use Rattle.desk_model.specs.declared.rows.part.PartRow.{PartRow}
 use Rattle.desk_model.specs.Lists.{IsOrdered, Lists, is_material, is_part, material_row, part_row}
@@ -29,37 +29,6 @@ use Rattle.desk_findings.proofs.FindingRolls.{same_code_back}
 -- a count is at most that of a wider test
 count-le : {X : Type 0} (p q : X → Bool) (xs : List X) → ((x : X) → p x ≡ true → q x ≡ true) → count_by p xs ≤ count_by q xs
 count-le p q xs f = Rattle.desk_model.proofs.Elements.count_le p q xs (each (λ x. p x ≡ true → q x ≡ true) f xs)
-
--- rules by their places
-rule_at : (rule : Rule) → get_or (Lead ∷ all_rules) (rule_number rule) Lead ≡ rule
-unfolding rule_number
-rule_at Lead = refl
-rule_at Mercury = refl
-rule_at Cadmium = refl
-rule_at ChromiumVi = refl
-rule_at Pbb = refl
-rule_at Pbde = refl
-rule_at Dehp = refl
-rule_at Bbp = refl
-rule_at Dbp = refl
-rule_at Dibp = refl
-
-pub same_rule-true : (a b : Rule) → same_rule a b ≡ true → a ≡ b
-same_rule-true a b e = sym (rule_at a) ∙ ap (λ n. get_or (Lead ∷ all_rules) n Lead) (eqb-true (rule_number a) (rule_number b) e) ∙ rule_at b
-
--- each rule stands once among all rules
-rule_once : (rule : Rule) → count_by (same_rule rule) all_rules ≡ 1
-unfolding rule_number
-rule_once Lead = refl
-rule_once Mercury = refl
-rule_once Cadmium = refl
-rule_once ChromiumVi = refl
-rule_once Pbb = refl
-rule_once Pbde = refl
-rule_once Dehp = refl
-rule_once Bbp = refl
-rule_once Dbp = refl
-rule_once Dibp = refl
 
 -- two findings that are one are equal
 pub same_finding-true : (a b : Finding) → same_finding a b ≡ true → a ≡ b
@@ -116,7 +85,7 @@ module _ (t : Lists) (ordered : IsOrdered t) where
     where
       by_code : (b : Bool) → same_code m material.code ≡ b → count_by (same_finding (over m rule)) (map (over material.code) (rules_over t material)) ≡ count_by (λ r. same_code m material.code && same_rule rule r) (rules_over t material) → count_by (same_finding (over m rule)) (map (over material.code) (rules_over t material)) ≤ cond b 1 0
       by_code true e counted =
-          let one = filter_count (λ r. is_over_limit t r material) (same_rule rule) all_rules in
+          let one = filter_count (λ r. is_over_limit t r material) (same_rule rule) restricting_rules in
           let narrower = count-le (λ r. same_code m material.code && same_rule rule r) (same_rule rule) (rules_over t material) (λ r h. (and_parts (same_code m material.code) (same_rule rule r) h).1) in
           omega (arith, counted, narrower, one, rule_once rule)
       by_code false e counted = omega (arith, counted, count_none (λ r. same_code m material.code && same_rule rule r) (rules_over t material) (λ r. ap (λ b. b && same_rule rule r) e))

@@ -4,7 +4,7 @@ use Rattle.std.specs.List.{flat_map, list_any}
 use Rattle.std.specs.Option.{option_map_or}
 use Rattle.desk_text.specs.Code.{same_code}
 use Rattle.desk_law.specs.declared.rule.Rule.{Rule}
-use Rattle.desk_law.specs.Rule.{all_rules, same_rule}
+use Rattle.desk_law.specs.Rule.{restricting_rules, same_rule}
 use Rattle.desk_model.specs.declared.rows.material.MaterialRow.{MaterialRow}
 use Rattle.desk_model.specs.declared.rows.part.PartRow.{PartRow}
 use Rattle.desk_findings.specs.Above.{is_above}
@@ -21,7 +21,7 @@ pub data Finding : Type 0 where
 
 -- the rules whose limit the material is over
 abbrev pub rules_over : Lists → MaterialRow → List Rule
-rules_over t material = filter (λ rule. is_over_limit t rule material) all_rules
+rules_over t material = filter (λ rule. is_over_limit t rule material) restricting_rules
 
 -- the findings in a material, in order of the rule's number
 abbrev pub findings_on : Lists → MaterialRow → List Finding

@@ -25,7 +25,7 @@ use Rattle.desk_findings.specs.Above.{content, held_mass, is_candidate, mass_in}
 use Rattle.desk_history.specs.Affected.{articles_listing, leads_to_some, lists_substance, materials_listing}
 use Rattle.desk_findings.specs.Articles.{is_article, is_article_sort, same_sort}
 use Rattle.desk_model.specs.Declaration.{Declared}
-use Rattle.desk_model.specs.Effect.{declared_rows, entered, made, with_factor}
+use Rattle.desk_model.specs.Effect.{declared_rows, with_edit_entered, with_edit_made, with_factor}
 use Rattle.desk_model.specs.Lists.{Lists, is_part, line_key, line_key_cmp, material_row, member_key, member_key_cmp, part_row}
 use Rattle.desk_findings.specs.Reaches.{is_or_reaches, lines_of, reaches}
 use Rattle.desk_findings.specs.Share.{factor_of, share}
@@ -196,38 +196,38 @@ module _ (t u : Lists) (r : IsConsistent u) (substance : List ℕ) (rule : Rule)
     shares = member_shares others;
   }
 
-pub agrees-member : (t : Lists) (ticket substance : List ℕ) (rule : Rule) (factor : ℕ) → IsConsistent (entered t (Member ticket substance rule factor)) → Agrees t (entered t (Member ticket substance rule factor)) (IsFree (entered t (Member ticket substance rule factor)) (materials_listing t substance))
-unfolding entered made
+pub agrees-member : (t : Lists) (ticket substance : List ℕ) (rule : Rule) (factor : ℕ) → IsConsistent (with_edit_entered t (Member ticket substance rule factor)) → Agrees t (with_edit_entered t (Member ticket substance rule factor)) (IsFree (with_edit_entered t (Member ticket substance rule factor)) (materials_listing t substance))
+unfolding with_edit_entered with_edit_made
 agrees-member t ticket substance rule zero r =
-    agrees_members t (entered t (Member ticket substance rule zero)) r substance rule (λ other counted e. factor_other t substance other rule counted zero e) refl refl refl refl
+    agrees_members t (with_edit_entered t (Member ticket substance rule zero)) r substance rule (λ other counted e. factor_other t substance other rule counted zero e) refl refl refl refl
 agrees-member t ticket substance rule (suc fewer) r =
-    agrees_members t (entered t (Member ticket substance rule (suc fewer))) r substance rule (λ other counted e. factor_other t substance other rule counted (suc fewer) e) refl refl refl refl
+    agrees_members t (with_edit_entered t (Member ticket substance rule (suc fewer))) r substance rule (λ other counted e. factor_other t substance other rule counted (suc fewer) e) refl refl refl refl
 
 -- a declaration matters to its materials
-module _ (t : Lists) (d : Declared) (r : IsConsistent (entered t (Declare d))) where
+module _ (t : Lists) (d : Declared) (r : IsConsistent (with_edit_entered t (Declare d))) where
   abbrev declared_codes : List (List ℕ)
   declared_codes = map (λ material. material.code) d.materials
 
   -- no declared material has a free code
-  rows_not_free : (code : List ℕ) → IsFree (entered t (Declare d)) declared_codes code → AllByRecursion (λ row. same_code row.code code ≡ false) (declared_rows d)
+  rows_not_free : (code : List ℕ) → IsFree (with_edit_entered t (Declare d)) declared_codes code → AllByRecursion (λ row. same_code row.code code ≡ false) (declared_rows d)
   rows_not_free code free =
       each_of_map (λ row. same_code row.code code ≡ false) _ d.materials
       (each_map (λ material. same_code code material.code ≡ false) (λ material. same_code material.code code ≡ false) (λ material e. other_way code material.code e) d.materials
-      (each_in_map (λ seed. same_code code seed ≡ false) (λ material. material.code) d.materials (free_no_seed (entered t (Declare d)) r declared_codes code free)))
+      (each_in_map (λ seed. same_code code seed ≡ false) (λ material. material.code) d.materials (free_no_seed (with_edit_entered t (Declare d)) r declared_codes code free)))
 
-  declared_rows_kept : (code : List ℕ) → IsFree (entered t (Declare d)) declared_codes code → material_row (entered t (Declare d)) code ≡ material_row t code
-  unfolding entered made
+  declared_rows_kept : (code : List ℕ) → IsFree (with_edit_entered t (Declare d)) declared_codes code → material_row (with_edit_entered t (Declare d)) code ≡ material_row t code
+  unfolding with_edit_entered with_edit_made
   declared_rows_kept code free = row_of-with_rows_other (λ row. row.code) code_cmp code_cmp_total code (declared_rows d) t.materials (rows_not_free code free)
 
   -- a test that only free codes pass keeps none of the declared rows
-  declared_list : (test : List ℕ → Bool) → ((code : List ℕ) → test code ≡ true → IsFree (entered t (Declare d)) declared_codes code) → filter (λ material. test material.code) (entered t (Declare d)).materials ≡ filter (λ material. test material.code) t.materials
-  unfolding entered made
+  declared_list : (test : List ℕ → Bool) → ((code : List ℕ) → test code ≡ true → IsFree (with_edit_entered t (Declare d)) declared_codes code) → filter (λ material. test material.code) (with_edit_entered t (Declare d)).materials ≡ filter (λ material. test material.code) t.materials
+  unfolding with_edit_entered with_edit_made
   declared_list test free =
       filter-with_rows (λ row. row.code) code_cmp (λ material. test material.code) (declared_rows d) t.materials
       (each_of_map (λ new. (test new.code ≡ false) × ((row : MaterialRow) → code_cmp row.code new.code ≡ Equal → test row.code ≡ false)) _ d.materials
       (each_map (λ material. list_any (λ seed. same_code material.code seed) declared_codes ≡ true) (λ material. (test material.code ≡ false) × ((row : MaterialRow) → code_cmp row.code material.code ≡ Equal → test row.code ≡ false))
       (λ material seed.
-      let fails : test material.code ≡ false = false_from_ne_true (test material.code) (λ passes. seed_not_free (entered t (Declare d)) r declared_codes material.code seed (free material.code passes)) in
+      let fails : test material.code ≡ false = false_from_ne_true (test material.code) (λ passes. seed_not_free (with_edit_entered t (Declare d)) r declared_codes material.code seed (free material.code passes)) in
       (fails, λ row same. subst (λ c. test c ≡ false) (sym (exact_bytes row.code material.code same)) fails))
       d.materials declared_seeds))
     where
@@ -237,11 +237,11 @@ module _ (t : Lists) (d : Declared) (r : IsConsistent (entered t (Declare d))) w
           (λ material f. any-map (λ seed. same_code material.code seed) (λ other. other.code) d.materials ∙ f (λ other. same_code material.code other.code) (same_code_itself material.code))
           d.materials (any_of_all d.materials)
 
-  pub agrees-declare : Agrees t (entered t (Declare d)) (IsFree (entered t (Declare d)) declared_codes)
-  unfolding entered made
+  pub agrees-declare : Agrees t (with_edit_entered t (Declare d)) (IsFree (with_edit_entered t (Declare d)) declared_codes)
+  unfolding with_edit_entered with_edit_made
   agrees-declare = record {
-    closed = free_closed (entered t (Declare d)) r declared_codes;
-    reached = free_reached (entered t (Declare d)) r declared_codes;
+    closed = free_closed (with_edit_entered t (Declare d)) r declared_codes;
+    reached = free_reached (with_edit_entered t (Declare d)) r declared_codes;
     lines = λ code free. refl;
     materials = declared_rows_kept;
     articles = λ code free. refl;
@@ -249,7 +249,7 @@ module _ (t : Lists) (d : Declared) (r : IsConsistent (entered t (Declare d))) w
     material_list = declared_list;
     article_list = λ test free. refl;
     candidate_list = λ test absent. refl;
-    shares = shares_same t (entered t (Declare d)) refl (IsFree (entered t (Declare d)) declared_codes);
+    shares = shares_same t (with_edit_entered t (Declare d)) refl (IsFree (with_edit_entered t (Declare d)) declared_codes);
   }
 
 then_equal : (a b : Ordering) → ordering_then a b ≡ Equal → a ≡ Equal
@@ -263,10 +263,10 @@ is_equal Equal e = refl
 is_equal Greater e = absurd (false≢true e)
 
 -- a line matters to its parent
-pub agrees-line : (t : Lists) (ticket parent child : List ℕ) (count : ℕ) → IsConsistent (entered t (Line ticket parent child count)) → Agrees t (entered t (Line ticket parent child count)) (IsFree (entered t (Line ticket parent child count)) (parent ∷ []))
-unfolding entered made
+pub agrees-line : (t : Lists) (ticket parent child : List ℕ) (count : ℕ) → IsConsistent (with_edit_entered t (Line ticket parent child count)) → Agrees t (with_edit_entered t (Line ticket parent child count)) (IsFree (with_edit_entered t (Line ticket parent child count)) (parent ∷ []))
+unfolding with_edit_entered with_edit_made
 agrees-line t ticket parent child count r =
-    let u = entered t (Line ticket parent child count) in
+    let u = with_edit_entered t (Line ticket parent child count) in
     let new : LineRow = record { parent = parent; child = child; count = count } in
     agrees_lines t u r (parent ∷ [])
     (λ code free.
@@ -276,10 +276,10 @@ agrees-line t ticket parent child count r =
     (λ line e. subst (λ c. same_code c code ≡ false) (sym (exact_bytes line.parent parent (then_equal (code_cmp line.parent parent) (code_cmp line.child child) e))) apart) t.lines))
     refl refl refl refl
 
-pub agrees-unline : (t : Lists) (ticket parent child : List ℕ) → IsConsistent (entered t (Unline ticket parent child)) → Agrees t (entered t (Unline ticket parent child)) (IsFree (entered t (Unline ticket parent child)) (parent ∷ []))
-unfolding entered made
+pub agrees-unline : (t : Lists) (ticket parent child : List ℕ) → IsConsistent (with_edit_entered t (Unline ticket parent child)) → Agrees t (with_edit_entered t (Unline ticket parent child)) (IsFree (with_edit_entered t (Unline ticket parent child)) (parent ∷ []))
+unfolding with_edit_entered with_edit_made
 agrees-unline t ticket parent child r =
-    let u = entered t (Unline ticket parent child) in
+    let u = with_edit_entered t (Unline ticket parent child) in
     agrees_lines t u r (parent ∷ [])
     (λ code free.
     let apart = other_way code parent (free_no_seed u r (parent ∷ []) code free).0 in
@@ -289,9 +289,9 @@ agrees-unline t ticket parent child r =
     refl refl refl refl
 
 -- a new part matters to itself; a new name of a part to none
-module _ (t : Lists) (s : IsConsistent t) (ticket code name : List ℕ) (sort : PartSort) (r : IsConsistent (entered t (Part ticket code sort name))) (same_kind : (part : PartRow) → part_row t code ≡ Some part → same_sort part.sort sort ≡ true) (codes : List (List ℕ)) where
+module _ (t : Lists) (s : IsConsistent t) (ticket code name : List ℕ) (sort : PartSort) (r : IsConsistent (with_edit_entered t (Part ticket code sort name))) (same_kind : (part : PartRow) → part_row t code ≡ Some part → same_sort part.sort sort ≡ true) (codes : List (List ℕ)) where
   abbrev after_part : Lists
-  after_part = entered t (Part ticket code sort name)
+  after_part = with_edit_entered t (Part ticket code sort name)
 
   abbrev new_part : PartRow
   new_part = record { code = code; sort = sort; name = name }
@@ -308,7 +308,7 @@ module _ (t : Lists) (s : IsConsistent t) (ticket code name : List ℕ) (sort : 
 
   -- the sort of a code that isn't the part's, or of the part where it was kept
   part_articles : (c : List ℕ) → (same_code code c ≡ true → is_part t code ≡ true) → is_article after_part c ≡ is_article t c
-  unfolding entered made
+  unfolding with_edit_entered with_edit_made
   part_articles c kept =
       elim (cases_Bool (same_code code c)) [
         | inl same ↦
@@ -322,7 +322,7 @@ module _ (t : Lists) (s : IsConsistent t) (ticket code name : List ℕ) (sort : 
       ]
 
   part_agrees : ((c : List ℕ) → IsFree after_part codes c → same_code code c ≡ true → is_part t code ≡ true) → ((test : List ℕ → Bool) → ((c : List ℕ) → test c ≡ true → IsFree after_part codes c) → map (λ part. part.code) (filter (λ part. is_article_sort part.sort && test part.code) after_part.parts) ≡ map (λ part. part.code) (filter (λ part. is_article_sort part.sort && test part.code) t.parts)) → Agrees t after_part (IsFree after_part codes)
-  unfolding entered made
+  unfolding with_edit_entered with_edit_made
   part_agrees kept list = record {
     closed = free_closed after_part r codes;
     reached = free_reached after_part r codes;
@@ -337,7 +337,7 @@ module _ (t : Lists) (s : IsConsistent t) (ticket code name : List ℕ) (sort : 
   }
 
   kept_list : is_part t code ≡ true → (test : List ℕ → Bool) → map (λ part. part.code) (filter (λ part. is_article_sort part.sort && test part.code) after_part.parts) ≡ map (λ part. part.code) (filter (λ part. is_article_sort part.sort && test part.code) t.parts)
-  unfolding entered made
+  unfolding with_edit_entered with_edit_made
   kept_list kept test =
       replaced (λ row. row.code) code_cmp (λ part. is_article_sort part.sort && test part.code) (λ part. part.code) code_cmp_total new_part t.parts s.ordered.parts kept
       (λ part found.
@@ -345,7 +345,7 @@ module _ (t : Lists) (s : IsConsistent t) (ticket code name : List ℕ) (sort : 
       (ap (λ b. b && test part.code) (one_sort part.sort sort (same_kind part found)) ∙ ap (λ c. is_article_sort sort && test c) is, is))
 
   new_list : list_any (λ seed. same_code code seed) codes ≡ true → (test : List ℕ → Bool) → ((c : List ℕ) → test c ≡ true → IsFree after_part codes c) → map (λ part. part.code) (filter (λ part. is_article_sort part.sort && test part.code) after_part.parts) ≡ map (λ part. part.code) (filter (λ part. is_article_sort part.sort && test part.code) t.parts)
-  unfolding entered made
+  unfolding with_edit_entered with_edit_made
   new_list seed test free =
       let fails : test code ≡ false = false_from_ne_true (test code) (λ passes. seed_not_free after_part r codes code seed (free code passes)) in
       ap (map (λ part. part.code))
@@ -353,31 +353,31 @@ module _ (t : Lists) (s : IsConsistent t) (ticket code name : List ℕ) (sort : 
       (each (λ part. code_cmp part.code code ≡ Equal → (is_article_sort part.sort && test part.code) ≡ false)
       (λ part e. and_right (is_article_sort part.sort) (test part.code) (subst (λ c. test c ≡ false) (sym (exact_bytes part.code code e)) fails)) t.parts))
 
-pub agrees-part : (t : Lists) (s : IsConsistent t) (ticket code name : List ℕ) (sort : PartSort) (r : IsConsistent (entered t (Part ticket code sort name))) (same_kind : (part : PartRow) → part_row t code ≡ Some part → same_sort part.sort sort ≡ true) (kept : Bool) → is_part t code ≡ kept → Agrees t (entered t (Part ticket code sort name)) (IsFree (entered t (Part ticket code sort name)) (if kept then [] else code ∷ []))
+pub agrees-part : (t : Lists) (s : IsConsistent t) (ticket code name : List ℕ) (sort : PartSort) (r : IsConsistent (with_edit_entered t (Part ticket code sort name))) (same_kind : (part : PartRow) → part_row t code ≡ Some part → same_sort part.sort sort ≡ true) (kept : Bool) → is_part t code ≡ kept → Agrees t (with_edit_entered t (Part ticket code sort name)) (IsFree (with_edit_entered t (Part ticket code sort name)) (if kept then [] else code ∷ []))
 agrees-part t s ticket code name sort r same_kind true e =
     part_agrees t s ticket code name sort r same_kind [] (λ c free same. e) (λ test free. kept_list t s ticket code name sort r same_kind [] e test)
 agrees-part t s ticket code name sort r same_kind false e =
     let seed = or_left (same_code code code) false (same_code_itself code) in
     part_agrees t s ticket code name sort r same_kind (code ∷ [])
     (λ c free same.
-    absurd (both_ways (same_code c code) (free_no_seed (entered t (Part ticket code sort name)) r (code ∷ []) c free).0 (same_code-from c code (sym (same_code-true code c same)))))
+    absurd (both_ways (same_code c code) (free_no_seed (with_edit_entered t (Part ticket code sort name)) r (code ∷ []) c free).0 (same_code-from c code (sym (same_code-true code c same)))))
     (new_list t s ticket code name sort r same_kind (code ∷ []) seed)
 
 -- a new candidate matters to the articles that hold it; a new day of a candidate to none
-module _ (t : Lists) (s : IsConsistent t) (ticket substance : List ℕ) (day : Date) (r : IsConsistent (entered t (Candidate ticket substance day))) (codes : List (List ℕ)) where
+module _ (t : Lists) (s : IsConsistent t) (ticket substance : List ℕ) (day : Date) (r : IsConsistent (with_edit_entered t (Candidate ticket substance day))) (codes : List (List ℕ)) where
   abbrev after_candidate : Lists
-  after_candidate = entered t (Candidate ticket substance day)
+  after_candidate = with_edit_entered t (Candidate ticket substance day)
 
   abbrev new_candidate : CandidateRow
   new_candidate = record { substance = substance; day = day }
 
   -- another substance is a candidate still, or not yet
   other_candidate : (other : List ℕ) → same_code substance other ≡ false → is_candidate after_candidate other ≡ is_candidate t other
-  unfolding entered made
+  unfolding with_edit_entered with_edit_made
   other_candidate other e = ap is_some (row_of-with_row_other (λ row. row.substance) code_cmp code_cmp_total new_candidate other t.candidates e)
 
   kept_candidate : is_candidate t substance ≡ true → (other : List ℕ) → is_candidate after_candidate other ≡ is_candidate t other
-  unfolding entered made
+  unfolding with_edit_entered with_edit_made
   kept_candidate kept other =
       elim (cases_Bool (same_code substance other)) [
         | inl same ↦
@@ -389,7 +389,7 @@ module _ (t : Lists) (s : IsConsistent t) (ticket substance : List ℕ) (day : D
       ]
 
   candidate_agrees : ((c other : List ℕ) → IsFree after_candidate codes c → (is_candidate after_candidate other ≡ is_candidate t other) ⊎ (content after_candidate c other ≡ 0)) → ((test : List ℕ → Bool) → ((other : List ℕ) → is_candidate t other ≡ false → test other ≡ false) → map (λ candidate. candidate.substance) (filter (λ candidate. test candidate.substance) after_candidate.candidates) ≡ map (λ candidate. candidate.substance) (filter (λ candidate. test candidate.substance) t.candidates)) → Agrees t after_candidate (IsFree after_candidate codes)
-  unfolding entered made
+  unfolding with_edit_entered with_edit_made
   candidate_agrees each_one list = record {
     closed = free_closed after_candidate r codes;
     reached = free_reached after_candidate r codes;
@@ -404,7 +404,7 @@ module _ (t : Lists) (s : IsConsistent t) (ticket substance : List ℕ) (day : D
   }
 
   again_list : is_candidate t substance ≡ true → (test : List ℕ → Bool) → map (λ candidate. candidate.substance) (filter (λ candidate. test candidate.substance) after_candidate.candidates) ≡ map (λ candidate. candidate.substance) (filter (λ candidate. test candidate.substance) t.candidates)
-  unfolding entered made
+  unfolding with_edit_entered with_edit_made
   again_list kept test =
       replaced (λ row. row.substance) code_cmp (λ candidate. test candidate.substance) (λ candidate. candidate.substance) code_cmp_total new_candidate t.candidates s.ordered.candidates kept
       (λ candidate found.
@@ -412,7 +412,7 @@ module _ (t : Lists) (s : IsConsistent t) (ticket substance : List ℕ) (day : D
       (ap test is, is))
 
   first_list : is_candidate t substance ≡ false → (test : List ℕ → Bool) → ((other : List ℕ) → is_candidate t other ≡ false → test other ≡ false) → map (λ candidate. candidate.substance) (filter (λ candidate. test candidate.substance) after_candidate.candidates) ≡ map (λ candidate. candidate.substance) (filter (λ candidate. test candidate.substance) t.candidates)
-  unfolding entered made
+  unfolding with_edit_entered with_edit_made
   first_list absent test none =
       ap (map (λ candidate. candidate.substance))
       (filter-with_row (λ row. row.substance) code_cmp (λ candidate. test candidate.substance) new_candidate t.candidates (none substance absent)
@@ -469,11 +469,11 @@ module _ (t : Lists) (s : IsConsistent t) (u : Lists) (r : IsConsistent u) (subs
       (each_both (λ line. (has_right_child t line ≡ true) × (same_code line.parent code ≡ true)) (λ line. (p : LineRow → Bool) → p line ≡ true → list_any p (lines_of t.lines code) ≡ true) (lines_of t.lines code)
       (each_filter (λ line. has_right_child t line ≡ true) (λ line. same_code line.parent code) t.lines (each_right_child t (right_of t s))) (any_of_all (lines_of t.lines code))))
 
-held_still : (t : Lists) (s : IsConsistent t) (ticket substance : List ℕ) (day : Date) (r : IsConsistent (entered t (Candidate ticket substance day))) (code other : List ℕ) → IsFree (entered t (Candidate ticket substance day)) (articles_listing t substance) code → substance ≡ other → content (entered t (Candidate ticket substance day)) code other ≡ 0
-unfolding entered made content
-held_still t s ticket substance day r code other free is = subst (λ o. content t code o ≡ 0) is (nothing_held t s (entered t (Candidate ticket substance day)) r substance code free)
+held_still : (t : Lists) (s : IsConsistent t) (ticket substance : List ℕ) (day : Date) (r : IsConsistent (with_edit_entered t (Candidate ticket substance day))) (code other : List ℕ) → IsFree (with_edit_entered t (Candidate ticket substance day)) (articles_listing t substance) code → substance ≡ other → content (with_edit_entered t (Candidate ticket substance day)) code other ≡ 0
+unfolding with_edit_entered with_edit_made content
+held_still t s ticket substance day r code other free is = subst (λ o. content t code o ≡ 0) is (nothing_held t s (with_edit_entered t (Candidate ticket substance day)) r substance code free)
 
-pub agrees-candidate : (t : Lists) (s : IsConsistent t) (ticket substance : List ℕ) (day : Date) (r : IsConsistent (entered t (Candidate ticket substance day))) (kept : Bool) → is_candidate t substance ≡ kept → Agrees t (entered t (Candidate ticket substance day)) (IsFree (entered t (Candidate ticket substance day)) (if kept then [] else articles_listing t substance))
+pub agrees-candidate : (t : Lists) (s : IsConsistent t) (ticket substance : List ℕ) (day : Date) (r : IsConsistent (with_edit_entered t (Candidate ticket substance day))) (kept : Bool) → is_candidate t substance ≡ kept → Agrees t (with_edit_entered t (Candidate ticket substance day)) (IsFree (with_edit_entered t (Candidate ticket substance day)) (if kept then [] else articles_listing t substance))
 agrees-candidate t s ticket substance day r true e =
     candidate_agrees t s ticket substance day r [] (λ c other free. inl (kept_candidate t s ticket substance day r [] e other)) (λ test none. again_list t s ticket substance day r [] e test)
 agrees-candidate t s ticket substance day r false e =

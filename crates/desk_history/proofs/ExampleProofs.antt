@@ -27,7 +27,7 @@ use Rattle.desk_findings.specs.Above.{content, is_above}
 use Rattle.desk_history.specs.Affected.{is_affected, seeds_of_new}
 use Rattle.desk_findings.specs.Chain.{chain_within}
 use Rattle.desk_findings.specs.Duties.{duties}
-use Rattle.desk_model.specs.Effect.{entered, made}
+use Rattle.desk_model.specs.Effect.{with_edit_entered, with_edit_made}
 use Rattle.desk_model.specs.EditText.{edit_text, ticket_code}
 use Rattle.desk_findings.specs.Findings.{finding_count, findings}
 use Rattle.desk_findings.specs.Reaches.{reaches_within}
@@ -76,7 +76,7 @@ use Rattle.desk_history.proofs.Unaffected.{mass_stays}
 
 -- what the examples compute with
 unfoldable pub examples : Bool
-unfolding record_code refused_by_rows rows_of table_number annex_kinds annex_number are_names_kept are_rows_in_form cas_of chain_within closes_cycle code_of content covers date_text digits due_day duties edit_text entered exemption_number_of exemption_span finding_count findings findings_full first_day foreign_material has_kind has_too_many_findings has_too_much_text is_above is_affected is_declaration_in_form is_edit_in_form is_exemption_row is_material_row is_over is_valid_on kept_number kind_changed kind_code kind_place kinds_text limit_of made masses_exceed name_taken no_such_line notices outside_annex reaches_within refused restriction_of rolled_within rule_code rule_number seeds_of_new share ship_below_zero six_months_after stale_declaration start step table_full tables_over text_full ticket_code ticket_reused tonnage too_heavy_part too_heavy_year total_too_large units_too_large unknown_exemption unknown_material unknown_part unknown_product unknown_substance verdict verdict_by verdict_on wrong_child year_too_large
+unfolding record_code refused_by_rows rows_of table_number annex_kinds annex_number are_names_kept are_rows_in_form cas_of chain_within closes_cycle code_of content covers date_text digits due_day duties edit_text with_edit_entered exemption_number_of exemption_span finding_count findings findings_full first_day foreign_material has_kind has_too_many_findings has_too_much_text is_above is_affected is_declaration_in_form is_edit_in_form is_exemption_row is_material_row is_over is_valid_on kept_number kind_changed kind_code kind_place kinds_text limit_of with_edit_made masses_exceed name_taken no_such_line notices outside_annex reaches_within refused restriction_of rolled_within rule_code rule_number seeds_of_new share ship_below_zero six_months_after stale_declaration start step table_full tables_over text_full ticket_code ticket_reused tonnage too_heavy_part too_heavy_year total_too_large units_too_large unknown_exemption unknown_material unknown_part unknown_product unknown_substance verdict verdict_by verdict_on wrong_child year_too_large
 examples = true
 
 sound_after : (t : Lists) (edits : List Edit) → Sound t → AllByRecursion (λ edit. is_edit_in_form edit ≡ true) edits → Sound (tables_after t edits)
@@ -135,12 +135,12 @@ not_declared (Candidate ticket substance day) c t = ap (begins 68) c
 not_declared (Ship ticket product year units) c t = ap (begins 68) c
 not_declared (Unship ticket product year units) c t = ap (begins 68) c
 
--- rule 19 is tried before rule 20
+-- refusal 19 is tried before refusal 20
 texts_before_cycles : (text : List ℕ) → length text ≡ 67108864 → answer_at (with_text lone text) lone_cycle ≡ Err TextFull
 unfolding examples
 texts_before_cycles text e =
     let t = with_text lone text in
-    let over : has_too_much_text (entered t lone_cycle) ≡ true = rw e refl in
+    let over : has_too_much_text (with_edit_entered t lone_cycle) ≡ true = rw e refl in
     ap (λ b. (step_new t lone_cycle (first_some (refuse_if b TextFull ∷ closes_cycle t lone_cycle ∷ total_too_large t lone_cycle ∷ findings_full t lone_cycle ∷ year_too_large t lone_cycle ∷ []))).0) over
 
 -- the rules on the bill in their order

@@ -11,7 +11,7 @@ use Rattle.desk_model.specs.declared.edit.Edit.{Edit}
 use Rattle.desk_model.specs.declared.edit.Edit.TheVariants.{Substance, Member, Declare, Part, Line, Unline, Product, Exemption, Unexempt, Candidate, Ship, Unship}
 use Rattle.desk_model.specs.declared.part_sort.PartSort.{PartSort}
 use Rattle.desk_model.specs.declared.rows.part.PartRow.{PartRow}
-use Rattle.desk_model.specs.Effect.{entered, made}
+use Rattle.desk_model.specs.Effect.{with_edit_entered, with_edit_made}
 use Rattle.desk_model.specs.Lists.{Lists, is_kept, is_material, is_part, part_row}
 use Rattle.desk_model.proofs.Elements.{each, each_filter, each_map, none_kept, sum_same}
 use Rattle.desk_model.proofs.Kept.{code_cmp_total, each_kept, found_each, same_code-true}
@@ -91,26 +91,26 @@ module _ (t : Lists) (s : IsConsistent t) (code : List ℕ) (bare : lines_of t.l
 
 module _ (t : Lists) (s : IsConsistent t) where
   -- without seeds and with the same parts there are as many findings
-  same_count : (edit : Edit) → PassesRows t edit → seeds_of_new t edit ≡ [] → (entered t edit).parts ≡ t.parts → finding_count (entered t edit) ≡ finding_count t
+  same_count : (edit : Edit) → PassesRows t edit → seeds_of_new t edit ≡ [] → (with_edit_entered t edit).parts ≡ t.parts → finding_count (with_edit_entered t edit) ≡ finding_count t
   unfolding finding_count
   same_count edit passed none parts =
-      ap (λ rows. sum_by (λ part. length (findings (entered t edit) part.code)) rows) parts
-      ∙ sum_same (λ part. length (findings (entered t edit) part.code)) (λ part. length (findings t part.code)) t.parts
-      (each (λ part. length (findings (entered t edit) part.code) ≡ length (findings t part.code)) (λ part. ap length (findings_stay t s edit passed part.code (unaffected t edit none part.code))) t.parts)
+      ap (λ rows. sum_by (λ part. length (findings (with_edit_entered t edit) part.code)) rows) parts
+      ∙ sum_same (λ part. length (findings (with_edit_entered t edit) part.code)) (λ part. length (findings t part.code)) t.parts
+      (each (λ part. length (findings (with_edit_entered t edit) part.code) ≡ length (findings t part.code)) (λ part. ap length (findings_stay t s edit passed part.code (unaffected t edit none part.code))) t.parts)
 
   module _ (ticket code name : List ℕ) (sort : PartSort) (passed : PassesRows t (Part ticket code sort name)) where
     new_row : PartRow
     new_row = record { code = code; sort = sort; name = name }
 
     after : Lists
-    after = entered t (Part ticket code sort name)
+    after = with_edit_entered t (Part ticket code sort name)
 
     parts_after : after.parts ≡ with_row (λ row. row.code) code_cmp new_row t.parts
-    unfolding after new_row entered made
+    unfolding after new_row with_edit_entered with_edit_made
     parts_after = refl
 
     lines_after : after.lines ≡ t.lines
-    unfolding after entered made
+    unfolding after with_edit_entered with_edit_made
     lines_after = refl
 
     summed : (f : PartRow → ℕ) → sum_by f after.parts + option_map_or f (part_row t code) 0 ≡ f new_row + sum_by f t.parts
@@ -175,8 +175,8 @@ module _ (t : Lists) (s : IsConsistent t) where
         none_is None h = refl
         none_is (Some part) h = absurd (true≢false h)
 
-  same_findings_count : (edit : Edit) → PassesRows t edit → may_add_findings edit ≡ false → finding_count (entered t edit) ≡ finding_count t
-  unfolding seeds_of_new entered made after
+  same_findings_count : (edit : Edit) → PassesRows t edit → may_add_findings edit ≡ false → finding_count (with_edit_entered t edit) ≡ finding_count t
+  unfolding seeds_of_new with_edit_entered with_edit_made after
   same_findings_count (Substance ticket code name cas) passed e = same_count (Substance ticket code name cas) passed refl refl
   same_findings_count (Member ticket substance rule factor) passed e = absurd (true≢false e)
   same_findings_count (Declare declaration) passed e = absurd (true≢false e)
@@ -193,7 +193,7 @@ module _ (t : Lists) (s : IsConsistent t) where
   same_findings_count (Ship ticket product year units) passed e = same_count (Ship ticket product year units) passed refl (parts_of_ship t ticket product year units)
   same_findings_count (Unship ticket product year units) passed e = same_count (Unship ticket product year units) passed refl (parts_of_unship t ticket product year units)
 
-  -- findings that no edit of its sort can add break no rule
+  -- findings that no edit of its sort can add meet no refusal
   pub findings_fit : has_too_many_findings t ≡ false → (edit : Edit) → PassesRows t edit → may_add_findings edit ≡ false → findings_full t edit ≡ None
   unfolding findings_full has_too_many_findings
   findings_fit fits edit passed e = rw (same_findings_count edit passed e, fits) refl

@@ -7,7 +7,7 @@ use Rattle.desk_model.specs.declared.edit.Edit.{Edit}
 use Rattle.desk_model.specs.declared.rows.ticket.TicketRow.{TicketRow}
 use Rattle.desk_model.specs.declared.rule_fault.RuleFault.{RuleFault}
 use Rattle.desk_model.specs.EditText.{ticket_code}
-use Rattle.desk_model.specs.Effect.{entered}
+use Rattle.desk_model.specs.Effect.{with_edit_entered}
 use Rattle.desk_history.specs.History.{AreAccepted, Begins, History, IsAccepted, IsHistory, number_of, tables_after, up_to}
 use Rattle.desk_model.specs.Lists.{Lists, ticket_row}
 use Rattle.desk_history.specs.Refused.{refused}
@@ -17,7 +17,7 @@ use Rattle.desk_history.proofs.Rules.{unreused}
 use Rattle.desk_history.proofs.Steps.{fresh, step-accepted, step-kept, step-refused, ticket_of, tickets-length, tickets_entered}
 
 -- the tables after an accepted edit
-pub step-tables : (t : Lists) (edit : Edit) → IsAccepted t edit → (step t edit).1 ≡ entered t edit
+pub step-tables : (t : Lists) (edit : Edit) → IsAccepted t edit → (step t edit).1 ≡ with_edit_entered t edit
 step-tables t edit a = ap (λ s. s.1) (step-accepted t edit a.is_new a.is_unrefused)
 
 -- each accepted edit adds one ticket
@@ -72,13 +72,13 @@ unfolding kept_number
 kept_has_ticket t edit number o e f g = none_some number (rw (e, g) at f)
 
 -- a kept edit stays kept, with its number, when another is entered
-pub kept-later : (t : Lists) (kept other : Edit) (number : ℕ) → kept_number t kept ≡ Some number → ticket_row t (ticket_code other) ≡ None → kept_number (entered t other) kept ≡ Some number
+pub kept-later : (t : Lists) (kept other : Edit) (number : ℕ) → kept_number t kept ≡ Some number → ticket_row t (ticket_code other) ≡ None → kept_number (with_edit_entered t other) kept ≡ Some number
 unfolding kept_number
 kept-later t kept other number e absent =
     let differs : same_code (ticket_code other) (ticket_code kept) ≡ false =
     Rattle.std.proofs.lemmas.Bool.false_from_ne_true (same_code (ticket_code other) (ticket_code kept))
     (λ same. kept_has_ticket t kept number (ticket_row t (ticket_code kept)) refl e (subst (λ code. ticket_row t code ≡ None) (same_code-true (ticket_code other) (ticket_code kept) same) absent)) in
-    let found : ticket_row (entered t other) (ticket_code kept) ≡ ticket_row t (ticket_code kept) =
+    let found : ticket_row (with_edit_entered t other) (ticket_code kept) ≡ ticket_row t (ticket_code kept) =
     ap (λ rows. row_of (λ row. row.code) code_cmp (ticket_code kept) rows) (tickets_entered t other)
     ∙ row_of-with_row_other (λ row. row.code) code_cmp code_cmp_total (ticket_of t other) (ticket_code kept) t.tickets differs in
     rw found e

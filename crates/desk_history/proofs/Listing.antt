@@ -4,7 +4,7 @@ use Rattle.std.specs.Prelude.{if◌then◌else◌}
 use Rattle.desk_text.specs.Code.{same_code}
 use Rattle.desk_model.specs.declared.edit.Edit.{Edit}
 use Rattle.desk_history.specs.Affected.{affected, is_affected}
-use Rattle.desk_model.specs.Effect.{entered}
+use Rattle.desk_model.specs.Effect.{with_edit_entered}
 use Rattle.desk_model.specs.Lists.{Lists, is_kept, is_material, is_part, nodes_of}
 use Rattle.desk_history.specs.Sound.{IsConsistent}
 use Rattle.desk_model.proofs.Times.{times, times_append, times_by_code, times_filter}
@@ -27,8 +27,8 @@ both : (a b : Bool) → ◌≡◌ {A = ℕ} (cond a (cond b 1 0) 0) (if a && b t
 both true b = refl
 both false b = refl
 
-pub times_affected : (t : Lists) (edit : Edit) → IsConsistent (entered t edit) → (code : List ℕ) → count_by (λ listed. same_code listed code) (affected t edit) ≡ (if is_affected t edit code && is_kept (entered t edit) code then 1 else 0)
+pub times_affected : (t : Lists) (edit : Edit) → IsConsistent (with_edit_entered t edit) → (code : List ℕ) → count_by (λ listed. same_code listed code) (affected t edit) ≡ (if is_affected t edit code && is_kept (with_edit_entered t edit) code then 1 else 0)
 times_affected t edit s code =
-    times_filter (is_affected t edit) code (nodes_of (entered t edit))
-    ∙ ap (λ n. cond (is_affected t edit code) n 0) (times_nodes (entered t edit) s code)
-    ∙ both (is_affected t edit code) (is_kept (entered t edit) code)
+    times_filter (is_affected t edit) code (nodes_of (with_edit_entered t edit))
+    ∙ ap (λ n. cond (is_affected t edit code) n 0) (times_nodes (with_edit_entered t edit) s code)
+    ∙ both (is_affected t edit code) (is_kept (with_edit_entered t edit) code)

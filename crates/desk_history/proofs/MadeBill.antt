@@ -17,7 +17,7 @@ use Rattle.desk_model.specs.declared.rows.part.PartRow.{PartRow}
 use Rattle.desk_model.specs.declared.rule_fault.RuleFault.{RuleFault}
 use Rattle.desk_model.specs.declared.rule_fault.RuleFault.TheVariants.{UnknownPart}
 use Rattle.desk_findings.specs.Articles.{is_article, is_article_sort, is_assembly, same_sort}
-use Rattle.desk_model.specs.Effect.{made}
+use Rattle.desk_model.specs.Effect.{with_edit_made}
 use Rattle.desk_model.specs.Forms.{is_count, is_edit_in_form, is_line_row, is_part_row}
 use Rattle.desk_model.specs.Values.{is_code, is_name}
 use Rattle.desk_model.specs.Lists.{Lists, is_kept, is_material, is_part, line_key, line_key_cmp, part_row}
@@ -75,8 +75,8 @@ acyclic_still t u parts e f =
     parts (each_from_all (λ part. not (reaches t part.code part.code)) parts e))
 
 module _ (t : Lists) (g : IsGood t) where
-  pub good-unline : (ticket parent child : List ℕ) → IsGood (made t (Unline ticket parent child))
-  unfolding made
+  pub good-unline : (ticket parent child : List ℕ) → IsGood (with_edit_made t (Unline ticket parent child))
+  unfolding with_edit_made
   good-unline ticket parent child =
       let rows = without_row line_key line_key_cmp (parent, child) t.lines in
       good-lines t rows g
@@ -185,8 +185,8 @@ module _ (t : Lists) (g : IsGood t) where
         (or_cases (same_code new.child code) (reaches t new.child code) both.1))))
         (onward (enough t) code code e)
 
-  pub good-line : (ticket parent child : List ℕ) (count : ℕ) → is_edit_in_form (Line ticket parent child count) ≡ true → IsUnrefused t (Line ticket parent child count) → IsGood (made t (Line ticket parent child count))
-  unfolding made is_edit_in_form closes_cycle lines'
+  pub good-line : (ticket parent child : List ℕ) (count : ℕ) → is_edit_in_form (Line ticket parent child count) ≡ true → IsUnrefused t (Line ticket parent child count) → IsGood (with_edit_made t (Line ticket parent child count))
+  unfolding with_edit_made is_edit_in_form closes_cycle lines'
   good-line ticket parent child count form u =
       let new : LineRow = record { parent = parent; child = child; count = count } in
       let f3 = and_parts (is_code ticket && is_code parent && is_code child) (is_count count) form in
@@ -245,8 +245,8 @@ module _ (t : Lists) (g : IsGood t) where
   unfolding kind_changed
   kind_kept ticket code name sort e part found = refuse_unless (same_sort part.sort sort) _ (rw found at e)
 
-  pub good-part : (ticket code name : List ℕ) (sort : PartSort) → is_edit_in_form (Part ticket code sort name) ≡ true → IsUnrefused t (Part ticket code sort name) → IsGood (made t (Part ticket code sort name))
-  unfolding made is_edit_in_form name_taken parts'
+  pub good-part : (ticket code name : List ℕ) (sort : PartSort) → is_edit_in_form (Part ticket code sort name) ≡ true → IsUnrefused t (Part ticket code sort name) → IsGood (with_edit_made t (Part ticket code sort name))
+  unfolding with_edit_made is_edit_in_form name_taken parts'
   good-part ticket code name sort form u =
       let new : PartRow = record { code = code; sort = sort; name = name } in
       let f2 = and_parts (is_code ticket && is_code code) (is_name name) form in

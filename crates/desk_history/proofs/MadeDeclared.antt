@@ -14,7 +14,7 @@ use Rattle.desk_model.specs.declared.material_decl.MaterialDecl.{MaterialDecl}
 use Rattle.desk_model.specs.declared.rows.material.MaterialRow.{MaterialRow}
 use Rattle.desk_model.specs.Content.{holds_too_much, is_content, rises}
 use Rattle.desk_model.specs.Declaration.{Declared, is_declaration, is_declaration_number}
-use Rattle.desk_model.specs.Effect.{declared_rows, made}
+use Rattle.desk_model.specs.Effect.{declared_rows, with_edit_made}
 use Rattle.desk_model.specs.Forms.{is_content_in_form, is_declaration_in_form, is_edit_in_form, is_material_row}
 use Rattle.desk_model.specs.Values.{is_code, is_name}
 use Rattle.desk_model.specs.Lists.{Lists, is_material, is_part, is_substance}
@@ -132,8 +132,8 @@ module _ (t : Lists) (g : IsGood t) (d : Declared) where
       (each_both (λ part. is_part t part.code ≡ true) (λ part. not (is_material t part.code) ≡ true) t.parts (each_kept (λ row. row.code) code_cmp code_cmp_total t.parts)
       (each_from_all (λ part. not (is_material t part.code)) t.parts g.apart)))
 
-  pub good-declare : is_edit_in_form (Declare d) ≡ true → IsUnrefused t (Declare d) → IsGood (made t (Declare d))
-  unfolding made is_edit_in_form rows'
+  pub good-declare : is_edit_in_form (Declare d) ≡ true → IsUnrefused t (Declare d) → IsGood (with_edit_made t (Declare d))
+  unfolding with_edit_made is_edit_in_form rows'
   good-declare form u =
       let rows = with_rows (λ row. row.code) code_cmp (declared_rows d) t.materials in
       good-materials t rows g

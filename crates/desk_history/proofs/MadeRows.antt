@@ -21,7 +21,7 @@ use Rattle.desk_model.specs.declared.rows.candidate.CandidateRow.{CandidateRow}
 use Rattle.desk_model.specs.declared.rows.exemption.ExemptionRow.{ExemptionRow}
 use Rattle.desk_model.specs.declared.rows.shipment.ShipmentRow.{ShipmentRow}
 use Rattle.desk_model.specs.declared.rule_fault.RuleFault.{RuleFault}
-use Rattle.desk_model.specs.Effect.{made, units_of, with_units}
+use Rattle.desk_model.specs.Effect.{with_edit_made, units_of, with_units}
 use Rattle.desk_model.specs.Forms.{are_units, is_exemption_row, is_member_row, is_optional_cas, is_shipment_row, is_substance_row, is_candidate_row, is_product_row, is_edit_in_form, is_year}
 use Rattle.desk_model.specs.Values.{is_code, is_name}
 use Rattle.desk_model.specs.Lists.{Lists, is_part, is_product, is_substance, member_key, member_key_cmp, shipment_key, shipment_key_cmp, shipment_row}
@@ -57,8 +57,8 @@ module _ {R K : Type 0} (key : R → K) (cmp : K → K → Ordering) where
   all_without_row p k rows f = all_from_each p (without_row key cmp k rows) (each_without_row key cmp (λ row. p row ≡ true) k rows (each_from_all p rows f))
 
 module _ (t : Lists) (g : IsGood t) where
-  pub good-substance : (ticket code name : List ℕ) (cas : Option (List ℕ)) → is_edit_in_form (Substance ticket code name cas) ≡ true → IsGood (made t (Substance ticket code name cas))
-  unfolding made is_edit_in_form
+  pub good-substance : (ticket code name : List ℕ) (cas : Option (List ℕ)) → is_edit_in_form (Substance ticket code name cas) ≡ true → IsGood (with_edit_made t (Substance ticket code name cas))
+  unfolding with_edit_made is_edit_in_form
   good-substance ticket code name cas form =
       let new : SubstanceRow = record { code = code; name = name; cas = cas } in
       let f3 = and_parts (is_code ticket && is_code code && is_name name) (is_optional_cas cas) form in
@@ -76,8 +76,8 @@ module _ (t : Lists) (g : IsGood t) where
         products = λ c kept. kept;
       })
 
-  pub good-member : (ticket substance : List ℕ) (rule : Rule) (factor : ℕ) → is_edit_in_form (Member ticket substance rule factor) ≡ true → IsUnrefused t (Member ticket substance rule factor) → IsGood (made t (Member ticket substance rule factor))
-  unfolding made is_edit_in_form unknown_substance
+  pub good-member : (ticket substance : List ℕ) (rule : Rule) (factor : ℕ) → is_edit_in_form (Member ticket substance rule factor) ≡ true → IsUnrefused t (Member ticket substance rule factor) → IsGood (with_edit_made t (Member ticket substance rule factor))
+  unfolding with_edit_made is_edit_in_form unknown_substance
   good-member ticket substance rule zero form u =
       good-members t (without_row member_key member_key_cmp (substance, rule_number rule) t.members) g
       (IsByKey-without_row member_key member_key_cmp member_key_cmp_total (substance, rule_number rule) t.members g.ordered.members)
@@ -93,8 +93,8 @@ module _ (t : Lists) (g : IsGood t) where
       (and_from (is_code substance && nat_le 1 (suc fewer)) (nat_le (suc fewer) WHOLE_FACTOR) (and_from (is_code substance) (nat_le 1 (suc fewer)) f1.1 (le-leb 1 (suc fewer) (omega arith))) f2.1) g.forms.members)
       (all_with_row member_key member_key_cmp (λ member. is_substance t member.substance) new t.members (refuse_unless _ _ u.unknown_substance) g.names.members)
 
-  pub good-product : (ticket part : List ℕ) (kind : Kind) → is_edit_in_form (Product ticket part kind) ≡ true → IsUnrefused t (Product ticket part kind) → IsGood (made t (Product ticket part kind))
-  unfolding made is_edit_in_form unknown_part
+  pub good-product : (ticket part : List ℕ) (kind : Kind) → is_edit_in_form (Product ticket part kind) ≡ true → IsUnrefused t (Product ticket part kind) → IsGood (with_edit_made t (Product ticket part kind))
+  unfolding with_edit_made is_edit_in_form unknown_part
   good-product ticket part kind form u =
       let new : ProductRow = record { part = part; kind = kind } in
       let f1 = and_parts (is_code ticket) (is_code part) form in
@@ -111,8 +111,8 @@ module _ (t : Lists) (g : IsGood t) where
         products = λ c kept. kept-with_row (λ row. row.part) code_cmp code_cmp_total c new t.products kept;
       })
 
-  pub good-exemption : (ticket : List ℕ) (exemption : ExemptionRow) → is_edit_in_form (Exemption ticket exemption) ≡ true → IsUnrefused t (Exemption ticket exemption) → IsGood (made t (Exemption ticket exemption))
-  unfolding made is_edit_in_form exemption_span outside_annex
+  pub good-exemption : (ticket : List ℕ) (exemption : ExemptionRow) → is_edit_in_form (Exemption ticket exemption) ≡ true → IsUnrefused t (Exemption ticket exemption) → IsGood (with_edit_made t (Exemption ticket exemption))
+  unfolding with_edit_made is_edit_in_form exemption_span outside_annex
   good-exemption ticket exemption form u =
       let f1 = and_parts (is_code ticket) (is_exemption_row exemption) form in
       let span = refuse_if-none (breaks_span exemption.terms) _ u.exemption_span in
@@ -123,16 +123,16 @@ module _ (t : Lists) (g : IsGood t) where
       (all_with_row (λ row. row.terms.row) code_cmp (λ row. not (breaks_span row.terms) && not (breaks_annex row.terms)) exemption t.exemptions
       (and_from (not (breaks_span exemption.terms)) (not (breaks_annex exemption.terms)) (not_from_false (breaks_span exemption.terms) span) (not_from_false (breaks_annex exemption.terms) annex)) g.exemptions)
 
-  pub good-unexempt : (ticket row : List ℕ) → IsGood (made t (Unexempt ticket row))
-  unfolding made
+  pub good-unexempt : (ticket row : List ℕ) → IsGood (with_edit_made t (Unexempt ticket row))
+  unfolding with_edit_made
   good-unexempt ticket row =
       good-exemptions t (without_row (λ kept. kept.terms.row) code_cmp row t.exemptions) g
       (IsByKey-without_row (λ kept. kept.terms.row) code_cmp code_cmp_total row t.exemptions g.ordered.exemptions)
       (all_without_row (λ kept. kept.terms.row) code_cmp is_exemption_row row t.exemptions g.forms.exemptions)
       (all_without_row (λ kept. kept.terms.row) code_cmp (λ kept. not (breaks_span kept.terms) && not (breaks_annex kept.terms)) row t.exemptions g.exemptions)
 
-  pub good-candidate : (ticket substance : List ℕ) (day : Date) → is_edit_in_form (Candidate ticket substance day) ≡ true → IsUnrefused t (Candidate ticket substance day) → IsGood (made t (Candidate ticket substance day))
-  unfolding made is_edit_in_form unknown_substance
+  pub good-candidate : (ticket substance : List ℕ) (day : Date) → is_edit_in_form (Candidate ticket substance day) ≡ true → IsUnrefused t (Candidate ticket substance day) → IsGood (with_edit_made t (Candidate ticket substance day))
+  unfolding with_edit_made is_edit_in_form unknown_substance
   good-candidate ticket substance day form u =
       let new : CandidateRow = record { substance = substance; day = day } in
       let f2 = and_parts (is_code ticket && is_code substance) (is_day day) form in
@@ -159,8 +159,8 @@ module _ (t : Lists) (g : IsGood t) where
       (and_from (is_year year && is_code product) (are_units (suc fewer)) (and_from (is_year year) (is_code product) y c) (and_from (nat_le 1 (suc fewer)) (nat_le (suc fewer) UNITS_LIMIT) least most)) g.forms.shipments)
       (all_with_row shipment_key shipment_key_cmp (λ shipment. is_product t shipment.product) new t.shipments kept g.names.shipments)
 
-  pub good-ship : (ticket product : List ℕ) (year units : ℕ) → is_edit_in_form (Ship ticket product year units) ≡ true → IsUnrefused t (Ship ticket product year units) → IsGood (made t (Ship ticket product year units))
-  unfolding made is_edit_in_form unknown_product units_too_large
+  pub good-ship : (ticket product : List ℕ) (year units : ℕ) → is_edit_in_form (Ship ticket product year units) ≡ true → IsUnrefused t (Ship ticket product year units) → IsGood (with_edit_made t (Ship ticket product year units))
+  unfolding with_edit_made is_edit_in_form unknown_product units_too_large
   good-ship ticket product year units form u =
       let f3 = and_parts (is_code ticket && is_code product && is_year year) (are_units units) form in
       let f2 = and_parts (is_code ticket && is_code product) (is_year year) f3.0 in
@@ -188,8 +188,8 @@ module _ (t : Lists) (g : IsGood t) where
             | false ↦ found_units rows a.1
           ]
 
-  pub good-unship : (ticket product : List ℕ) (year units : ℕ) → is_edit_in_form (Unship ticket product year units) ≡ true → IsUnrefused t (Unship ticket product year units) → IsGood (made t (Unship ticket product year units))
-  unfolding made is_edit_in_form unknown_product
+  pub good-unship : (ticket product : List ℕ) (year units : ℕ) → is_edit_in_form (Unship ticket product year units) ≡ true → IsUnrefused t (Unship ticket product year units) → IsGood (with_edit_made t (Unship ticket product year units))
+  unfolding with_edit_made is_edit_in_form unknown_product
   good-unship ticket product year units form u =
       let f3 = and_parts (is_code ticket && is_code product && is_year year) (are_units units) form in
       let f2 = and_parts (is_code ticket && is_code product) (is_year year) f3.0 in

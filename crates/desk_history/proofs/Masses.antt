@@ -13,7 +13,7 @@ use Rattle.desk_model.specs.declared.edit.Edit.TheVariants.{Substance, Member, D
 use Rattle.desk_model.specs.declared.part_sort.PartSort.{PartSort}
 use Rattle.desk_model.specs.declared.rows.line.LineRow.{LineRow}
 use Rattle.desk_model.specs.declared.rows.material.MaterialRow.{MaterialRow}
-use Rattle.desk_model.specs.Effect.{entered, made}
+use Rattle.desk_model.specs.Effect.{with_edit_entered, with_edit_made}
 use Rattle.desk_model.specs.Lists.{Lists, is_material, is_part, line_key, line_key_cmp, material_row}
 use Rattle.desk_model.proofs.Elements.{each_map, find-none}
 use Rattle.desk_model.proofs.Kept.{kept_each}
@@ -65,27 +65,27 @@ fewer_lines test f parent child lines =
     let less = sum_by-without_row-le line_key line_key_cmp (λ line. cond (test line) (f line) 0) (parent, child) lines in
     omega (arith, less, sum_by-filter test f (without_row line_key line_key_cmp (parent, child) lines), sum_by-filter test f lines)
 
-no_heavier : (t : Lists) (edit : Edit) → may_raise_masses edit ≡ false → NoHeavier t (entered t edit)
-unfolding entered made
-no_heavier t (Substance ticket code name cas) e = same_weight t (entered t (Substance ticket code name cas)) (record { materials = refl; lines = refl })
-no_heavier t (Member ticket substance rule factor) e = same_weight t (entered t (Member ticket substance rule factor)) (member_leaves t ticket substance rule factor)
+no_heavier : (t : Lists) (edit : Edit) → may_raise_masses edit ≡ false → NoHeavier t (with_edit_entered t edit)
+unfolding with_edit_entered with_edit_made
+no_heavier t (Substance ticket code name cas) e = same_weight t (with_edit_entered t (Substance ticket code name cas)) (record { materials = refl; lines = refl })
+no_heavier t (Member ticket substance rule factor) e = same_weight t (with_edit_entered t (Member ticket substance rule factor)) (member_leaves t ticket substance rule factor)
 no_heavier t (Declare declaration) e = absurd (true≢false e)
-no_heavier t (Part ticket code sort name) e = same_weight t (entered t (Part ticket code sort name)) (record { materials = refl; lines = refl })
+no_heavier t (Part ticket code sort name) e = same_weight t (with_edit_entered t (Part ticket code sort name)) (record { materials = refl; lines = refl })
 no_heavier t (Line ticket parent child count) e = absurd (true≢false e)
 no_heavier t (Unline ticket parent child) e = record { materials = refl; lines = λ f code. fewer_lines (λ line. Rattle.desk_text.specs.Code.same_code line.parent code) f parent child t.lines }
-no_heavier t (Product ticket part kind) e = same_weight t (entered t (Product ticket part kind)) (record { materials = refl; lines = refl })
-no_heavier t (Exemption ticket exemption) e = same_weight t (entered t (Exemption ticket exemption)) (record { materials = refl; lines = refl })
-no_heavier t (Unexempt ticket row) e = same_weight t (entered t (Unexempt ticket row)) (record { materials = refl; lines = refl })
-no_heavier t (Candidate ticket substance day) e = same_weight t (entered t (Candidate ticket substance day)) (record { materials = refl; lines = refl })
-no_heavier t (Ship ticket product year units) e = same_weight t (entered t (Ship ticket product year units)) (ship_leaves t ticket product year units)
-no_heavier t (Unship ticket product year units) e = same_weight t (entered t (Unship ticket product year units)) (unship_leaves t ticket product year units)
+no_heavier t (Product ticket part kind) e = same_weight t (with_edit_entered t (Product ticket part kind)) (record { materials = refl; lines = refl })
+no_heavier t (Exemption ticket exemption) e = same_weight t (with_edit_entered t (Exemption ticket exemption)) (record { materials = refl; lines = refl })
+no_heavier t (Unexempt ticket row) e = same_weight t (with_edit_entered t (Unexempt ticket row)) (record { materials = refl; lines = refl })
+no_heavier t (Candidate ticket substance day) e = same_weight t (with_edit_entered t (Candidate ticket substance day)) (record { materials = refl; lines = refl })
+no_heavier t (Ship ticket product year units) e = same_weight t (with_edit_entered t (Ship ticket product year units)) (ship_leaves t ticket product year units)
+no_heavier t (Unship ticket product year units) e = same_weight t (with_edit_entered t (Unship ticket product year units)) (unship_leaves t ticket product year units)
 
 module _ (t : Lists) (s : IsConsistent t) (edit : Edit) (passed : PassesRows t edit) (e : may_raise_masses edit ≡ false) where
   -- nothing weighs more than before
-  pub mass-le : (code : List ℕ) → mass (entered t edit) code ≤ mass t code
+  pub mass-le : (code : List ℕ) → mass (with_edit_entered t edit) code ≤ mass t code
   mass-le =
       let h = no_heavier t edit e in
-      mass-lighter t (entered t edit) (bill_of t s) (bill_of (entered t edit) (IsConsistent-entered t edit s passed))
+      mass-lighter t (with_edit_entered t edit) (bill_of t s) (bill_of (with_edit_entered t edit) (IsConsistent-entered t edit s passed))
       (λ code. ap (λ rows. option_map_or (λ material. material.mass) (row_of (λ row. row.code) code_cmp code rows) 0) h.materials) h.lines
 
 -- what is neither a part nor a material weighs nothing
@@ -126,28 +126,28 @@ light_code t s light code material =
     ]
 
 module _ (t : Lists) (s : IsConsistent t) (fits : too_heavy_part t ≡ None) where
-  plain : (edit : Edit) → (made t edit).parts ≡ t.parts → (entered t edit).parts ≡ t.parts
-  unfolding entered
+  plain : (edit : Edit) → (with_edit_made t edit).parts ≡ t.parts → (with_edit_entered t edit).parts ≡ t.parts
+  unfolding with_edit_entered
   plain edit h = h
 
-  same_parts : (edit : Edit) → PassesRows t edit → may_raise_masses edit ≡ false → (entered t edit).parts ≡ t.parts → AllByRecursion (λ part. Light (entered t edit) part.code) (entered t edit).parts
+  same_parts : (edit : Edit) → PassesRows t edit → may_raise_masses edit ≡ false → (with_edit_entered t edit).parts ≡ t.parts → AllByRecursion (λ part. Light (with_edit_entered t edit) part.code) (with_edit_entered t edit).parts
   same_parts edit passed e parts =
-      subst (λ rows. AllByRecursion (λ part. Light (entered t edit) part.code) rows) (sym parts)
-      (each_map (λ part. Light t part.code) (λ part. Light (entered t edit) part.code) (λ part. still_light t (entered t edit) part.code (mass-le t s edit passed e part.code)) t.parts (light_parts t fits))
+      subst (λ rows. AllByRecursion (λ part. Light (with_edit_entered t edit) part.code) rows) (sym parts)
+      (each_map (λ part. Light t part.code) (λ part. Light (with_edit_entered t edit) part.code) (λ part. still_light t (with_edit_entered t edit) part.code (mass-le t s edit passed e part.code)) t.parts (light_parts t fits))
 
   -- a part's name or a new part: the new one has no lines
-  new_part : (ticket code name : List ℕ) (sort : PartSort) → PassesRows t (Part ticket code sort name) → AllByRecursion (λ part. Light (entered t (Part ticket code sort name)) part.code) (entered t (Part ticket code sort name)).parts
-  unfolding entered made name_taken
+  new_part : (ticket code name : List ℕ) (sort : PartSort) → PassesRows t (Part ticket code sort name) → AllByRecursion (λ part. Light (with_edit_entered t (Part ticket code sort name)) part.code) (with_edit_entered t (Part ticket code sort name)).parts
+  unfolding with_edit_entered with_edit_made name_taken
   new_part ticket code name sort passed =
       let edit : Edit = Part ticket code sort name in
-      let lighter = λ (other : List ℕ). still_light t (entered t edit) other (mass-le t s edit passed refl other) in
+      let lighter = λ (other : List ℕ). still_light t (with_edit_entered t edit) other (mass-le t s edit passed refl other) in
       let material = refuse_if-none (is_material t code) _ (unrefused t edit passed).name_taken in
-      each_with_row (λ row. row.code) code_cmp (λ part. Light (entered t edit) part.code) (record { code = code; sort = sort; name = name }) t.parts
+      each_with_row (λ row. row.code) code_cmp (λ part. Light (with_edit_entered t edit) part.code) (record { code = code; sort = sort; name = name }) t.parts
       (lighter code (light_code t s (light_parts t fits) code material))
-      (each_map (λ part. Light t part.code) (λ part. Light (entered t edit) part.code) (λ part. lighter part.code) t.parts (light_parts t fits))
+      (each_map (λ part. Light t part.code) (λ part. Light (with_edit_entered t edit) part.code) (λ part. lighter part.code) t.parts (light_parts t fits))
 
-  all_light : (edit : Edit) → PassesRows t edit → may_raise_masses edit ≡ false → AllByRecursion (λ part. Light (entered t edit) part.code) (entered t edit).parts
-  unfolding made
+  all_light : (edit : Edit) → PassesRows t edit → may_raise_masses edit ≡ false → AllByRecursion (λ part. Light (with_edit_entered t edit) part.code) (with_edit_entered t edit).parts
+  unfolding with_edit_made
   all_light (Substance ticket code name cas) passed e = same_parts (Substance ticket code name cas) passed e (plain (Substance ticket code name cas) refl)
   all_light (Member ticket substance rule factor) passed e = same_parts (Member ticket substance rule factor) passed e (parts_of_member t ticket substance rule factor)
   all_light (Declare declaration) passed e = absurd (true≢false e)
@@ -161,7 +161,7 @@ module _ (t : Lists) (s : IsConsistent t) (fits : too_heavy_part t ≡ None) whe
   all_light (Ship ticket product year units) passed e = same_parts (Ship ticket product year units) passed e (parts_of_ship t ticket product year units)
   all_light (Unship ticket product year units) passed e = same_parts (Unship ticket product year units) passed e (parts_of_unship t ticket product year units)
 
-  -- a mass that no edit of its sort can raise breaks no rule
+  -- a mass that no edit of its sort can raise meets no refusal
   pub masses_fit : (edit : Edit) → PassesRows t edit → may_raise_masses edit ≡ false → total_too_large t edit ≡ None
   unfolding total_too_large
-  masses_fit edit passed e = rw (not_too_heavy (entered t edit) (all_light edit passed e)) refl
+  masses_fit edit passed e = rw (not_too_heavy (with_edit_entered t edit) (all_light edit passed e)) refl

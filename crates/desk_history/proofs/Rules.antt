@@ -1,4 +1,4 @@
--- What it says that no rule refuses an edit.
+-- What it says that an edit meets no refusal.
 use Rattle.std.proofs.Common.{◌≡◌, Bool, true, false, List, [], ◌∷◌, ◌++◌, Option, Some, None, refl}
 use Rattle.std.specs.Prelude.{option_map}
 use Rattle.std.specs.List.{AllByRecursion}
@@ -6,10 +6,10 @@ use Rattle.desk_model.specs.declared.edit.Edit.{Edit}
 use Rattle.desk_model.specs.Lists.{Lists}
 use Rattle.desk_model.specs.declared.rule_fault.RuleFault.{RuleFault}
 use Rattle.desk_model.specs.declared.rule_fault.RuleFault.TheVariants.{TotalTooLarge, FindingsFull, YearTooLarge}
-use Rattle.desk_model.specs.Effect.{entered}
+use Rattle.desk_model.specs.Effect.{with_edit_entered}
 use Rattle.desk_findings.specs.Totals.{has_too_many_findings, too_heavy_part, too_heavy_year}
 use Rattle.desk_history.specs.History.{IsAccepted, PassesRows}
-use Rattle.desk_history.specs.Refused.{first_some, refuse_if, refused, refused_by_rows, rules_of_bill, rules_of_rows, ticket_reused, unknown_substance, unknown_material, unknown_part, unknown_product, unknown_exemption, name_taken, kind_changed, wrong_child, no_such_line, foreign_material, stale_declaration, masses_exceed, exemption_span, outside_annex, ship_below_zero, units_too_large, table_full, text_full, closes_cycle, total_too_large, findings_full, year_too_large}
+use Rattle.desk_history.specs.Refused.{first_some, refuse_if, refused, refused_by_rows, refusals_of_bill, refusals_of_rows, ticket_reused, unknown_substance, unknown_material, unknown_part, unknown_product, unknown_exemption, name_taken, kind_changed, wrong_child, no_such_line, foreign_material, stale_declaration, masses_exceed, exemption_span, outside_annex, ship_below_zero, units_too_large, table_full, text_full, closes_cycle, total_too_large, findings_full, year_too_large}
 use Rattle.desk_history.specs.Sound.{KeepsSums}
 
 some_none : {X : Type 0} (x : X) {G : Type 0} → Some x ≡ None → G
@@ -25,7 +25,7 @@ first_some-all [] a = refl
 first_some-all (None ∷ os) a = first_some-all os a.1
 first_some-all (Some x ∷ os) a = some_none x a.0
 
--- none of the rules 1 to 20 refuses the edit
+-- the edit meets none of the refusals 1 to 20
 pub record IsUnrefused (t : Lists) (edit : Edit) : Type 0 where
   pub ticket_reused : ticket_reused t edit ≡ None
   pub unknown_substance : unknown_substance t edit ≡ None
@@ -51,7 +51,7 @@ pub record IsUnrefused (t : Lists) (edit : Edit) : Type 0 where
 pub unrefused : (t : Lists) (edit : Edit) → PassesRows t edit → IsUnrefused t edit
 unfolding refused_by_rows
 unrefused t edit passed =
-    let r1 = first_some-none (rules_of_rows t edit) passed.by_rows in
+    let r1 = first_some-none (refusals_of_rows t edit) passed.by_rows in
     let r2 = r1.1 in
     let r3 = r2.1 in
     let r4 = r3.1 in
@@ -93,10 +93,10 @@ unrefused t edit passed =
       closes_cycle = passed.by_cycle;
     }
 
--- an edit that no rule refuses, by the rules of rows and those of the bill
-all_none : (t : Lists) (edit : Edit) → refused t edit ≡ None → AllByRecursion (λ o. o ≡ None) (rules_of_rows t edit ++ rules_of_bill t edit)
+-- an edit that meets no refusal, by the refusals of rows and those of the bill
+all_none : (t : Lists) (edit : Edit) → refused t edit ≡ None → AllByRecursion (λ o. o ≡ None) (refusals_of_rows t edit ++ refusals_of_bill t edit)
 unfolding refused
-all_none t edit e = first_some-none (rules_of_rows t edit ++ rules_of_bill t edit) e
+all_none t edit e = first_some-none (refusals_of_rows t edit ++ refusals_of_bill t edit) e
 
 both_none : {X : Type 0} (some others : List (Option X)) → AllByRecursion (λ o. o ≡ None) (some ++ others) → AllByRecursion (λ o. o ≡ None) some × AllByRecursion (λ o. o ≡ None) others
 both_none [] others a = (tt, a)
@@ -114,11 +114,11 @@ unreused t edit e = (all_none t edit e).0
 pub passes : (t : Lists) (edit : Edit) → IsAccepted t edit → PassesRows t edit
 unfolding refused_by_rows
 passes t edit a =
-    let split = both_none (rules_of_rows t edit) (rules_of_bill t edit) (all_none t edit a.is_unrefused) in
+    let split = both_none (refusals_of_rows t edit) (refusals_of_bill t edit) (all_none t edit a.is_unrefused) in
     record {
       in_form = a.in_form;
       is_new = a.is_new;
-      by_rows = first_some-all (rules_of_rows t edit) split.0;
+      by_rows = first_some-all (refusals_of_rows t edit) split.0;
       by_cycle = split.1.0;
     }
 
@@ -131,26 +131,26 @@ unless_true true fault e = some_none fault e
 unless_true false fault e = refl
 
 -- the tables that an accepted edit leaves keep their sums
-pub sums_of : (t : Lists) (edit : Edit) → IsAccepted t edit → KeepsSums (entered t edit)
+pub sums_of : (t : Lists) (edit : Edit) → IsAccepted t edit → KeepsSums (with_edit_entered t edit)
 unfolding total_too_large findings_full year_too_large
 sums_of t edit a =
-    let bill = (both_none (rules_of_rows t edit) (rules_of_bill t edit) (all_none t edit a.is_unrefused)).1 in
+    let bill = (both_none (refusals_of_rows t edit) (refusals_of_bill t edit) (all_none t edit a.is_unrefused)).1 in
     record {
-      parts_fit = unmapped TotalTooLarge (too_heavy_part (entered t edit)) bill.1.0;
-      findings_fit = unless_true (has_too_many_findings (entered t edit)) FindingsFull bill.1.1.0;
-      years_fit = unmapped YearTooLarge (too_heavy_year (entered t edit)) bill.1.1.1.0;
+      parts_fit = unmapped TotalTooLarge (too_heavy_part (with_edit_entered t edit)) bill.1.0;
+      findings_fit = unless_true (has_too_many_findings (with_edit_entered t edit)) FindingsFull bill.1.1.0;
+      years_fit = unmapped YearTooLarge (too_heavy_year (with_edit_entered t edit)) bill.1.1.1.0;
     }
 
 -- and an edit that passes the rules of rows and cycles and leaves such tables is accepted
-pub accepted_by_sums : (t : Lists) (edit : Edit) → PassesRows t edit → KeepsSums (entered t edit) → IsAccepted t edit
+pub accepted_by_sums : (t : Lists) (edit : Edit) → PassesRows t edit → KeepsSums (with_edit_entered t edit) → IsAccepted t edit
 unfolding refused refused_by_rows total_too_large findings_full year_too_large
 accepted_by_sums t edit passed sums =
-    let rows = first_some-none (rules_of_rows t edit) passed.by_rows in
+    let rows = first_some-none (refusals_of_rows t edit) passed.by_rows in
     record {
       in_form = passed.in_form;
       is_new = passed.is_new;
       is_unrefused =
-          first_some-all (rules_of_rows t edit ++ rules_of_bill t edit)
-          (join_none (rules_of_rows t edit) (rules_of_bill t edit) rows
+          first_some-all (refusals_of_rows t edit ++ refusals_of_bill t edit)
+          (join_none (refusals_of_rows t edit) (refusals_of_bill t edit) rows
           (passed.by_cycle, (rw sums.parts_fit refl, (rw sums.findings_fit refl, (rw sums.years_fit refl, tt)))));
     }

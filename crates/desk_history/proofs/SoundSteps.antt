@@ -10,7 +10,7 @@ use Rattle.desk_model.specs.declared.edit.Edit.{Edit}
 use Rattle.desk_model.specs.declared.edit.Edit.TheVariants.{Substance, Member, Declare, Part, Line, Unline, Product, Exemption, Unexempt, Candidate, Ship, Unship}
 use Rattle.desk_model.specs.declared.rule_fault.RuleFault.{RuleFault}
 use Rattle.desk_model.specs.declared.rule_fault.RuleFault.TheVariants.{TableFull}
-use Rattle.desk_model.specs.Effect.{entered, made}
+use Rattle.desk_model.specs.Effect.{with_edit_entered, with_edit_made}
 use Rattle.desk_findings.specs.Findings.{finding_count}
 use Rattle.desk_model.specs.Forms.{is_edit_in_form}
 use Rattle.desk_history.specs.History.{AreAccepted, IsAccepted, PassesRows, tables_after}
@@ -32,7 +32,7 @@ use Rattle.desk_history.proofs.StartForms.{start_in_form}
 use Rattle.desk_history.proofs.Steps.{are_numbers-entered, step-accepted, step-kept, step-refused, ticket_of, tickets_entered}
 
 -- each of the twelve edits, made, keeps the clauses on rows, names, codes and cycles
-good-made : (t : Lists) → IsGood t → (edit : Edit) → is_edit_in_form edit ≡ true → IsUnrefused t edit → IsGood (made t edit)
+good-made : (t : Lists) → IsGood t → (edit : Edit) → is_edit_in_form edit ≡ true → IsUnrefused t edit → IsGood (with_edit_made t edit)
 good-made t g (Substance ticket code name cas) form u = good-substance t g ticket code name cas form
 good-made t g (Member ticket substance rule factor) form u = good-member t g ticket substance rule factor form u
 good-made t g (Declare declaration) form u = good-declare t g declaration form u
@@ -53,17 +53,17 @@ none_first (table ∷ tables) e = some_none (TableFull table) e
     some_none : (x : RuleFault) {G : Type 0} → Some x ≡ None → G
     some_none x h = cc
 
--- the clauses that rules 18, 19 and 21 to 23 look after
-tables_fit : (t : Lists) (edit : Edit) → table_full t edit ≡ None → tables_over (entered t edit) ≡ []
+-- the clauses that refusals 18, 19 and 21 to 23 look after
+tables_fit : (t : Lists) (edit : Edit) → table_full t edit ≡ None → tables_over (with_edit_entered t edit) ≡ []
 unfolding table_full
-tables_fit t edit e = none_first (tables_over (entered t edit)) e
+tables_fit t edit e = none_first (tables_over (with_edit_entered t edit)) e
 
-texts_fit : (t : Lists) (edit : Edit) → text_full t edit ≡ None → has_too_much_text (entered t edit) ≡ false
+texts_fit : (t : Lists) (edit : Edit) → text_full t edit ≡ None → has_too_much_text (with_edit_entered t edit) ≡ false
 unfolding text_full
-texts_fit t edit e = refuse_if-none (has_too_much_text (entered t edit)) _ e
+texts_fit t edit e = refuse_if-none (has_too_much_text (with_edit_entered t edit)) _ e
 
-good-entered : (t : Lists) (edit : Edit) → IsGood (made t edit) → IsGood (entered t edit)
-unfolding entered
+good-entered : (t : Lists) (edit : Edit) → IsGood (with_edit_made t edit) → IsGood (with_edit_entered t edit)
+unfolding with_edit_entered
 good-entered t edit g = record {
   ordered = record {
     substances = g.ordered.substances;
@@ -101,8 +101,8 @@ good-entered t edit g = record {
   acyclic = g.acyclic;
 }
 
--- an edit that passes the rules 1 to 20 leaves tables that hold together and keep their limits
-pub IsConsistent-entered : (t : Lists) (edit : Edit) → IsConsistent t → PassesRows t edit → IsConsistent (entered t edit)
+-- an edit that passes the refusals 1 to 20 leaves tables that hold together and keep their limits
+pub IsConsistent-entered : (t : Lists) (edit : Edit) → IsConsistent t → PassesRows t edit → IsConsistent (with_edit_entered t edit)
 IsConsistent-entered t edit s passed =
     let u = unrefused t edit passed in
     let g = good-entered t edit (good-made t (good_of t s) edit passed.in_form u) in
@@ -119,8 +119,8 @@ IsConsistent-entered t edit s passed =
         shipments = g.ordered.shipments;
         tickets = rw (tickets_entered t edit) (IsByKey-with_row (λ row. row.code) code_cmp code_cmp_total (ticket_of t edit) t.tickets s.ordered.tickets);
       };
-      in_form = forms_from (entered t edit) g.forms;
-      names_kept = names_from (entered t edit) g.names;
+      in_form = forms_from (with_edit_entered t edit) g.forms;
+      names_kept = names_from (with_edit_entered t edit) g.names;
       codes_apart = g.apart;
       contents_fit = g.masses;
       exemptions_fit = g.exemptions;
@@ -129,13 +129,13 @@ IsConsistent-entered t edit s passed =
       tickets_of_edits = rw (tickets_entered t edit) (each_with_row (λ row. row.code) code_cmp IsTicketOfEdit (ticket_of t edit) t.tickets (edit, passed.in_form, refl, refl) s.tickets_of_edits);
     }
 
-pub KeepsLimits-entered : (t : Lists) (edit : Edit) → PassesRows t edit → KeepsLimits (entered t edit)
+pub KeepsLimits-entered : (t : Lists) (edit : Edit) → PassesRows t edit → KeepsLimits (with_edit_entered t edit)
 KeepsLimits-entered t edit passed =
     let u = unrefused t edit passed in
     record { tables_fit = tables_fit t edit u.table_full; texts_fit = texts_fit t edit u.text_full }
 
 -- an accepted edit keeps tables sound
-pub Sound-entered : (t : Lists) (edit : Edit) → Sound t → IsAccepted t edit → Sound (entered t edit)
+pub Sound-entered : (t : Lists) (edit : Edit) → Sound t → IsAccepted t edit → Sound (with_edit_entered t edit)
 Sound-entered t edit s a =
     let passed = passes t edit a in
     record { consistent = IsConsistent-entered t edit s.consistent passed; limits = KeepsLimits-entered t edit passed; sums = sums_of t edit a }

@@ -10,7 +10,7 @@ use Rattle.desk_model.specs.declared.rows.ticket.TicketRow.{TicketRow}
 use Rattle.desk_model.specs.declared.rule_fault.RuleFault.{RuleFault}
 use Rattle.desk_model.specs.declared.rule_fault.RuleFault.TheVariants.{TicketReused}
 use Rattle.desk_model.specs.EditText.{edit_text, same_text, ticket_code}
-use Rattle.desk_model.specs.Effect.{entered, next_number}
+use Rattle.desk_model.specs.Effect.{with_edit_entered, next_number}
 use Rattle.desk_model.specs.Lists.{Lists, ticket_row}
 use Rattle.desk_history.specs.Refused.{refused, ticket_reused}
 use Rattle.desk_history.specs.Sound.{are_numbers}
@@ -32,8 +32,8 @@ pub step-refused : (t : Lists) (edit : Edit) (fault : RuleFault) → kept_number
 unfolding step
 step-refused t edit fault e f = rw (e, f) refl
 
--- the step of a new edit that no rule refuses
-pub step-accepted : (t : Lists) (edit : Edit) → kept_number t edit ≡ None → refused t edit ≡ None → step t edit ≡ (Ok (next_number t), entered t edit)
+-- the step of a new edit that meets no refusal
+pub step-accepted : (t : Lists) (edit : Edit) → kept_number t edit ≡ None → refused t edit ≡ None → step t edit ≡ (Ok (next_number t), with_edit_entered t edit)
 unfolding step
 step-accepted t edit e f = rw (e, f) refl
 
@@ -77,22 +77,22 @@ fresh_by t edit (Some ticket) e f g =
       | inr other ↦ none_some TicketReused (rw (e, other) at g)
     ]
 
--- the ticket of a new edit that rule 1 doesn't refuse isn't kept
+-- the ticket of a new edit that doesn't meet refusal 1 isn't kept
 pub fresh : (t : Lists) (edit : Edit) → kept_number t edit ≡ None → ticket_reused t edit ≡ None → ticket_row t (ticket_code edit) ≡ None
 fresh t edit e f = fresh_by t edit (ticket_row t (ticket_code edit)) refl e f
 
 abbrev pub ticket_of : Lists → Edit → TicketRow
 ticket_of t edit = record { code = ticket_code edit; number = next_number t; text = edit_text edit }
 
-pub tickets_entered : (t : Lists) (edit : Edit) → (entered t edit).tickets ≡ with_row (λ row. row.code) code_cmp (ticket_of t edit) t.tickets
-unfolding entered
+pub tickets_entered : (t : Lists) (edit : Edit) → (with_edit_entered t edit).tickets ≡ with_row (λ row. row.code) code_cmp (ticket_of t edit) t.tickets
+unfolding with_edit_entered
 tickets_entered t edit = refl
 
 -- an edit that was entered is kept from then on, with the number that it got
-pub kept-entered : (t : Lists) (edit : Edit) → kept_number (entered t edit) edit ≡ Some (next_number t)
+pub kept-entered : (t : Lists) (edit : Edit) → kept_number (with_edit_entered t edit) edit ≡ Some (next_number t)
 unfolding kept_number
 kept-entered t edit =
-    let found : ticket_row (entered t edit) (ticket_code edit) ≡ Some (ticket_of t edit) =
+    let found : ticket_row (with_edit_entered t edit) (ticket_code edit) ≡ Some (ticket_of t edit) =
     ap (λ rows. row_of (λ row. row.code) code_cmp (ticket_code edit) rows) (tickets_entered t edit)
     ∙ row_of-with_row (λ row. row.code) code_cmp code_cmp_total (ticket_of t edit) t.tickets in
     rw (found, same_code-from (edit_text edit) (edit_text edit) refl) refl
@@ -102,13 +102,13 @@ length-by [] = refl
 length-by (row ∷ rows) = omega (arith, sum_by-cons (λ r. 1) row rows, length-by rows)
 
 -- an accepted edit adds one ticket
-pub tickets-length : (t : Lists) (edit : Edit) → ticket_row t (ticket_code edit) ≡ None → length (entered t edit).tickets ≡ length t.tickets + 1
+pub tickets-length : (t : Lists) (edit : Edit) → ticket_row t (ticket_code edit) ≡ None → length (with_edit_entered t edit).tickets ≡ length t.tickets + 1
 tickets-length t edit absent =
     let counted = sum_by-with_row (λ row. row.code) code_cmp (λ row. 1) (ticket_of t edit) t.tickets absent in
     rw (tickets_entered t edit) (omega (arith, counted, length-by t.tickets, length-by (with_row (λ row. row.code) code_cmp (ticket_of t edit) t.tickets)))
 
 -- numbers stay 1 to n where a new ticket is entered
-pub are_numbers-entered : (t : Lists) (edit : Edit) → kept_number t edit ≡ None → ticket_reused t edit ≡ None → are_numbers t.tickets ≡ true → are_numbers (entered t edit).tickets ≡ true
+pub are_numbers-entered : (t : Lists) (edit : Edit) → kept_number t edit ≡ None → ticket_reused t edit ≡ None → are_numbers t.tickets ≡ true → are_numbers (with_edit_entered t edit).tickets ≡ true
 are_numbers-entered t edit e f n =
     let absent = fresh t edit e f in
     let longer = sym (ap length (tickets_entered t edit)) ∙ tickets-length t edit absent in

@@ -4,7 +4,7 @@ use Rattle.std.proofs.lemmas.Bool.{true≢false}
 use Rattle.desk_law.specs.declared.rule.Rule.{Rule}
 use Rattle.desk_model.specs.declared.edit.Edit.{Edit}
 use Rattle.desk_model.specs.declared.edit.Edit.TheVariants.{Substance, Member, Declare, Part, Line, Unline, Product, Exemption, Unexempt, Candidate, Ship, Unship}
-use Rattle.desk_model.specs.Effect.{entered, made, units_of, with_factor, with_units}
+use Rattle.desk_model.specs.Effect.{with_edit_entered, with_edit_made, units_of, with_factor, with_units}
 use Rattle.desk_model.specs.Lists.{Lists}
 use Rattle.desk_history.specs.Rising.{changes_shipments}
 
@@ -34,37 +34,37 @@ module _ (t : Lists) where
   factor_leaves_shipments substance rule zero = refl
   factor_leaves_shipments substance rule (suc fewer) = refl
 
-  of_made : (edit : Edit) → SameBill t (made t edit) → SameBill t (entered t edit)
-  unfolding entered
+  of_made : (edit : Edit) → SameBill t (with_edit_made t edit) → SameBill t (with_edit_entered t edit)
+  unfolding with_edit_entered
   of_made edit h = record { materials = h.materials; lines = h.lines }
 
-  pub ship_leaves : (ticket product : List ℕ) (year units : ℕ) → SameBill t (entered t (Ship ticket product year units))
-  unfolding made
+  pub ship_leaves : (ticket product : List ℕ) (year units : ℕ) → SameBill t (with_edit_entered t (Ship ticket product year units))
+  unfolding with_edit_made
   ship_leaves ticket product year units = of_made (Ship ticket product year units) (units_leave year product (units_of t year product + units))
 
-  pub unship_leaves : (ticket product : List ℕ) (year units : ℕ) → SameBill t (entered t (Unship ticket product year units))
-  unfolding made
+  pub unship_leaves : (ticket product : List ℕ) (year units : ℕ) → SameBill t (with_edit_entered t (Unship ticket product year units))
+  unfolding with_edit_made
   unship_leaves ticket product year units = of_made (Unship ticket product year units) (units_leave year product (units_of t year product - units))
 
-  pub member_leaves : (ticket substance : List ℕ) (rule : Rule) (factor : ℕ) → SameBill t (entered t (Member ticket substance rule factor))
-  unfolding made
+  pub member_leaves : (ticket substance : List ℕ) (rule : Rule) (factor : ℕ) → SameBill t (with_edit_entered t (Member ticket substance rule factor))
+  unfolding with_edit_made
   member_leaves ticket substance rule factor = of_made (Member ticket substance rule factor) (factor_leaves substance rule factor)
 
-  pub parts_of_ship : (ticket product : List ℕ) (year units : ℕ) → (entered t (Ship ticket product year units)).parts ≡ t.parts
-  unfolding entered made
+  pub parts_of_ship : (ticket product : List ℕ) (year units : ℕ) → (with_edit_entered t (Ship ticket product year units)).parts ≡ t.parts
+  unfolding with_edit_entered with_edit_made
   parts_of_ship ticket product year units = units_leave_parts year product (units_of t year product + units)
 
-  pub parts_of_unship : (ticket product : List ℕ) (year units : ℕ) → (entered t (Unship ticket product year units)).parts ≡ t.parts
-  unfolding entered made
+  pub parts_of_unship : (ticket product : List ℕ) (year units : ℕ) → (with_edit_entered t (Unship ticket product year units)).parts ≡ t.parts
+  unfolding with_edit_entered with_edit_made
   parts_of_unship ticket product year units = units_leave_parts year product (units_of t year product - units)
 
-  pub parts_of_member : (ticket substance : List ℕ) (rule : Rule) (factor : ℕ) → (entered t (Member ticket substance rule factor)).parts ≡ t.parts
-  unfolding entered made
+  pub parts_of_member : (ticket substance : List ℕ) (rule : Rule) (factor : ℕ) → (with_edit_entered t (Member ticket substance rule factor)).parts ≡ t.parts
+  unfolding with_edit_entered with_edit_made
   parts_of_member ticket substance rule factor = factor_leaves_parts substance rule factor
 
   -- edits that ship nothing leave the shipments
-  pub same_shipments : (edit : Edit) → changes_shipments edit ≡ false → (entered t edit).shipments ≡ t.shipments
-  unfolding entered made
+  pub same_shipments : (edit : Edit) → changes_shipments edit ≡ false → (with_edit_entered t edit).shipments ≡ t.shipments
+  unfolding with_edit_entered with_edit_made
   same_shipments (Substance ticket code name cas) e = refl
   same_shipments (Member ticket substance rule factor) e = factor_leaves_shipments substance rule factor
   same_shipments (Declare declaration) e = refl

@@ -14,7 +14,7 @@ use Rattle.desk_rows.proofs.Sums.{sum_by-filter, sum_by-put, sum_by-without_row}
 use Rattle.desk_model.specs.declared.edit.Edit.{Edit}
 use Rattle.desk_model.specs.declared.edit.Edit.TheVariants.{Substance, Member, Declare, Part, Line, Unline, Product, Exemption, Unexempt, Candidate, Ship, Unship}
 use Rattle.desk_model.specs.declared.rows.shipment.ShipmentRow.{ShipmentRow}
-use Rattle.desk_model.specs.Effect.{entered, made, units_of, with_units}
+use Rattle.desk_model.specs.Effect.{with_edit_entered, with_edit_made, units_of, with_units}
 use Rattle.desk_model.specs.Lists.{Lists, shipment_key, shipment_key_cmp, shipment_row}
 use Rattle.desk_model.proofs.Elements.{each, each_from_all, each_map, sum_le, sum_same}
 use Rattle.desk_model.proofs.Kept.{same_code-true, shipment_key_cmp_total}
@@ -104,18 +104,18 @@ pub unaffected : (t : Lists) (edit : Edit) → seeds_of_new t edit ≡ [] → (c
 unfolding is_affected
 unaffected t edit none code = by_kept (is_some (Rattle.desk_history.specs.Step.kept_number t edit))
   where
-    by_kept : (kept : Bool) → list_any (λ seed. same_code code seed || Rattle.desk_findings.specs.Reaches.reaches (entered t edit) code seed) (if kept then [] else seeds_of_new t edit) ≡ false
+    by_kept : (kept : Bool) → list_any (λ seed. same_code code seed || Rattle.desk_findings.specs.Reaches.reaches (with_edit_entered t edit) code seed) (if kept then [] else seeds_of_new t edit) ≡ false
     by_kept true = refl
     by_kept false = rw none refl
 
 module _ (t : Lists) (s : IsConsistent t) where
   -- where masses stay a year's mass is that of its shipments
-  by_old_masses : (edit : Edit) → PassesRows t edit → seeds_of_new t edit ≡ [] → (other : ℕ) → year_mass (entered t edit) other ≡ year_sum (mass t) other (entered t edit).shipments
+  by_old_masses : (edit : Edit) → PassesRows t edit → seeds_of_new t edit ≡ [] → (other : ℕ) → year_mass (with_edit_entered t edit) other ≡ year_sum (mass t) other (with_edit_entered t edit).shipments
   unfolding year_sum
   by_old_masses edit passed none other =
-      sum_same (λ shipment. shipment.units * mass (entered t edit) shipment.product) (λ shipment. shipment.units * mass t shipment.product) (shipments_in (entered t edit) other)
-      (each (λ shipment. shipment.units * mass (entered t edit) shipment.product ≡ shipment.units * mass t shipment.product)
-      (λ shipment. ap (λ n. shipment.units * n) (mass_stays t s edit passed shipment.product (unaffected t edit none shipment.product))) (shipments_in (entered t edit) other))
+      sum_same (λ shipment. shipment.units * mass (with_edit_entered t edit) shipment.product) (λ shipment. shipment.units * mass t shipment.product) (shipments_in (with_edit_entered t edit) other)
+      (each (λ shipment. shipment.units * mass (with_edit_entered t edit) shipment.product ≡ shipment.units * mass t shipment.product)
+      (λ shipment. ap (λ n. shipment.units * n) (mass_stays t s edit passed shipment.product (unaffected t edit none shipment.product))) (shipments_in (with_edit_entered t edit) other))
 
   old_sum : (other : ℕ) → year_mass t other ≡ year_sum (mass t) other t.shipments
   unfolding year_sum
@@ -125,15 +125,15 @@ module _ (t : Lists) (s : IsConsistent t) where
   more true kept units weight = add-mul kept units weight
   more false kept units weight = refl
 
-  shipments_of_ship : (ticket product : List ℕ) (year units : ℕ) → (entered t (Ship ticket product year units)).shipments ≡ (with_units t year product (units_of t year product + units)).shipments
-  unfolding entered made
+  shipments_of_ship : (ticket product : List ℕ) (year units : ℕ) → (with_edit_entered t (Ship ticket product year units)).shipments ≡ (with_units t year product (units_of t year product + units)).shipments
+  unfolding with_edit_entered with_edit_made
   shipments_of_ship ticket product year units = refl
 
-  shipments_of_unship : (ticket product : List ℕ) (year units : ℕ) → (entered t (Unship ticket product year units)).shipments ≡ (with_units t year product (units_of t year product - units)).shipments
-  unfolding entered made
+  shipments_of_unship : (ticket product : List ℕ) (year units : ℕ) → (with_edit_entered t (Unship ticket product year units)).shipments ≡ (with_units t year product (units_of t year product - units)).shipments
+  unfolding with_edit_entered with_edit_made
   shipments_of_unship ticket product year units = refl
 
-  pub shipped : (ticket product : List ℕ) (year units : ℕ) → PassesRows t (Ship ticket product year units) → (other : ℕ) → year_mass (entered t (Ship ticket product year units)) other ≡ year_mass t other + (if year == other then units * mass t product else 0)
+  pub shipped : (ticket product : List ℕ) (year units : ℕ) → PassesRows t (Ship ticket product year units) → (other : ℕ) → year_mass (with_edit_entered t (Ship ticket product year units)) other ≡ year_mass t other + (if year == other then units * mass t product else 0)
   unfolding seeds_of_new
   shipped ticket product year units passed other =
       let kept = units_of t year product in
@@ -141,7 +141,7 @@ module _ (t : Lists) (s : IsConsistent t) where
       let after = by_old_masses (Ship ticket product year units) passed refl other ∙ ap (year_sum (mass t) other) (shipments_of_ship ticket product year units) in
       omega (arith, change, after, old_sum other, more (year == other) kept units (mass t product))
 
-  pub taken_off : (ticket product : List ℕ) (year units : ℕ) → PassesRows t (Unship ticket product year units) → (other : ℕ) → year_mass (entered t (Unship ticket product year units)) other + (if year == other then units * mass t product else 0) ≡ year_mass t other
+  pub taken_off : (ticket product : List ℕ) (year units : ℕ) → PassesRows t (Unship ticket product year units) → (other : ℕ) → year_mass (with_edit_entered t (Unship ticket product year units)) other + (if year == other then units * mass t product else 0) ≡ year_mass t other
   unfolding seeds_of_new ship_below_zero
   taken_off ticket product year units passed other =
       let kept = units_of t year product in
@@ -153,27 +153,27 @@ module _ (t : Lists) (s : IsConsistent t) where
       omega (arith, change, after, old_sum other, split)
 
   -- an edit that ships nothing leaves a year whose products it doesn't affect
-  pub year_stays : (edit : Edit) → PassesRows t edit → changes_shipments edit ≡ false → (year : ℕ) → list_all (λ shipment. not (is_affected t edit shipment.product)) (shipments_in t year) ≡ true → year_mass (entered t edit) year ≡ year_mass t year
+  pub year_stays : (edit : Edit) → PassesRows t edit → changes_shipments edit ≡ false → (year : ℕ) → list_all (λ shipment. not (is_affected t edit shipment.product)) (shipments_in t year) ≡ true → year_mass (with_edit_entered t edit) year ≡ year_mass t year
   year_stays edit passed none year all =
-      ap (λ rows. sum_by (λ shipment. shipment.units * mass (entered t edit) shipment.product) (filter (λ shipment. shipment.year == year) rows)) (same_shipments t edit none)
-      ∙ sum_same (λ shipment. shipment.units * mass (entered t edit) shipment.product) (λ shipment. shipment.units * mass t shipment.product) (shipments_in t year)
-      (each_map (λ shipment. not (is_affected t edit shipment.product) ≡ true) (λ shipment. shipment.units * mass (entered t edit) shipment.product ≡ shipment.units * mass t shipment.product)
+      ap (λ rows. sum_by (λ shipment. shipment.units * mass (with_edit_entered t edit) shipment.product) (filter (λ shipment. shipment.year == year) rows)) (same_shipments t edit none)
+      ∙ sum_same (λ shipment. shipment.units * mass (with_edit_entered t edit) shipment.product) (λ shipment. shipment.units * mass t shipment.product) (shipments_in t year)
+      (each_map (λ shipment. not (is_affected t edit shipment.product) ≡ true) (λ shipment. shipment.units * mass (with_edit_entered t edit) shipment.product ≡ shipment.units * mass t shipment.product)
       (λ shipment free. ap (λ n. shipment.units * n) (mass_stays t s edit passed shipment.product (not-true (is_affected t edit shipment.product) free))) (shipments_in t year)
       (each_from_all (λ shipment. not (is_affected t edit shipment.product)) (shipments_in t year) all))
 
   -- a year's mass is no greater where nothing is heavier and no more is shipped
-  year-le : (edit : Edit) → PassesRows t edit → may_raise_years edit ≡ false → (year : ℕ) → year_mass (entered t edit) year ≤ year_mass t year
+  year-le : (edit : Edit) → PassesRows t edit → may_raise_years edit ≡ false → (year : ℕ) → year_mass (with_edit_entered t edit) year ≤ year_mass t year
   year-le edit passed e year = by_sort edit passed e (changes_shipments edit) refl
     where
-      fewer : (edit : Edit) → PassesRows t edit → may_raise_masses edit ≡ false → changes_shipments edit ≡ false → year_mass (entered t edit) year ≤ year_mass t year
+      fewer : (edit : Edit) → PassesRows t edit → may_raise_masses edit ≡ false → changes_shipments edit ≡ false → year_mass (with_edit_entered t edit) year ≤ year_mass t year
       fewer edit passed e none =
-          let same = ap (λ rows. sum_by (λ shipment. shipment.units * mass (entered t edit) shipment.product) (filter (λ shipment. shipment.year == year) rows)) (same_shipments t edit none) in
+          let same = ap (λ rows. sum_by (λ shipment. shipment.units * mass (with_edit_entered t edit) shipment.product) (filter (λ shipment. shipment.year == year) rows)) (same_shipments t edit none) in
           let less =
-          sum_le (λ shipment. shipment.units * mass (entered t edit) shipment.product) (λ shipment. shipment.units * mass t shipment.product) (shipments_in t year)
-          (each (λ shipment. shipment.units * mass (entered t edit) shipment.product ≤ shipment.units * mass t shipment.product) (λ shipment. mul-le-mul_left shipment.units (mass-le t s edit passed e shipment.product)) (shipments_in t year)) in
+          sum_le (λ shipment. shipment.units * mass (with_edit_entered t edit) shipment.product) (λ shipment. shipment.units * mass t shipment.product) (shipments_in t year)
+          (each (λ shipment. shipment.units * mass (with_edit_entered t edit) shipment.product ≤ shipment.units * mass t shipment.product) (λ shipment. mul-le-mul_left shipment.units (mass-le t s edit passed e shipment.product)) (shipments_in t year)) in
           omega (arith, same, less)
 
-      by_sort : (edit : Edit) → PassesRows t edit → may_raise_years edit ≡ false → (ships : Bool) → changes_shipments edit ≡ ships → year_mass (entered t edit) year ≤ year_mass t year
+      by_sort : (edit : Edit) → PassesRows t edit → may_raise_years edit ≡ false → (ships : Bool) → changes_shipments edit ≡ ships → year_mass (with_edit_entered t edit) year ≤ year_mass t year
       by_sort (Substance ticket code name cas) passed e ships f = fewer (Substance ticket code name cas) passed refl refl
       by_sort (Member ticket substance rule factor) passed e ships f = fewer (Member ticket substance rule factor) passed refl refl
       by_sort (Declare declaration) passed e ships f = absurd (true≢false e)
@@ -204,11 +204,11 @@ module _ (t : Lists) (s : IsConsistent t) where
       (λ light. light)
       (none_or_some (λ y. nat_le (2 ^ 128) (year_mass t y) ≡ false) year t.shipments (none_first (λ row. row.year) (λ row. nat_le (2 ^ 128) (year_mass t row.year)) t.shipments fits))
 
-  -- a year's mass that no edit of its sort can raise breaks no rule
+  -- a year's mass that no edit of its sort can raise meets no refusal
   pub years_fit : too_heavy_year t ≡ None → (edit : Edit) → PassesRows t edit → may_raise_years edit ≡ false → year_too_large t edit ≡ None
   unfolding year_too_large too_heavy_year
   years_fit fits edit passed e =
       rw
-      (first_none (λ row. row.year) (λ row. nat_le (2 ^ 128) (year_mass (entered t edit) row.year)) (entered t edit).shipments
-      (each (λ row. nat_le (2 ^ 128) (year_mass (entered t edit) row.year) ≡ false) (λ row. below_bound (2 ^ 128) (year_mass (entered t edit) row.year) (year_mass t row.year) (year-le edit passed e row.year) (light_year fits row.year)) (entered t edit).shipments))
+      (first_none (λ row. row.year) (λ row. nat_le (2 ^ 128) (year_mass (with_edit_entered t edit) row.year)) (with_edit_entered t edit).shipments
+      (each (λ row. nat_le (2 ^ 128) (year_mass (with_edit_entered t edit) row.year) ≡ false) (λ row. below_bound (2 ^ 128) (year_mass (with_edit_entered t edit) row.year) (year_mass t row.year) (year-le edit passed e row.year) (light_year fits row.year)) (with_edit_entered t edit).shipments))
       refl

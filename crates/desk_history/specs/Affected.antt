@@ -7,7 +7,7 @@ use Rattle.desk_model.specs.declared.edit.Edit.TheVariants.{Member, Declare, Par
 use Rattle.desk_model.specs.declared.rows.material.MaterialRow.{MaterialRow}
 use Rattle.desk_findings.specs.Above.{is_candidate}
 use Rattle.desk_findings.specs.Articles.{is_article_sort}
-use Rattle.desk_model.specs.Effect.{entered}
+use Rattle.desk_model.specs.Effect.{with_edit_entered}
 use Rattle.desk_model.specs.Lists.{Lists, is_part, nodes_of}
 use Rattle.desk_findings.specs.Reaches.{lines_of, reaches}
 use Rattle.desk_history.specs.Step.{kept_number}
@@ -47,8 +47,8 @@ seeds t edit = if is_some (kept_number t edit) then [] else seeds_of_new t edit
 
 -- the code is a seed, or a part that reaches one in the tables after the edit
 unfoldable pub is_affected : Lists → Edit → List ℕ → Bool
-is_affected t edit code = list_any (λ seed. same_code code seed || reaches (entered t edit) code seed) (seeds t edit)
+is_affected t edit code = list_any (λ seed. same_code code seed || reaches (with_edit_entered t edit) code seed) (seeds t edit)
 
 -- the codes that an edit affects: the seeds, and each part that reaches one, each once
 abbrev pub affected : Lists → Edit → List (List ℕ)
-affected t edit = filter (is_affected t edit) (nodes_of (entered t edit))
+affected t edit = filter (is_affected t edit) (nodes_of (with_edit_entered t edit))

@@ -21,13 +21,13 @@ tables_after t (edit ∷ edits) = tables_after (step t edit).1 edits
 abbrev pub after : History → Lists
 after history = tables_after history.opening history.edits
 
--- the edit is in form and new at the tables, and no rule refuses it
+-- the edit is in form and new at the tables, and it meets no refusal
 pub record IsAccepted (t : Lists) (edit : Edit) : Type 0 where
   pub in_form : is_edit_in_form edit ≡ true
   pub is_new : kept_number t edit ≡ None
   pub is_unrefused : refused t edit ≡ None
 
--- the edit is in form and new at the tables, and none of the rules 1 to 20 refuses it: what may still refuse it are the sums
+-- the edit is in form and new at the tables, and it meets none of the refusals 1 to 20: what may still refuse it are the sums
 pub record PassesRows (t : Lists) (edit : Edit) : Type 0 where
   pub in_form : is_edit_in_form edit ≡ true
   pub is_new : kept_number t edit ≡ None

@@ -8,7 +8,7 @@ use Rattle.desk_model.specs.declared.edit.Edit.TheVariants.{Ship, Unship}
 use Rattle.desk_model.specs.declared.rows.material.MaterialRow.{MaterialRow}
 use Rattle.desk_model.specs.declared.rule_fault.RuleFault.{RuleFault}
 use Rattle.desk_model.specs.EditText.{ticket_code}
-use Rattle.desk_model.specs.Effect.{entered, next_number}
+use Rattle.desk_model.specs.Effect.{with_edit_entered, next_number}
 use Rattle.desk_model.specs.Forms.{is_edit_in_form}
 use Rattle.desk_model.specs.Lists.{IsOrdered, Lists, is_kept, material_row, number_at, ticket_row}
 use Rattle.desk_model.specs.Start.{start}
@@ -33,7 +33,7 @@ pub record OnlyNewEditsChange : Type 0 where
   pub refused : (t : Lists) (edit : Edit) (fault : RuleFault) → (step t edit).0 ≡ Err fault → (step t edit).1 ≡ t
   pub kept : (t : Lists) (edit : Edit) (number : ℕ) → kept_number t edit ≡ Some number → step t edit ≡ (Ok number, t)
 
--- an edit that isn't kept is refused by the first rule that it breaks, with that rule's values, and by nothing else
+-- an edit that isn't kept is refused by the first refusal that it meets, with that refusal's values, and by nothing else
 pub record RefusalsAreTold : Type 0 where
   pub told : (t : Lists) (edit : Edit) (fault : RuleFault) → kept_number t edit ≡ None → refused t edit ≡ Some fault → step t edit ≡ (Err fault, t)
   pub is_new : (t : Lists) (edit : Edit) (fault : RuleFault) → (step t edit).0 ≡ Err fault → kept_number t edit ≡ None
@@ -41,9 +41,9 @@ pub record RefusalsAreTold : Type 0 where
 
 -- an accepted edit gets the next number, is kept with it from then on, and adds one ticket
 pub record AcceptedEditsAreKept : Type 0 where
-  pub answer : (t : Lists) (edit : Edit) → IsAccepted t edit → step t edit ≡ (Ok (next_number t), entered t edit)
-  pub kept : (t : Lists) (edit : Edit) → kept_number (entered t edit) edit ≡ Some (next_number t)
-  pub one_ticket : (t : Lists) (edit : Edit) → IsAccepted t edit → number_at (entered t edit) ≡ number_at t + 1
+  pub answer : (t : Lists) (edit : Edit) → IsAccepted t edit → step t edit ≡ (Ok (next_number t), with_edit_entered t edit)
+  pub kept : (t : Lists) (edit : Edit) → kept_number (with_edit_entered t edit) edit ≡ Some (next_number t)
+  pub one_ticket : (t : Lists) (edit : Edit) → IsAccepted t edit → number_at (with_edit_entered t edit) ≡ number_at t + 1
   pub stays : (t : Lists) (kept other : Edit) (number : ℕ) → kept_number t kept ≡ Some number → kept_number (step t other).1 kept ≡ Some number
 
 -- each edit of a history is entered once: the tables that the edits before it leave have no ticket of its code, and those at the end keep
@@ -78,21 +78,21 @@ pub record BeginningsAreNumbered : Type 0 where
   pub longer : (part history : History) (n : ℕ) → IsHistory part → IsHistory history → Begins part history → number_at part.opening ≤ n → n ≤ number_of part
       → up_to history n ≡ up_to part n
 
--- the start tables hold together, and an edit that passes the rules 1 to 20 leaves tables that do: what is left to be seen is
+-- the start tables hold together, and an edit that passes the refusals 1 to 20 leaves tables that do: what is left to be seen is
 -- whether they keep their sums. An accepted edit passes these rules
 pub record TablesStayConsistent : Type 0 where
   pub start : IsConsistent start
-  pub passed : (t : Lists) (edit : Edit) → IsConsistent t → PassesRows t edit → IsConsistent (entered t edit)
-  pub limits : (t : Lists) (edit : Edit) → PassesRows t edit → KeepsLimits (entered t edit)
+  pub passed : (t : Lists) (edit : Edit) → IsConsistent t → PassesRows t edit → IsConsistent (with_edit_entered t edit)
+  pub limits : (t : Lists) (edit : Edit) → PassesRows t edit → KeepsLimits (with_edit_entered t edit)
   pub accepted : (t : Lists) (edit : Edit) → IsAccepted t edit → PassesRows t edit
 
--- an edit that passes the rules 1 to 20 is accepted exactly where the tables that it leaves keep their sums
+-- an edit that passes the refusals 1 to 20 is accepted exactly where the tables that it leaves keep their sums
 pub record SumsDecideTheRest : Type 0 where
-  pub kept : (t : Lists) (edit : Edit) → PassesRows t edit → KeepsSums (entered t edit) → IsAccepted t edit
-  pub accepted : (t : Lists) (edit : Edit) → IsAccepted t edit → KeepsSums (entered t edit)
+  pub kept : (t : Lists) (edit : Edit) → PassesRows t edit → KeepsSums (with_edit_entered t edit) → IsAccepted t edit
+  pub accepted : (t : Lists) (edit : Edit) → IsAccepted t edit → KeepsSums (with_edit_entered t edit)
 
--- at tables that keep their sums an edit that can't raise a sum breaks no rule on it: a line and a declaration may break each of the
--- rules 21 to 23; a member, a candidate and a line that is taken out rule 22 alone; a shipment rule 23 alone; any other edit none
+-- at tables that keep their sums an edit that can't raise a sum meets no refusal on it: a line and a declaration may meet each of the
+-- refusals 21 to 23; a member, a candidate and a line that is taken out refusal 22 alone; a shipment refusal 23 alone; any other edit none
 pub record OnlySomeSumsRise : Type 0 where
   pub masses : (t : Lists) → IsConsistent t → KeepsSums t → (edit : Edit) → PassesRows t edit → may_raise_masses edit ≡ false → total_too_large t edit ≡ None
   pub findings : (t : Lists) → IsConsistent t → KeepsSums t → (edit : Edit) → PassesRows t edit → may_add_findings edit ≡ false → findings_full t edit ≡ None
@@ -102,11 +102,11 @@ pub record OnlySomeSumsRise : Type 0 where
 -- any other edit leaves a year whose products it doesn't affect
 pub record YearsChangeByTheirOwn : Type 0 where
   pub shipped : (t : Lists) → IsConsistent t → (ticket product : List ℕ) (year units : ℕ) → PassesRows t (Ship ticket product year units) → (other : ℕ) →
-      year_mass (entered t (Ship ticket product year units)) other ≡ year_mass t other + (if year == other then units * mass t product else 0)
+      year_mass (with_edit_entered t (Ship ticket product year units)) other ≡ year_mass t other + (if year == other then units * mass t product else 0)
   pub taken_off : (t : Lists) → IsConsistent t → (ticket product : List ℕ) (year units : ℕ) → PassesRows t (Unship ticket product year units) → (other : ℕ) →
-      year_mass (entered t (Unship ticket product year units)) other + (if year == other then units * mass t product else 0) ≡ year_mass t other
+      year_mass (with_edit_entered t (Unship ticket product year units)) other + (if year == other then units * mass t product else 0) ≡ year_mass t other
   pub stays : (t : Lists) → IsConsistent t → (edit : Edit) → PassesRows t edit → changes_shipments edit ≡ false → (year : ℕ) →
-      list_all (λ shipment. not (is_affected t edit shipment.product)) (shipments_in t year) ≡ true → year_mass (entered t edit) year ≡ year_mass t year
+      list_all (λ shipment. not (is_affected t edit shipment.product)) (shipments_in t year) ≡ true → year_mass (with_edit_entered t edit) year ≡ year_mass t year
 
 -- the start tables are sound, a step keeps tables sound, and so a history leaves sound tables
 pub record TablesStaySound : Type 0 where
@@ -122,30 +122,30 @@ pub record UnsoundIsTold : Type 0 where
 -- a code that an edit doesn't affect weighs, reaches, carries and is found to have what it did, and by the same chains; so does what it
 -- has of its own; it is kept or not as it was, a part has its lines, and a material is the same, with the same share for each rule
 pub record Stays (t : Lists) (edit : Edit) (code : List ℕ) : Type 0 where
-  pub masses : mass (entered t edit) code ≡ mass t code
-  pub reached : (target : List ℕ) → reaches (entered t edit) code target ≡ reaches t code target
-  pub chains : (target : List ℕ) → chain (entered t edit) code target ≡ chain t code target
-  pub loads : (substance : List ℕ) → carried (entered t edit) substance code ≡ carried t substance code
-  pub found : findings (entered t edit) code ≡ findings t code
-  pub own_masses : own_mass (entered t edit) code ≡ own_mass t code
-  pub own_loads : (substance : List ℕ) → own_load (entered t edit) substance code ≡ own_load t substance code
-  pub own_found : own_findings (entered t edit) code ≡ own_findings t code
-  pub lines : lines_of (entered t edit).lines code ≡ lines_of t.lines code
-  pub material : material_row (entered t edit) code ≡ material_row t code
-  pub kept : is_kept (entered t edit) code ≡ is_kept t code
-  pub shares : (material : MaterialRow) → material_row t code ≡ Some material → (rule : Rule) → share (entered t edit) rule material ≡ share t rule material
+  pub masses : mass (with_edit_entered t edit) code ≡ mass t code
+  pub reached : (target : List ℕ) → reaches (with_edit_entered t edit) code target ≡ reaches t code target
+  pub chains : (target : List ℕ) → chain (with_edit_entered t edit) code target ≡ chain t code target
+  pub loads : (substance : List ℕ) → carried (with_edit_entered t edit) substance code ≡ carried t substance code
+  pub found : findings (with_edit_entered t edit) code ≡ findings t code
+  pub own_masses : own_mass (with_edit_entered t edit) code ≡ own_mass t code
+  pub own_loads : (substance : List ℕ) → own_load (with_edit_entered t edit) substance code ≡ own_load t substance code
+  pub own_found : own_findings (with_edit_entered t edit) code ≡ own_findings t code
+  pub lines : lines_of (with_edit_entered t edit).lines code ≡ lines_of t.lines code
+  pub material : material_row (with_edit_entered t edit) code ≡ material_row t code
+  pub kept : is_kept (with_edit_entered t edit) code ≡ is_kept t code
+  pub shares : (material : MaterialRow) → material_row t code ≡ Some material → (rule : Rule) → share (with_edit_entered t edit) rule material ≡ share t rule material
 
--- what an edit that passes the rules 1 to 20 doesn't affect stays as it was
+-- what an edit that passes the refusals 1 to 20 doesn't affect stays as it was
 abbrev pub OthersStay : Type 0
 OthersStay = (t : Lists) → IsConsistent t → (edit : Edit) → PassesRows t edit → (code : List ℕ) → is_affected t edit code ≡ false → Stays t edit code
 
 -- what reaches an affected code once the edit is entered is affected
 abbrev pub AffectedRise : Type 0
-AffectedRise = (t : Lists) (edit : Edit) → IsConsistent (entered t edit) → (code target : List ℕ) →
-    reaches (entered t edit) code target ≡ true → is_affected t edit target ≡ true → is_affected t edit code ≡ true
+AffectedRise = (t : Lists) (edit : Edit) → IsConsistent (with_edit_entered t edit) → (code target : List ℕ) →
+    reaches (with_edit_entered t edit) code target ≡ true → is_affected t edit target ≡ true → is_affected t edit code ≡ true
 
--- each kept material and part that an edit affects, where it passes the rules 1 to 20, is listed once, and nothing else
+-- each kept material and part that an edit affects, where it passes the refusals 1 to 20, is listed once, and nothing else
 -- is
 abbrev pub AffectedAreListed : Type 0
 AffectedAreListed = (t : Lists) → IsConsistent t → (edit : Edit) → PassesRows t edit → (code : List ℕ) →
-    count_by (λ listed. same_code listed code) (affected t edit) ≡ (if is_affected t edit code && is_kept (entered t edit) code then 1 else 0)
+    count_by (λ listed. same_code listed code) (affected t edit) ≡ (if is_affected t edit code && is_kept (with_edit_entered t edit) code then 1 else 0)

@@ -20,7 +20,7 @@ use Rattle.desk_findings.specs.Chain.{chain}
 use Rattle.desk_model.specs.Content.{holds_too_much}
 use Rattle.desk_model.specs.Declaration.{Declared}
 use Rattle.desk_model.specs.EditText.{edit_text, same_text, ticket_code}
-use Rattle.desk_model.specs.Effect.{entered, units_of}
+use Rattle.desk_model.specs.Effect.{with_edit_entered, units_of}
 use Rattle.desk_model.specs.Lists.{Lists, exemption_row, is_kept, is_line, is_material, is_part, is_product, is_substance, material_row, part_row, ticket_row}
 use Rattle.desk_findings.specs.Reaches.{is_or_reaches}
 use Rattle.desk_model.specs.Terms.{breaks_annex, breaks_span}
@@ -154,11 +154,11 @@ units_too_large t _ = None
 
 -- 18: a table would exceed its limit, the first of the ten, or else one parent's lines
 unfoldable pub table_full : Lists → Edit → Option RuleFault
-table_full t edit = option_map TableFull (first_of (tables_over (entered t edit)))
+table_full t edit = option_map TableFull (first_of (tables_over (with_edit_entered t edit)))
 
 -- 19: the kept edit texts would exceed their limit
 unfoldable pub text_full : Lists → Edit → Option RuleFault
-text_full t edit = refuse_if (has_too_much_text (entered t edit)) TextFull
+text_full t edit = refuse_if (has_too_much_text (with_edit_entered t edit)) TextFull
 
 -- 20: the child of the line is its parent or reaches it; the chain goes from the child to the parent
 unfoldable pub closes_cycle : Lists → Edit → Option RuleFault
@@ -167,19 +167,19 @@ closes_cycle t _ = None
 
 -- 21: some part's mass after the edit is 2^128 or more; the part with the least code
 unfoldable pub total_too_large : Lists → Edit → Option RuleFault
-total_too_large t edit = option_map TotalTooLarge (too_heavy_part (entered t edit))
+total_too_large t edit = option_map TotalTooLarge (too_heavy_part (with_edit_entered t edit))
 
 -- 22: all parts together would have more findings than the desk keeps
 unfoldable pub findings_full : Lists → Edit → Option RuleFault
-findings_full t edit = refuse_if (has_too_many_findings (entered t edit)) FindingsFull
+findings_full t edit = refuse_if (has_too_many_findings (with_edit_entered t edit)) FindingsFull
 
 -- 23: the sum over a year's shipments of units times mass would be 2^128 or more; the least year
 unfoldable pub year_too_large : Lists → Edit → Option RuleFault
-year_too_large t edit = option_map YearTooLarge (too_heavy_year (entered t edit))
+year_too_large t edit = option_map YearTooLarge (too_heavy_year (with_edit_entered t edit))
 
--- what the rules 2 to 10 say of the edit, in order: its names decide them
-abbrev pub rules_of_names : Lists → Edit → List (Option RuleFault)
-rules_of_names t edit =
+-- what the refusals 2 to 10 say of the edit, in order: its names decide them
+abbrev pub refusals_of_names : Lists → Edit → List (Option RuleFault)
+refusals_of_names t edit =
     unknown_substance t edit
     ∷ unknown_material t edit
     ∷ unknown_part t edit
@@ -191,9 +191,9 @@ rules_of_names t edit =
     ∷ no_such_line t edit
     ∷ []
 
--- what the rules 11 to 17 say of the edit, in order: its values decide them
-abbrev pub rules_of_values : Lists → Edit → List (Option RuleFault)
-rules_of_values t edit =
+-- what the refusals 11 to 17 say of the edit, in order: its values decide them
+abbrev pub refusals_of_values : Lists → Edit → List (Option RuleFault)
+refusals_of_values t edit =
     foreign_material t edit
     ∷ stale_declaration t edit
     ∷ masses_exceed t edit
@@ -203,26 +203,26 @@ rules_of_values t edit =
     ∷ units_too_large t edit
     ∷ []
 
--- what the rules 18 and 19 say of the edit, in order: the lengths of the tables that it leaves decide them
-abbrev pub rules_of_limits : Lists → Edit → List (Option RuleFault)
-rules_of_limits t edit = table_full t edit ∷ text_full t edit ∷ []
+-- what the refusals 18 and 19 say of the edit, in order: the lengths of the tables that it leaves decide them
+abbrev pub refusals_of_limits : Lists → Edit → List (Option RuleFault)
+refusals_of_limits t edit = table_full t edit ∷ text_full t edit ∷ []
 
--- what the rules 1 to 19 say of the edit, in order: look-ups and lengths decide them
-abbrev pub rules_of_rows : Lists → Edit → List (Option RuleFault)
-rules_of_rows t edit = ticket_reused t edit ∷ (rules_of_names t edit ++ (rules_of_values t edit ++ rules_of_limits t edit))
+-- what the refusals 1 to 19 say of the edit, in order: look-ups and lengths decide them
+abbrev pub refusals_of_rows : Lists → Edit → List (Option RuleFault)
+refusals_of_rows t edit = ticket_reused t edit ∷ (refusals_of_names t edit ++ (refusals_of_values t edit ++ refusals_of_limits t edit))
 
--- what the rules 20 to 23 say of the edit, in order: the bill of materials decides them
-abbrev pub rules_of_bill : Lists → Edit → List (Option RuleFault)
-rules_of_bill t edit = closes_cycle t edit ∷ total_too_large t edit ∷ findings_full t edit ∷ year_too_large t edit ∷ []
+-- what the refusals 20 to 23 say of the edit, in order: the bill of materials decides them
+abbrev pub refusals_of_bill : Lists → Edit → List (Option RuleFault)
+refusals_of_bill t edit = closes_cycle t edit ∷ total_too_large t edit ∷ findings_full t edit ∷ year_too_large t edit ∷ []
 
--- the first of the rules 1 to 19 that the edit breaks
+-- the first of the refusals 1 to 19 that the edit meets
 unfoldable pub refused_by_rows : Lists → Edit → Option RuleFault
-refused_by_rows t edit = first_some (rules_of_rows t edit)
+refused_by_rows t edit = first_some (refusals_of_rows t edit)
 
--- the first of the rules 20 to 23 that the edit breaks
+-- the first of the refusals 20 to 23 that the edit meets
 unfoldable pub refused_by_bill : Lists → Edit → Option RuleFault
-refused_by_bill t edit = first_some (rules_of_bill t edit)
+refused_by_bill t edit = first_some (refusals_of_bill t edit)
 
--- the first rule that the edit breaks, with its values
+-- the first refusal that the edit meets, with its values
 unfoldable pub refused : Lists → Edit → Option RuleFault
-refused t edit = first_some (rules_of_rows t edit ++ rules_of_bill t edit)
+refused t edit = first_some (refusals_of_rows t edit ++ refusals_of_bill t edit)

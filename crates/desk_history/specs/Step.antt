@@ -4,7 +4,7 @@ use Rattle.std.specs.Option.{option_and_then}
 use Rattle.desk_model.specs.declared.edit.Edit.{Edit}
 use Rattle.desk_model.specs.declared.rule_fault.RuleFault.{RuleFault}
 use Rattle.desk_model.specs.EditText.{edit_text, same_text, ticket_code}
-use Rattle.desk_model.specs.Effect.{entered, next_number}
+use Rattle.desk_model.specs.Effect.{with_edit_entered, next_number}
 use Rattle.desk_model.specs.Lists.{Lists, ticket_row}
 use Rattle.desk_history.specs.Refused.{refused}
 
@@ -16,7 +16,7 @@ kept_number t edit =
 -- an edit that isn't kept: a rule refuses it and the tables stay, or it is made and gets the next number
 abbrev pub step_new : Lists → Edit → Option RuleFault → Result ℕ RuleFault × Lists
 step_new t edit (Some fault) = (Err fault, t)
-step_new t edit None = (Ok (next_number t), entered t edit)
+step_new t edit None = (Ok (next_number t), with_edit_entered t edit)
 
 -- an edit that is kept already gets its number, and the tables stay
 abbrev pub step_from : Lists → Edit → Option ℕ → Result ℕ RuleFault × Lists

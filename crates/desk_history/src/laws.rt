@@ -7,7 +7,7 @@ pub fn only_new_edits_change()
     ensures { OnlyNewEditsChange }
 {}
 
-/// An edit that isn't kept is refused by the first rule that it breaks, with that rule's values, and by nothing else.
+/// An edit that isn't kept is refused by the first refusal that it meets, with that refusal's values, and by nothing else.
 pub fn refusals_are_told()
     ensures { RefusalsAreTold }
 {}
@@ -37,12 +37,12 @@ pub fn beginnings_are_numbered()
     ensures { BeginningsAreNumbered }
 {}
 
-/// The start tables hold together, and an edit that passes the rules 1 to 20 leaves tables that do, and that keep their limits.
+/// The start tables hold together, and an edit that passes the refusals 1 to 20 leaves tables that do, and that keep their limits.
 pub fn tables_stay_consistent()
     ensures { TablesStayConsistent }
 {}
 
-/// An edit that passes the rules 1 to 20 is accepted exactly where the tables that it leaves keep their sums.
+/// An edit that passes the refusals 1 to 20 is accepted exactly where the tables that it leaves keep their sums.
 pub fn sums_decide_the_rest()
     ensures { SumsDecideTheRest }
 {}
@@ -52,7 +52,7 @@ pub fn unsound_is_told()
     ensures { UnsoundIsTold }
 {}
 
-/// At tables that keep their sums an edit that can't raise a sum, by its sort, breaks no rule on it.
+/// At tables that keep their sums an edit that can't raise a sum, by its sort, meets no refusal on it.
 pub fn only_some_sums_rise()
     ensures { OnlySomeSumsRise }
 {}
@@ -68,7 +68,7 @@ pub fn tables_stay_sound()
     ensures { TablesStaySound }
 {}
 
-/// A material or part that an edit, once it passes the rules 1 to 20, doesn't affect weighs, reaches, carries and is found to have what it did, by
+/// A material or part that an edit, once it passes the refusals 1 to 20, doesn't affect weighs, reaches, carries and is found to have what it did, by
 /// the same chains, and so does what it has of its own; a part has its lines, and a material is the same, with the same share for each rule.
 pub fn others_stay()
     ensures { OthersStay }

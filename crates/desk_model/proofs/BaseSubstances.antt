@@ -1,17 +1,22 @@
--- The base substances are those that have a rule's code.
-use Rattle.std.proofs.Common.{◌≡◌, ℕ, Bool, true, false, cond, ◌||◌, List, [], ◌∷◌, find, map, Some, is_some, refl, sym, ◌∙◌, inl, inr}
+-- The base substances are those that have a rule's code, and their names and CAS numbers are in form.
+use Rattle.std.proofs.Common.{◌≡◌, ℕ, Bool, true, false, cond, ◌||◌, List, [], ◌∷◌, find, map, Some, is_some, refl, sym, ap, ◌∙◌, inl, inr}
 use Rattle.std.specs.List.{list_any}
 use Rattle.std.specs.Str.{bytes_eq}
 use Rattle.std.proofs.lemmas.Bool.{both_ways, cases_Bool, false_from_ne_true}
 use Rattle.std.proofs.lemmas.Map.Text.{is_eq-slice_cmp}
+use Rattle.desk_text.specs.Cas.{cas_of}
 use Rattle.desk_text.specs.Code.{code_cmp, same_code}
 use Rattle.desk_law.specs.declared.rule.Rule.{Rule}
 use Rattle.desk_law.specs.declared.rule.Rule.TheVariants.{Lead, Mercury, Cadmium, ChromiumVi, Pbb, Pbde, Dehp, Bbp, Dbp, Dibp}
-use Rattle.desk_law.specs.Rule.{all_rules, rule_code, rule_number, rule_of}
+use Rattle.desk_law.specs.Rule.{base_rules, rule_code, rule_number, rule_of, same_rule}
+use Rattle.desk_law.proofs.Rules.{each_rule, same_rule-true, some_rule}
 use Rattle.desk_rows.specs.Rows.{row_of}
+use Rattle.desk_model.specs.Forms.{is_optional_cas}
 use Rattle.desk_model.specs.Lists.{is_substance, member_row, substance_row}
-use Rattle.desk_model.specs.Start.{base_member, base_substance, rules_by_code, start}
-use Rattle.desk_model.proofs.Elements.{any_gives, any_of_all, any_same, each}
+use Rattle.desk_model.specs.Start.{base_cas, base_member, base_name, base_substance, rules_by_code, start}
+use Rattle.desk_model.specs.Values.{is_name}
+use Rattle.desk_model.proofs.Elements.{any_gives, any_of_all, any_same, each, each_map}
+use Rattle.desk_model.proofs.Names.{name_from}
 
 found_any : {X : Type 0} (p : X → Bool) (xs : List X) → is_some (find p xs) ≡ list_any p xs
 found_any p [] = refl
@@ -26,37 +31,22 @@ kept_any code (rule ∷ rules) =
     ]
 
 module _ (test : Rule → Bool) where
-  in_order : (rule : Rule) → test rule ≡ true → list_any test all_rules ≡ true
-  in_order Lead = (any_of_all all_rules).0 test
-  in_order Mercury = (any_of_all all_rules).1.0 test
-  in_order Cadmium = (any_of_all all_rules).1.1.0 test
-  in_order ChromiumVi = (any_of_all all_rules).1.1.1.0 test
-  in_order Pbb = (any_of_all all_rules).1.1.1.1.0 test
-  in_order Pbde = (any_of_all all_rules).1.1.1.1.1.0 test
-  in_order Dehp = (any_of_all all_rules).1.1.1.1.1.1.0 test
-  in_order Bbp = (any_of_all all_rules).1.1.1.1.1.1.1.0 test
-  in_order Dbp = (any_of_all all_rules).1.1.1.1.1.1.1.1.0 test
-  in_order Dibp = (any_of_all all_rules).1.1.1.1.1.1.1.1.1.0 test
-
+  -- a rule that passes stands among the base rules in order of their codes
   in_codes : (rule : Rule) → test rule ≡ true → list_any test rules_by_code ≡ true
-  in_codes Bbp = (any_of_all rules_by_code).0 test
-  in_codes Cadmium = (any_of_all rules_by_code).1.0 test
-  in_codes ChromiumVi = (any_of_all rules_by_code).1.1.0 test
-  in_codes Dbp = (any_of_all rules_by_code).1.1.1.0 test
-  in_codes Dehp = (any_of_all rules_by_code).1.1.1.1.0 test
-  in_codes Dibp = (any_of_all rules_by_code).1.1.1.1.1.0 test
-  in_codes Lead = (any_of_all rules_by_code).1.1.1.1.1.1.0 test
-  in_codes Mercury = (any_of_all rules_by_code).1.1.1.1.1.1.1.0 test
-  in_codes Pbb = (any_of_all rules_by_code).1.1.1.1.1.1.1.1.0 test
-  in_codes Pbde = (any_of_all rules_by_code).1.1.1.1.1.1.1.1.1.0 test
+  unfolding rule_number
+  in_codes rule e =
+      any_gives (same_rule rule) rules_by_code
+      (each_map (λ listed. (p : Rule → Bool) → p listed ≡ true → list_any p rules_by_code ≡ true) (λ listed. same_rule rule listed ≡ true → list_any test rules_by_code ≡ true)
+      (λ listed gives same. gives test (ap test (sym (same_rule-true rule listed same)) ∙ e)) rules_by_code (any_of_all rules_by_code))
+      (each_rule (λ r. list_any (same_rule r) rules_by_code) refl rule)
 
-  same_rules : list_any test rules_by_code ≡ list_any test all_rules
+  same_rules : list_any test rules_by_code ≡ list_any test base_rules
   same_rules =
-      elim (cases_Bool (list_any test all_rules)) [
-        | inl some ↦ any_gives test all_rules (each (λ rule. test rule ≡ true → list_any test rules_by_code ≡ true) in_codes all_rules) some ∙ sym some
+      elim (cases_Bool (list_any test base_rules)) [
+        | inl some ↦ any_gives test base_rules (each (λ rule. test rule ≡ true → list_any test rules_by_code ≡ true) in_codes base_rules) some ∙ sym some
         | inr none ↦
             false_from_ne_true (list_any test rules_by_code)
-            (λ some. both_ways (list_any test all_rules) none (any_gives test rules_by_code (each (λ rule. test rule ≡ true → list_any test all_rules ≡ true) in_order rules_by_code) some))
+            (λ some. both_ways (list_any test base_rules) none (any_gives test rules_by_code (each (λ rule. test rule ≡ true → list_any test base_rules ≡ true) (some_rule test) rules_by_code) some))
             ∙ sym none
       ]
 
@@ -65,9 +55,9 @@ unfolding start rule_of
 base_codes code =
     kept_any code rules_by_code
     ∙ same_rules (λ rule. same_code (rule_code rule) code)
-    ∙ any_same (λ rule. same_code (rule_code rule) code) (λ rule. bytes_eq (rule_code rule) code) all_rules
-    (each (λ rule. same_code (rule_code rule) code ≡ bytes_eq (rule_code rule) code) (λ rule. is_eq-slice_cmp (rule_code rule) code) all_rules)
-    ∙ sym (found_any (λ rule. bytes_eq (rule_code rule) code) all_rules)
+    ∙ any_same (λ rule. same_code (rule_code rule) code) (λ rule. bytes_eq (rule_code rule) code) base_rules
+    (each (λ rule. same_code (rule_code rule) code ≡ bytes_eq (rule_code rule) code) (λ rule. is_eq-slice_cmp (rule_code rule) code) base_rules)
+    ∙ sym (found_any (λ rule. bytes_eq (rule_code rule) code) base_rules)
 
 pub base_rows : (rule : Rule) → substance_row start (rule_code rule) ≡ Some (base_substance rule)
 unfolding start rule_code
@@ -94,3 +84,21 @@ base_members Dehp = refl
 base_members Bbp = refl
 base_members Dbp = refl
 base_members Dibp = refl
+
+-- the names of the base substances are names
+pub base_named : (rule : Rule) → is_name (base_name rule) ≡ true
+base_named Lead = name_from (base_name Lead) refl refl refl refl
+base_named Mercury = name_from (base_name Mercury) refl refl refl refl
+base_named Cadmium = name_from (base_name Cadmium) refl refl refl refl
+base_named ChromiumVi = name_from (base_name ChromiumVi) refl refl refl refl
+base_named Pbb = name_from (base_name Pbb) refl refl refl refl
+base_named Pbde = name_from (base_name Pbde) refl refl refl refl
+base_named Dehp = name_from (base_name Dehp) refl refl refl refl
+base_named Bbp = name_from (base_name Bbp) refl refl refl refl
+base_named Dbp = name_from (base_name Dbp) refl refl refl refl
+base_named Dibp = name_from (base_name Dibp) refl refl refl refl
+
+-- and their CAS numbers are CAS numbers
+pub base_numbered : (rule : Rule) → is_optional_cas (base_cas rule) ≡ true
+unfolding cas_of
+base_numbered = each_rule (λ rule. is_optional_cas (base_cas rule)) refl

@@ -10,7 +10,7 @@ use Rattle.desk_law.specs.Kind.{kind_code, kind_place}
 use Rattle.desk_law.specs.KindSet.{has_kind, kinds_text}
 use Rattle.desk_law.specs.Rule.{rule_code, rule_number}
 use Rattle.desk_model.specs.EditText.{edit_text, ticket_code}
-use Rattle.desk_model.specs.Effect.{entered, made}
+use Rattle.desk_model.specs.Effect.{with_edit_entered, with_edit_made}
 use Rattle.desk_model.specs.Forms.{is_declaration_in_form, is_edit_in_form, is_exemption_row, is_material_row}
 use Rattle.desk_model.specs.Start.{start}
 use Rattle.desk_model.specs.Forms.{is_name}
@@ -28,7 +28,7 @@ is_unnamed = refl
 
 -- what the examples compute with
 unfoldable pub examples : Bool
-unfolding annex_kinds annex_number cas_of code_of date_text digits edit_text entered exemption_number_of has_kind is_declaration_in_form is_edit_in_form is_exemption_row is_material_row kind_code kind_place kinds_text made rule_code rule_number start ticket_code
+unfolding annex_kinds annex_number cas_of code_of date_text digits edit_text with_edit_entered exemption_number_of has_kind is_declaration_in_form is_edit_in_form is_exemption_row is_material_row kind_code kind_place kinds_text with_edit_made rule_code rule_number start ticket_code
 examples = true
 
 pub entry_examples : EntryExamples

@@ -9,9 +9,11 @@ pub mod Examples
 pub mod Forms
 pub mod Laws
 pub mod Lists
+pub mod PutRows
 pub mod Refusals
 pub mod Rows
 pub mod Start
+pub mod Tables
 pub mod Terms
 pub mod TextLaws
 pub mod Values

@@ -4,19 +4,11 @@ use Rattle.desk_law.specs.Rule.{rule_code}
 use Rattle.desk_model.specs.declared.row.Row.{Row}
 use Rattle.desk_model.specs.declared.row.Row.TheVariants.{Substance, Member, Material, Part, Line, Product, Exemption, Candidate, Shipment, Ticket}
 use Rattle.desk_model.specs.Lists.{Lists}
+use Rattle.desk_model.specs.Tables.{number_of_table, table_of}
 
 -- the number of a row's table
 unfoldable pub table_number : Row → ℕ
-table_number (Substance row) = 1
-table_number (Member row) = 2
-table_number (Material row) = 3
-table_number (Part row) = 4
-table_number (Line row) = 5
-table_number (Product row) = 6
-table_number (Exemption row) = 7
-table_number (Candidate row) = 8
-table_number (Shipment row) = 9
-table_number (Ticket row) = 10
+table_number row = number_of_table (table_of row)
 
 -- two parts of a key as one code
 abbrev pub pair_code : List ℕ → List ℕ → List ℕ

@@ -8,7 +8,7 @@ use Rattle.desk_model.specs.declared.rows.substance.SubstanceRow.{SubstanceRow}
 use Rattle.desk_model.specs.declared.rows.member.MemberRow.{MemberRow}
 use Rattle.desk_model.specs.Lists.{Lists}
 
--- the rules in order of their codes
+-- the rules of which a desk knows the substance from the start, in order of their codes
 abbrev pub rules_by_code : List Rule
 rules_by_code = Bbp ∷ Cadmium ∷ ChromiumVi ∷ Dbp ∷ Dehp ∷ Dibp ∷ Lead ∷ Mercury ∷ Pbb ∷ Pbde ∷ []
 

@@ -20,6 +20,7 @@ mod rows;
 mod rule_fault;
 mod spaced;
 mod substance_mass;
+mod table_name;
 pub mod text_laws;
 mod within;
 
@@ -40,4 +41,5 @@ pub use rows::{
 pub use rule_fault::RuleFault;
 pub use spaced::Spaced;
 pub use substance_mass::SubstanceMass;
+pub use table_name::TableName;
 pub use within::{Count, Factor, Units, Within, Year, count_of, factor_of, units_of, year_of};

@@ -13,7 +13,7 @@ use Rattle.desk_law.specs.Rule.{rule_code, rule_number, rule_of}
 use Rattle.desk_law.proofs.Codes.{rule_of-rule_code}
 use Rattle.desk_model.specs.Lists.{line_key_cmp, member_key_cmp, shipment_key_cmp}
 use Rattle.desk_model.specs.Rows.{pair_code}
-use Rattle.desk_findings.proofs.FindingsOnce.{same_rule-true}
+use Rattle.desk_law.proofs.Rules.{same_rule-true}
 use Rattle.desk_model.proofs.Kept.{line_key_cmp_total, member_key_cmp_total, same_code-from, same_code-true, shipment_key_cmp_total}
 use Rattle.desk_records.proofs.Moves.{is_equal}
 

@@ -11,7 +11,7 @@ use Rattle.desk_model.specs.Rows.{rows_of}
 use Rattle.desk_model.proofs.Elements.{each_in_map, each_of_map, each_split}
 use Rattle.desk_fields.specs.RowTexts.{IsRowInForm}
 use Rattle.desk_history.specs.Sound.{Sound}
-use Rattle.desk_tables.specs.Gathered.{gathered}
+use Rattle.desk_tables.specs.Gathered.{tables_of_rows}
 use Rattle.desk_records.specs.Damage.{AreTablesOf}
 use Rattle.desk_records.specs.Records.{content_in, tables_content}
 use Rattle.desk_records.proofs.InForm.{all_in_form}
@@ -72,7 +72,7 @@ all_rows t forms =
 
 -- the rows of the tables are in form
 pub gathered_rows : (records : List Record) (lists : Lists) → AreTablesOf records lists → AllByRecursion IsRowInForm (rows_of lists)
-gathered_rows records lists are = subst (λ t. AllByRecursion IsRowInForm (rows_of t)) (sym are.are_gathered) (all_rows (gathered are.rows) (gathered_form are.rows are.forms))
+gathered_rows records lists are = subst (λ t. AllByRecursion IsRowInForm (rows_of t)) (sym are.are_gathered) (all_rows (tables_of_rows are.rows) (gathered_form are.rows are.forms))
 
 -- the tables keep these records and no others
 pub gathered_same : (records : List Record) (lists : Lists) → IsByKey key_of key_cmp records → AreTablesOf records lists → IsSame (content_in records) (tables_content lists)

@@ -11,7 +11,8 @@ use Rattle.desk_fields.specs.RowTexts.{HasVersion, IsRowInForm}
 use Rattle.desk_fields.proofs.RowLaws.{has_version}
 use Rattle.desk_model.specs.Lists.{Lists}
 use Rattle.desk_model.specs.declared.row.Row.{Row}
-use Rattle.desk_tables.specs.Gathered.{no_rows, put_in}
+use Rattle.desk_model.specs.PutRows.{put_in}
+use Rattle.desk_tables.specs.Gathered.{no_rows}
 use Rattle.desk_tables.proofs.Gathers.{gathered_last}
 use Rattle.desk_tables.specs.declared.sound_fault.SoundFault.{SoundFault}
 use Rattle.desk_tables.specs.declared.sound_fault.SoundFault.TheVariants as sound_fault

@@ -40,9 +40,9 @@ use Rattle.desk_history.specs.Sound.{Sound}
 use Rattle.desk_history.specs.Step.{step}
 use Rattle.desk_history.proofs.SoundClauses.{FormsKept, forms_of}
 use Rattle.desk_history.proofs.SoundSteps.{Sound-step}
-use Rattle.desk_tables.specs.Change.{changed}
+use Rattle.desk_tables.specs.Change.{with_change_made}
 use Rattle.desk_tables.specs.Desk.{Desk}
-use Rattle.desk_tables.specs.Plan.{IsPlan, entered_by, planned}
+use Rattle.desk_tables.specs.Plan.{IsPlan, with_change_entered, tables_planned}
 use Rattle.desk_tables.specs.declared.plan.TablesPlan.TheVariants as plan
 use Rattle.desk_tables.specs.declared.row_change.RowChange.{RowChange}
 use Rattle.desk_tables.specs.declared.row_change.RowChange.TheVariants as change
@@ -221,8 +221,8 @@ module _ (t : Lists) (ticket : TicketRow) (ordered : IsOrdered t) (forms : Forms
   shipments : AllByRecursion (λ r. is_shipment_row r ≡ true) t.shipments
   shipments = each_from_all is_shipment_row t.shipments forms.shipments
 
-  rows_move : (change : RowChange) → FormsKept (entered_by t change ticket) → AreDropsInForm change → (k : Key) → tables_content (changed t change) k ≡ body_after_all (row_changes change) k (tables_content t k)
-  unfolding changed row_changes AreDropsInForm
+  rows_move : (change : RowChange) → FormsKept (with_change_entered t change ticket) → AreDropsInForm change → (k : Key) → tables_content (with_change_made t change) k ≡ body_after_all (row_changes change) k (tables_content t k)
+  unfolding with_change_made row_changes AreDropsInForm
   rows_move (change.PutSubstance row room) new drops k = put_substances t row k
   rows_move (change.PutMember row room) new drops k =
       put_members t row k members
@@ -242,8 +242,8 @@ module _ (t : Lists) (ticket : TicketRow) (ordered : IsOrdered t) (forms : Forms
       (of_new shipment_key shipment_key_cmp (λ r. is_shipment_row r ≡ true) row t.shipments (each_from_all is_shipment_row (with_row shipment_key shipment_key_cmp row t.shipments) new.shipments))
   rows_move (change.DropShipment year product) new drops k = drop_shipments t year product k shipments ordered drops
 
-same_tickets : (t : Lists) (change : RowChange) → (changed t change).tickets ≡ t.tickets
-unfolding changed
+same_tickets : (t : Lists) (change : RowChange) → (with_change_made t change).tickets ≡ t.tickets
+unfolding with_change_made
 same_tickets t (change.PutSubstance row room) = refl
 same_tickets t (change.PutMember row room) = refl
 same_tickets t (change.DropMember substance rule) = refl
@@ -258,22 +258,22 @@ same_tickets t (change.PutCandidate row room) = refl
 same_tickets t (change.PutShipment row room) = refl
 same_tickets t (change.DropShipment year product) = refl
 
-enters : (t : Lists) (change : RowChange) (ticket : TicketRow) → Sound t → Sound (entered_by t change ticket) → AreDropsInForm change → (k : Key)
-    → tables_content (entered_by t change ticket) k ≡ body_after_all (row_changes change ++ Put (record_of (Ticket ticket)) ∷ []) k (tables_content t k)
+enters : (t : Lists) (change : RowChange) (ticket : TicketRow) → Sound t → Sound (with_change_entered t change ticket) → AreDropsInForm change → (k : Key)
+    → tables_content (with_change_entered t change ticket) k ≡ body_after_all (row_changes change ++ Put (record_of (Ticket ticket)) ∷ []) k (tables_content t k)
 enters t change ticket old new drops k =
-    ap (λ tickets. tables_content (record (changed t change) { tickets = with_row (λ row. row.code) code_cmp ticket tickets }) k) (sym (same_tickets t change))
-    ∙ put_tickets (changed t change) ticket k
+    ap (λ tickets. tables_content (record (with_change_made t change) { tickets = with_row (λ row. row.code) code_cmp ticket tickets }) k) (sym (same_tickets t change))
+    ∙ put_tickets (with_change_made t change) ticket k
     ∙ ap (changed_at (Put (record_of (Ticket ticket))) k)
-    (rows_move t ticket old.consistent.ordered (forms_of t old.consistent.in_form) change (forms_of (entered_by t change ticket) new.consistent.in_form) drops k)
+    (rows_move t ticket old.consistent.ordered (forms_of t old.consistent.in_form) change (forms_of (with_change_entered t change ticket) new.consistent.in_form) drops k)
     ∙ sym (all_appended (row_changes change) (Put (record_of (Ticket ticket)) ∷ []) k (tables_content t k))
 
 pub kept_moves : (desk : Desk) (edit : Edit) (number : ℕ) → IsPlan desk edit (plan.Kept number) → IsChanged [] (tables_content desk.lists) (tables_content (step desk.lists edit).1)
-unfolding planned
+unfolding tables_planned
 kept_moves desk edit number is = λ k. ap (λ done. tables_content done.1 k) is.0
 
 pub new_moves : (desk : Desk) (edit : Edit) (change : RowChange) (ticket : TicketRow) (room : Option ℕ) → Sound desk.lists → is_edit_in_form edit ≡ true → IsPlan desk edit (plan.New change ticket room) → AreDropsInForm change
     → IsChanged (row_changes change ++ Put (record_of (Ticket ticket)) ∷ []) (tables_content desk.lists) (tables_content (step desk.lists edit).1)
-unfolding planned
+unfolding tables_planned
 new_moves desk edit change ticket room sound form is drops =
     let new = subst (λ done. Sound done.1) is.0 (Sound-step desk.lists edit sound form) in
     λ k. ap (λ done. tables_content done.1 k) is.0 ∙ enters desk.lists change ticket sound new drops k

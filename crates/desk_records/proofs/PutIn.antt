@@ -17,7 +17,8 @@ use Rattle.desk_model.specs.declared.row.Row.TheVariants.{Substance, Member, Mat
 use Rattle.desk_model.specs.Lists.{Lists, line_key, line_key_cmp, member_key, member_key_cmp, shipment_key, shipment_key_cmp}
 use Rattle.desk_model.specs.Rows.{rows_of}
 use Rattle.desk_fields.specs.RowTexts.{IsRowInForm}
-use Rattle.desk_tables.specs.Gathered.{gathered, no_rows, put_in, with_all}
+use Rattle.desk_model.specs.PutRows.{put_in}
+use Rattle.desk_tables.specs.Gathered.{tables_of_rows, no_rows, with_all}
 use Rattle.desk_records.specs.Records.{content_in, record_of, tables_content}
 use Rattle.desk_records.proofs.Distinct.{Apart}
 use Rattle.desk_records.proofs.Moves.{AllNot, same_left}
@@ -239,12 +240,12 @@ nothing k = refl
 
 -- the tables of rows in form that have these records keep them and no others
 pub gathered_content : (records : List Record) (rows : List Row) → IsByKey key_of key_cmp records → records ≡ map record_of rows → AllByRecursion IsRowInForm rows
-    → IsSame (content_in records) (tables_content (gathered rows))
+    → IsSame (content_in records) (tables_content (tables_of_rows rows))
 gathered_content records rows by_key is forms k =
     all_move rows no_rows k forms none_in_form
     ∙ ap (body_after_all (map (λ kept. Put kept) (map record_of rows)) k) (nothing k)
     ∙ ap (λ records. body_after_all (map (λ kept. Put kept) records) k None) (sym is)
     ∙ puts records k (apart_by_key records by_key)
 
-pub gathered_form : (rows : List Row) → AllByRecursion IsRowInForm rows → AreInForm (gathered rows)
+pub gathered_form : (rows : List Row) → AllByRecursion IsRowInForm rows → AreInForm (tables_of_rows rows)
 gathered_form rows forms = all_in_form rows no_rows forms none_in_form

@@ -6,6 +6,8 @@ use Rattle.desk_edge.specs.declared.change.Change.TheVariants.{Put, Drop}
 use Rattle.desk_law.specs.Rule.{rule_code}
 use Rattle.desk_model.specs.declared.row.Row.TheVariants.{Substance, Member, Material, Part, Line, Product, Exemption, Candidate, Shipment, Ticket}
 use Rattle.desk_model.specs.Rows.{pair_code}
+use Rattle.desk_model.specs.Tables.{number_of_table}
+use Rattle.desk_model.specs.declared.table_name.TableName.TheVariants.{Members, Lines, Exemptions, Shipments}
 use Rattle.desk_tables.specs.declared.plan.TablesPlan.{TablesPlan}
 use Rattle.desk_tables.specs.declared.plan.TablesPlan.TheVariants as plan
 use Rattle.desk_tables.specs.declared.row_change.RowChange.{RowChange}
@@ -16,17 +18,17 @@ use Rattle.desk_records.specs.Records.{record_of}
 unfoldable pub row_changes : RowChange → List Change
 row_changes (change.PutSubstance row room) = Put (record_of (Substance row)) ∷ []
 row_changes (change.PutMember row room) = Put (record_of (Member row)) ∷ []
-row_changes (change.DropMember substance rule) = Drop (record { kind = 2; code = pair_code substance (rule_code rule) }) ∷ []
+row_changes (change.DropMember substance rule) = Drop (record { kind = number_of_table Members; code = pair_code substance (rule_code rule) }) ∷ []
 row_changes (change.PutMaterials rows room) = map (λ row. Put (record_of (Material row))) rows
 row_changes (change.PutPart row room) = Put (record_of (Part row)) ∷ []
 row_changes (change.PutLine row room) = Put (record_of (Line row)) ∷ []
-row_changes (change.DropLine parent child) = Drop (record { kind = 5; code = pair_code parent child }) ∷ []
+row_changes (change.DropLine parent child) = Drop (record { kind = number_of_table Lines; code = pair_code parent child }) ∷ []
 row_changes (change.PutProduct row room) = Put (record_of (Product row)) ∷ []
 row_changes (change.PutExemption row room) = Put (record_of (Exemption row)) ∷ []
-row_changes (change.DropExemption row) = Drop (record { kind = 7; code = row }) ∷ []
+row_changes (change.DropExemption row) = Drop (record { kind = number_of_table Exemptions; code = row }) ∷ []
 row_changes (change.PutCandidate row room) = Put (record_of (Candidate row)) ∷ []
 row_changes (change.PutShipment row room) = Put (record_of (Shipment row)) ∷ []
-row_changes (change.DropShipment year product) = Drop (record { kind = 9; code = pair_code (decimal year) product }) ∷ []
+row_changes (change.DropShipment year product) = Drop (record { kind = number_of_table Shipments; code = pair_code (decimal year) product }) ∷ []
 
 -- the changes of a plan: those of its rows, and for a new edit the record of its ticket is put; none for an edit that is kept
 unfoldable pub plan_changes : TablesPlan → List Change

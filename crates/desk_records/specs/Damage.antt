@@ -11,7 +11,7 @@ use Rattle.desk_model.specs.Rows.{rows_of}
 use Rattle.desk_model.specs.declared.limits.TheConstants.{SUBSTANCE_LIMIT, MEMBER_LIMIT, MATERIAL_LIMIT, PART_LIMIT, LINE_LIMIT}
 use Rattle.desk_model.specs.declared.limits.TheConstants.{PRODUCT_LIMIT, EXEMPTION_LIMIT, CANDIDATE_LIMIT, SHIPMENT_LIMIT, TICKET_LIMIT}
 use Rattle.desk_model.specs.declared.row.Row.{Row}
-use Rattle.desk_tables.specs.Gathered.{gathered}
+use Rattle.desk_tables.specs.Gathered.{tables_of_rows}
 use Rattle.desk_records.specs.Records.{HasNoRow, IsOfOtherVersion, content_in, record_of, tables_content}
 
 -- the tables are those of the rows that have these records, put in one after the other
@@ -19,7 +19,7 @@ pub record AreTablesOf (records : List Record) (lists : Lists) : Type 0 where
   pub rows : List Row
   pub are_written : records ≡ map record_of rows
   pub forms : AllByRecursion IsRowInForm rows
-  pub are_gathered : lists ≡ gathered rows
+  pub are_gathered : lists ≡ tables_of_rows rows
 
 -- the most records that sound tables have: each table has at most its limit of rows
 abbrev pub record_limit : ℕ

@@ -7,6 +7,8 @@ ghost use Rattle.desk_model.specs.declared.edit.Edit.{Edit};
 ghost use Rattle.desk_model.specs.declared.row.Row.TheVariants.{Ticket};
 ghost use Rattle.desk_model.specs.Forms.{is_edit_in_form};
 ghost use Rattle.desk_model.specs.Rows.{pair_code};
+ghost use Rattle.desk_model.specs.Tables.{number_of_table};
+ghost use Rattle.desk_model.specs.declared.table_name.TableName.TheVariants.{Shipments};
 ghost use Rattle.desk_records.specs.Changes.{AreDropsInForm, plan_changes, row_changes};
 ghost use Rattle.desk_records.specs.Records.{record_of, tables_content};
 ghost use Rattle.desk_tables.specs.Desk.{Desk};
@@ -15,7 +17,7 @@ ghost use Rattle.desk_tables.specs.Plan.{IsPlan};
 use crate::table_records::record_of_row;
 use crate::table_row::TableRow;
 use desk_edge::{Change, Key};
-use desk_model::TicketRow;
+use desk_model::{TableName, TicketRow};
 use desk_tables::{RowChange, TablesPlan};
 use desk_text::{Bytes, OutOfMemory};
 use std::alloc::Global;
@@ -66,19 +68,25 @@ fn changes_of_rows(alloc: Global, change: &RowChange) -> Result<Vec<Change>, Out
         RowChange::PutMember { row, .. } => one(alloc, put(alloc, row)?),
         RowChange::DropMember { substance, rule } => {
             let (substance, rule) = (substance.as_bytes(), rule.code());
-            one(alloc, dropped_pair(alloc, 2, substance, rule.as_bytes())?)
+            one(
+                alloc,
+                dropped_pair(alloc, TableName::Members, substance, rule.as_bytes())?,
+            )
         }
         RowChange::PutMaterials { rows, .. } => put_all(alloc, rows.as_slice()),
         RowChange::PutPart { row, .. } => one(alloc, put(alloc, row)?),
         RowChange::PutLine { row, .. } => one(alloc, put(alloc, row)?),
         RowChange::DropLine { parent, child } => {
             let (parent, child) = (parent.as_bytes(), child.as_bytes());
-            one(alloc, dropped_pair(alloc, 5, parent, child)?)
+            one(alloc, dropped_pair(alloc, TableName::Lines, parent, child)?)
         }
         RowChange::PutProduct { row, .. } => one(alloc, put(alloc, row)?),
         RowChange::PutExemption { row, .. } => one(alloc, put(alloc, row)?),
         RowChange::DropExemption { row } => {
-            one(alloc, dropped(7, bytes(alloc, row.as_bytes())?))
+            one(
+                alloc,
+                dropped(TableName::Exemptions, bytes(alloc, row.as_bytes())?),
+            )
         }
         RowChange::PutCandidate { row, .. } => one(alloc, put(alloc, row)?),
         RowChange::PutShipment { row, .. } => one(alloc, put(alloc, row)?),
@@ -116,30 +124,38 @@ fn put<R: TableRow>(alloc: Global, row: &R) -> Result<Change, OutOfMemory>
 }
 
 /// The row of this code is taken out.
-fn dropped(kind: u8, code: Bytes) -> Change
-    ensures { result ≡ Drop (record { kind = kind; code = code }) }
+fn dropped(table: TableName, code: Bytes) -> Change
+    ensures { result ≡ Drop (record { kind = number_of_table table; code = code }) }
 {
-    Change::Drop(Key { kind, code })
+    Change::Drop(Key {
+        kind: table.number(),
+        code,
+    })
 }
 
 /// The row whose code has these two parts is taken out.
-fn dropped_pair(alloc: Global, kind: u8, first: &[u8], second: &[u8]) -> Result<Change, OutOfMemory>
-    ensures { IfOk result (λ change. change ≡ Drop (record { kind = kind; code = pair_code first.now second.now })) }
+fn dropped_pair(
+    alloc: Global,
+    table: TableName,
+    first: &[u8],
+    second: &[u8],
+) -> Result<Change, OutOfMemory>
+    ensures { IfOk result (λ change. change ≡ Drop (record { kind = number_of_table table; code = pair_code first.now second.now })) }
 {
     let mut code = bytes(alloc, first)?;
     code.push_all(b"/")?;
     code.push_all(second)?;
-    Ok(dropped(kind, code))
+    Ok(dropped(table, code))
 }
 
 /// The shipment of the year and the product is taken out.
 fn dropped_shipment(alloc: Global, year: u16, product: &[u8]) -> Result<Change, OutOfMemory>
     ensures change { IfOk result (λ change.
-        change ≡ Drop (record { kind = 9; code = pair_code (decimal year) product.now })) }
+        change ≡ Drop (record { kind = number_of_table Shipments; code = pair_code (decimal year) product.now })) }
     ensures year { year < 2 ^ 64 }
 {
     let year = format!(in alloc; "{year}")?;
-    dropped_pair(alloc, 9, year.as_bytes(), product)
+    dropped_pair(alloc, TableName::Shipments, year.as_bytes(), product)
 }
 
 /// The same bytes.

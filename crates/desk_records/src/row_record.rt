@@ -1,19 +1,20 @@
 ghost use Rattle.std.specs.Prelude.{◌≡◌, Err, IfOk, true};
 ghost use Rattle.desk_fields.specs.RowTexts.{HasVersion, has_texts};
 ghost use Rattle.desk_model.specs.declared.row.Row.{Row};
-ghost use Rattle.desk_model.specs.Rows.{table_number};
+ghost use Rattle.desk_model.specs.Tables.{table_of};
 ghost use Rattle.desk_records.specs.Records.{IsRecordOf, record_of};
 
 use crate::RecordFault;
 use desk_edge::Record;
 use desk_fields::{read_row, row_body, row_code};
-use desk_model::Row;
+use desk_model::{Row, TableName};
 use desk_text::{Bytes, OutOfMemory};
 use std::alloc::Global;
 
 /// The record of a row: the number of its table as the kind, its code, and its text as the body.
 ///
 /// `OutOfMemory`: none was left for the record.
+#[tactic(auto, unfolding(desk_model::specs::Rows::table_number))]
 pub fn write_record(alloc: Global, row: &Row) -> Result<Record, OutOfMemory>
     ensures { IfOk result (λ kept. kept ≡ record_of row.now) }
 {
@@ -22,28 +23,27 @@ pub fn write_record(alloc: Global, row: &Row) -> Result<Record, OutOfMemory>
     let mut body = Bytes::start(alloc);
     row_body(row, &mut body)?;
     Ok(Record {
-        kind: kind_of(row),
+        kind: table_of(row).number(),
         code,
         body,
     })
 }
 
-/// The number of the row's table.
-#[tactic(auto, unfolding(desk_model::specs::Rows::table_number))]
-fn kind_of(row: &Row) -> u8
-    ensures { result ≡ table_number row.now }
+/// The table that the row is of.
+fn table_of(row: &Row) -> TableName
+    ensures { result ≡ table_of row.now }
 {
     match row {
-        Row::Substance(_) => 1,
-        Row::Member(_) => 2,
-        Row::Material(_) => 3,
-        Row::Part(_) => 4,
-        Row::Line(_) => 5,
-        Row::Product(_) => 6,
-        Row::Exemption(_) => 7,
-        Row::Candidate(_) => 8,
-        Row::Shipment(_) => 9,
-        Row::Ticket(_) => 10,
+        Row::Substance(_) => TableName::Substances,
+        Row::Member(_) => TableName::Members,
+        Row::Material(_) => TableName::Materials,
+        Row::Part(_) => TableName::Parts,
+        Row::Line(_) => TableName::Lines,
+        Row::Product(_) => TableName::Products,
+        Row::Exemption(_) => TableName::Exemptions,
+        Row::Candidate(_) => TableName::Candidates,
+        Row::Shipment(_) => TableName::Shipments,
+        Row::Ticket(_) => TableName::Tickets,
     }
 }
 

@@ -1,4 +1,4 @@
--- At the start tables a declaration breaks no rule but those on its substances and on its masses.
+-- At the start tables a declaration meets no refusal but those on its substances and on its masses.
 use Rattle.std.proofs.Common.{◌≡◌, ◌+◌, ◌≤◌, ℕ, true, false, not, List, [], ◌∷◌, length, Option, None, Some, refl, arith, nat_lt, map, find}
 use Rattle.std.proofs.lemmas.Bool.{leb-true, le-ltb}
 use Rattle.std.proofs.lemmas.List.{length-map}
@@ -17,7 +17,7 @@ use Rattle.desk_model.specs.declared.rule_fault.RuleFault.TheVariants.{MassesExc
 use Rattle.desk_model.specs.Content.{holds_too_much}
 use Rattle.desk_model.specs.Declaration.{Declared, is_declaration_in_form}
 use Rattle.desk_model.specs.EditText.{edit_text}
-use Rattle.desk_model.specs.Effect.{declared_row, declared_rows, entered, made}
+use Rattle.desk_model.specs.Effect.{declared_row, declared_rows, with_edit_entered, with_edit_made}
 use Rattle.desk_model.specs.Lists.{Lists, is_part, is_substance}
 use Rattle.desk_model.specs.Start.{start}
 use Rattle.desk_findings.specs.Findings.{finding_count}
@@ -63,7 +63,7 @@ module _ {R K : Type 0} (key : R → K) (cmp : K → K → Ordering) where
 
 -- no table is full
 none-full : (d : Declared) → is_declaration_in_form d ≡ true → table_full start (Declare d) ≡ None
-unfolding entered is_declaration_in_form made start table_full tables_over
+unfolding with_edit_entered is_declaration_in_form with_edit_made start table_full tables_over
 none-full d form =
     let in_range = second_so _ _ (first_so _ _ form) in
     let few = leb-true (length d.materials) DECLARED_LIMIT (second_so _ _ (first_so _ _ (first_so _ _ in_range))) in
@@ -74,22 +74,22 @@ none-full d form =
 
 -- and the text isn't too long
 none-long : (d : Declared) → is_declaration_in_form d ≡ true → text_full start (Declare d) ≡ None
-unfolding entered has_too_much_text made start text_full
+unfolding with_edit_entered has_too_much_text with_edit_made start text_full
 none-long d form =
     let short = declared-short d form in
     let fits : nat_lt TEXT_LIMIT (0 + length (edit_text (Declare d))) ≡ false = le-ltb _ _ (omega arith) in
     rw fits refl
 
 none-heavy : (d : Declared) → total_too_large start (Declare d) ≡ None
-unfolding entered made start too_heavy_part total_too_large
+unfolding with_edit_entered with_edit_made start too_heavy_part total_too_large
 none-heavy d = refl
 
 none-found : (d : Declared) → findings_full start (Declare d) ≡ None
-unfolding entered finding_count findings_full has_too_many_findings made start
+unfolding with_edit_entered finding_count findings_full has_too_many_findings with_edit_made start
 none-found d = refl
 
 none-shipped : (d : Declared) → year_too_large start (Declare d) ≡ None
-unfolding entered made start too_heavy_year year_too_large
+unfolding with_edit_entered with_edit_made start too_heavy_year year_too_large
 none-shipped d = refl
 
 none-kept : (d : Declared) → ticket_reused start (Declare d) ≡ None

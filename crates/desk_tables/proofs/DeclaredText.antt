@@ -10,8 +10,8 @@ use Rattle.desk_text.specs.Day.{Date, date_text}
 use Rattle.desk_text.specs.Name.{name_of}
 use Rattle.desk_law.specs.declared.claim.Claim.{Claim}
 use Rattle.desk_law.specs.declared.rule.Rule.{Rule}
-use Rattle.desk_law.specs.declared.rule.Rule.TheVariants as rule
 use Rattle.desk_law.specs.Rule.{rule_code}
+use Rattle.desk_law.proofs.Rules.{rule_short}
 use Rattle.desk_model.specs.declared.edit.Edit.TheVariants.{Declare}
 use Rattle.desk_model.specs.declared.limits.TheConstants.{MASS_LIMIT, CONTENT_LIMIT, CLAIM_LIMIT, DECLARED_LIMIT, TEXT_LIMIT}
 use Rattle.desk_model.specs.declared.material_decl.MaterialDecl.{MaterialDecl}
@@ -54,19 +54,6 @@ number-short : (b : List ℕ) → is_exemption_number b ≡ true → length b �
 unfolding exemption_number_of
 number-short b h = within 20 (length b) _ _ _ _ _ refl h
 
-rule-short : (r : Rule) → length (rule_code r) ≤ 11
-unfolding rule_code
-rule-short rule.Lead = omega arith
-rule-short rule.Mercury = omega arith
-rule-short rule.Cadmium = omega arith
-rule-short rule.ChromiumVi = omega arith
-rule-short rule.Pbb = omega arith
-rule-short rule.Pbde = omega arith
-rule-short rule.Dehp = omega arith
-rule-short rule.Bbp = omega arith
-rule-short rule.Dbp = omega arith
-rule-short rule.Dibp = omega arith
-
 date-short : (d : Date) → length (date_text d) ≡ 10
 unfolding date_text
 date-short d = refl
@@ -90,7 +77,7 @@ claims-weight : (claims : List Claim) → list_all (λ claim. is_exemption_numbe
 claims-weight [] f = omega arith
 claims-weight (claim ∷ claims) f =
     let number = number-short claim.number (first_so (is_exemption_number claim.number) (list_all (λ other. is_exemption_number other.number) claims) f) in
-    let code = rule-short claim.rule in
+    let code = rule_short claim.rule in
     let rest = claims-weight claims (second_so (is_exemption_number claim.number) (list_all (λ other. is_exemption_number other.number) claims) f) in
     omega arith
 

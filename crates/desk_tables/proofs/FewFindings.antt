@@ -7,7 +7,7 @@ use Rattle.std.proofs.lemmas.List.{drop-map, drop_at, length-map}
 use Rattle.std.proofs.lemmas.List.Folds.{list_all-map}
 use Rattle.std.proofs.lemmas.List.Sums.{count_by-le-length, length-filter, sum_by-cons}
 use Rattle.desk_text.specs.Code.{code_cmp, same_code}
-use Rattle.desk_law.specs.Rule.{all_rules}
+use Rattle.desk_law.specs.Rule.{restricting_rules}
 use Rattle.desk_model.specs.declared.limits.TheConstants.{FINDING_LIMIT}
 use Rattle.desk_model.specs.declared.rows.line.LineRow.{LineRow}
 use Rattle.desk_model.specs.declared.rows.material.MaterialRow.{MaterialRow}
@@ -26,7 +26,7 @@ use Rattle.desk_findings.specs.Share.{is_over_limit}
 use Rattle.desk_findings.specs.Totals.{has_too_many_findings}
 use Rattle.desk_findings.proofs.Bill.{has_parents, rolled-step}
 use Rattle.desk_findings.proofs.FindingsStored.{by_holder}
-use Rattle.desk_totals.specs.Linked.{IsBillOf, Linked, are_distinct, single}
+use Rattle.desk_totals.specs.Linked.{IsLinkedOf, Linked, are_codes_distinct, single}
 use Rattle.desk_totals.specs.Marks.{reach_count}
 use Rattle.desk_totals.proofs.Distinct.{later_distinct, others}
 use Rattle.desk_totals.proofs.ForTables.{with_itself}
@@ -53,7 +53,7 @@ count_any r [] xs = omega (arith, count_none (λ x. false) xs (each (λ x. false
 count_any r (y ∷ ys) xs = omega (arith, count_or (r y) (λ x. list_any (λ z. r z x) ys) xs, sum_by-cons (λ z. count_by (r z) xs) y ys, count_any r ys xs)
 
 -- at most one of distinct codes is a given one
-count_one : (code : List ℕ) (codes : List (List ℕ)) → are_distinct codes ≡ true → count_by (same_code code) codes ≤ 1
+count_one : (code : List ℕ) (codes : List (List ℕ)) → are_codes_distinct codes ≡ true → count_by (same_code code) codes ≤ 1
 count_one code [] e = omega arith
 count_one code (first ∷ codes) e =
     elim (cases_Bool (same_code code first)) [
@@ -122,7 +122,7 @@ module _ (t : Lists) (is_bill : IsBill t) where
       ∙ sum_same (λ line. 1 * rolled (singles t) (λ c. 1) line.child) (λ line. rolled (singles t) (λ c. 1) line.child) (lines_of t.lines code)
       (each (λ line. 1 * rolled (singles t) (λ c. 1) line.child ≡ rolled (singles t) (λ c. 1) line.child) (λ line. omega arith) (lines_of t.lines code)))
 
-  module _ (nodes : List (List ℕ)) (distinct : are_distinct nodes ≡ true) where
+  module _ (nodes : List (List ℕ)) (distinct : are_codes_distinct nodes ≡ true) where
     none_within : (code : List ℕ) → count_by (λ node. reaches_within t.lines 0 code node) nodes ≡ 0
     unfolding reaches_within
     none_within code = count_none (λ node. false) nodes (each (λ node. false ≡ false) (λ node. refl) nodes)
@@ -148,7 +148,7 @@ module _ (t : Lists) (is_bill : IsBill t) where
   reached : List ℕ → ℕ
   reached code = count_by (λ (material : MaterialRow). reaches t code material.code) t.materials + count_by (λ (part : PartRow). reaches t code part.code) t.parts
 
-  reached-le : are_distinct (map (λ row. row.code) t.materials ++ map (λ row. row.code) t.parts) ≡ true → (code : List ℕ) → reached code + 1 ≤ ways code
+  reached-le : are_codes_distinct (map (λ row. row.code) t.materials ++ map (λ row. row.code) t.parts) ≡ true → (code : List ℕ) → reached code + 1 ≤ ways code
   unfolding reached
   reached-le distinct code =
       omega (
@@ -178,8 +178,8 @@ module _ (t : Lists) (is_bill : IsBill t) where
       omega (
         arith,
         length-map (rules_over t material) (λ rule. Finding.over material.code rule),
-        length-filter (λ rule. is_over_limit t rule material) all_rules,
-        count_by-le-length (λ rule. is_over_limit t rule material) all_rules,
+        length-filter (λ rule. is_over_limit t rule material) restricting_rules,
+        count_by-le-length (λ rule. is_over_limit t rule material) restricting_rules,
       )
 
   on_article : (article : PartRow) → length (findings_of_article t article) ≤ length t.candidates + 10
@@ -202,7 +202,7 @@ module _ (t : Lists) (is_bill : IsBill t) where
   sum_times most f [] = omega arith
   sum_times most f (x ∷ xs) = omega (arith, sum_by-cons (λ y. most * f y) x xs, sum_by-cons f x xs, sum_times most f xs, ap (λ n. most * n) (sum_by-cons f x xs), Rattle.std.proofs.Math.Nat.mul-add most (f x) (sum_by f xs))
 
-  module _ (ordered : IsOrdered t) (distinct : are_distinct (map (λ row. row.code) t.materials ++ map (λ row. row.code) t.parts) ≡ true) where
+  module _ (ordered : IsOrdered t) (distinct : are_codes_distinct (map (λ row. row.code) t.materials ++ map (λ row. row.code) t.parts) ≡ true) where
     most : ℕ
     most = length t.candidates + 10
 
@@ -247,7 +247,7 @@ module _ (t : Lists) (is_bill : IsBill t) where
     few h = le-ltb FINDING_LIMIT (finding_count t) (omega (arith, finding_count-le, h))
 
 -- the number of each part is behind those of the materials
-pub of_parts_alone : {V : Type 0} (bill : Linked) (t : Lists) → IsBillOf bill t → (f : List ℕ → V) (values : List V) → values ≡ map f bill.nodes → drop (length t.materials) values ≡ map f (map (λ row. row.code) t.parts)
+pub of_parts_alone : {V : Type 0} (bill : Linked) (t : Lists) → IsLinkedOf bill t → (f : List ℕ → V) (values : List V) → values ≡ map f bill.nodes → drop (length t.materials) values ≡ map f (map (λ row. row.code) t.parts)
 of_parts_alone bill t of f values e =
     ap (drop (length t.materials)) e
     ∙ drop-map f (length t.materials) bill.nodes

@@ -8,7 +8,7 @@ use Rattle.std.proofs.lemmas.Bool.{le-leb, lt-leb, ltb-false, ltb-true}
 use Rattle.desk_model.specs.Lists.{Lists}
 use Rattle.desk_findings.specs.Mass.{mass}
 use Rattle.desk_totals.specs.Fit.{fit}
-use Rattle.desk_totals.specs.Linked.{IsBillOf, Linked}
+use Rattle.desk_totals.specs.Linked.{IsLinkedOf, Linked}
 
 below_bound : (n : ℕ) → nat_lt n (2 ^ 128) ≡ true → nat_le (2 ^ 128) n ≡ false
 below_bound n t = lt-leb (2 ^ 128) n (ltb-true n (2 ^ 128) t)
@@ -49,7 +49,7 @@ behind_materials f g h xs zs =
     ∙ map_map f h zs
 
 -- the masses of the parts are what is left of the masses of all nodes
-pub masses_of_parts : (bill : Linked) (t : Lists) (masses : List (Option ℕ)) → IsBillOf bill t → masses ≡ map (λ code. fit (mass t code)) bill.nodes → drop (length t.materials) masses ≡ map (λ part. fit (mass t part.code)) t.parts
+pub masses_of_parts : (bill : Linked) (t : Lists) (masses : List (Option ℕ)) → IsLinkedOf bill t → masses ≡ map (λ code. fit (mass t code)) bill.nodes → drop (length t.materials) masses ≡ map (λ part. fit (mass t part.code)) t.parts
 masses_of_parts bill t masses of e =
     ap (drop (length t.materials)) (e ∙ ap (map (λ code. fit (mass t code))) of.nodes)
     ∙ behind_materials (λ code. fit (mass t code)) (λ row. row.code) (λ row. row.code) t.materials t.parts

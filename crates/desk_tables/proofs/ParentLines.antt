@@ -21,8 +21,8 @@ use Rattle.desk_findings.proofs.Bill.{lines_of-none}
 use Rattle.desk_history.specs.Limits.{has_too_many_lines, if_over, tables_over}
 use Rattle.desk_history.specs.Sound.{Sound}
 use Rattle.desk_history.proofs.SoundClauses.{parents_of}
-use Rattle.desk_tables.specs.Change.{changed}
-use Rattle.desk_tables.specs.Plan.{entered_by}
+use Rattle.desk_tables.specs.Change.{with_change_made}
+use Rattle.desk_tables.specs.Plan.{with_change_entered}
 use Rattle.desk_tables.specs.declared.row_change.RowChange.{RowChange}
 use Rattle.desk_tables.specs.declared.row_change.RowChange.TheVariants as change
 
@@ -168,12 +168,12 @@ module _ (t : Lists) (s : Sound t) where
       ] refl
 
   -- of all changes a line that goes in alone can give a part too many lines
-  pub with_line : (new : LineRow) (room : Option ℕ) → has_too_many_lines (changed t (change.PutLine new room)) ≡ (is_part t new.parent && nat_lt LINES_OF_PARENT_LIMIT (length (lines_of (with_row line_key line_key_cmp new t.lines) new.parent)))
-  unfolding changed are_over is_over_at
+  pub with_line : (new : LineRow) (room : Option ℕ) → has_too_many_lines (with_change_made t (change.PutLine new room)) ≡ (is_part t new.parent && nat_lt LINES_OF_PARENT_LIMIT (length (lines_of (with_row line_key line_key_cmp new t.lines) new.parent)))
+  unfolding with_change_made are_over is_over_at
   with_line new room = line_overflows new t.lines t.parts none_over
 
-  pub without_line : (made : RowChange) → ((new : LineRow) (room : Option ℕ) → made ≡ change.PutLine new room → ⊥) → has_too_many_lines (changed t made) ≡ false
-  unfolding changed are_over is_over_at
+  pub without_line : (made : RowChange) → ((new : LineRow) (room : Option ℕ) → made ≡ change.PutLine new room → ⊥) → has_too_many_lines (with_change_made t made) ≡ false
+  unfolding with_change_made are_over is_over_at
   without_line (change.PutSubstance row room) other = none_over
   without_line (change.PutMember row room) other = none_over
   without_line (change.DropMember substance rule) other = none_over
@@ -193,7 +193,7 @@ module _ (t : Lists) (s : Sound t) where
   without_line (change.DropShipment year product) other = none_over
 
 -- a change that no ticket touches
-pub lines_of_entered : (t : Lists) (made : RowChange) (ticket : TicketRow) → has_too_many_lines (entered_by t made ticket) ≡ has_too_many_lines (changed t made)
+pub lines_of_entered : (t : Lists) (made : RowChange) (ticket : TicketRow) → has_too_many_lines (with_change_entered t made ticket) ≡ has_too_many_lines (with_change_made t made)
 lines_of_entered t made ticket = refl
 
 first_empty : (xs ys : List ℕ) → xs ++ ys ≡ [] → xs ≡ []

@@ -9,7 +9,7 @@ use Rattle.desk_model.proofs.Elements.{each_from_all}
 use Rattle.desk_findings.proofs.Children.{children_kept, parents_kept}
 use Rattle.desk_history.specs.Sound.{IsConsistent}
 use Rattle.desk_history.proofs.SoundClauses.{right_of}
-use Rattle.desk_totals.specs.Linked.{IsBillOf, Linked, has_ends_in}
+use Rattle.desk_totals.specs.Linked.{IsLinkedOf, Linked, has_ends_in}
 use Rattle.desk_totals.proofs.ForTables.{linked_from_tables}
 use Rattle.desk_tables.specs.PutLine.{with_line}
 
@@ -24,7 +24,7 @@ module _ {R K : Type 0} (key : R → K) (cmp : K → K → Ordering) where
         | Greater ↦ λ more. more.0
       ] each
 
-pub ends_of_new : (bill : Linked) (t : Lists) (line : LineRow) → IsBillOf bill t → IsConsistent (with_line t line) → has_ends_in bill.nodes line ≡ true
+pub ends_of_new : (bill : Linked) (t : Lists) (line : LineRow) → IsLinkedOf bill t → IsConsistent (with_line t line) → has_ends_in bill.nodes line ≡ true
 ends_of_new bill t line of consistent =
     let after = with_line t line in
     let linked =

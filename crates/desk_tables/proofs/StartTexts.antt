@@ -2,70 +2,43 @@
 use Rattle.std.proofs.Common.{◌≡◌, Bool, true, false, List, [], ℕ, Option, Result, Ok, Err, map, refl, ap, ◌∙◌, ◌≤◌, length, take}
 use Rattle.std.specs.Prelude.{is_ok}
 use Rattle.std.proofs.lemmas.Bool.{false≢true}
-use Rattle.desk_text.specs.Code.{code_cmp, code_of}
+use Rattle.desk_text.specs.Code.{code_cmp}
 use Rattle.desk_text.specs.Name.{name_of}
 use Rattle.desk_text.specs.declared.name.NameFault.{NameFault}
 use Rattle.desk_text.specs.declared.name.NameFault.TheVariants.{OutOfMemory}
 use Rattle.desk_text.proofs.NameLemmas.{name_of-Ok}
 use Rattle.desk_rows.specs.Rows.{with_rows}
 use Rattle.desk_law.specs.declared.rule.Rule.{Rule}
-use Rattle.desk_law.specs.declared.rule.Rule.TheVariants.{Lead, Mercury, Cadmium, ChromiumVi, Pbb, Pbde, Dehp, Bbp, Dbp, Dibp}
-use Rattle.desk_law.specs.Rule.{all_rules, rule_code, rule_number}
+use Rattle.desk_law.specs.Rule.{base_rules, rule_code, rule_number}
 use Rattle.desk_model.specs.declared.rows.member.MemberRow.{MemberRow}
 use Rattle.desk_model.specs.declared.rows.substance.SubstanceRow.{SubstanceRow}
 use Rattle.desk_tables.proofs.Taken.{take_whole}
 use Rattle.desk_model.specs.Lists.{member_key, member_key_cmp}
 use Rattle.desk_model.specs.Start.{base_cas, base_member, base_name, base_substance, rules_by_code}
-use Rattle.desk_model.specs.Values.{is_name}
-use Rattle.desk_model.proofs.Names.{name_from}
-
-pub rule_is_code : (rule : Rule) → code_of (rule_code rule) ≡ Ok (rule_code rule)
-unfolding code_of rule_code
-rule_is_code Lead = refl
-rule_is_code Mercury = refl
-rule_is_code Cadmium = refl
-rule_is_code ChromiumVi = refl
-rule_is_code Pbb = refl
-rule_is_code Pbde = refl
-rule_is_code Dehp = refl
-rule_is_code Bbp = refl
-rule_is_code Dbp = refl
-rule_is_code Dibp = refl
-
-named : (rule : Rule) → is_name (base_name rule) ≡ true
-named Lead = name_from (base_name Lead) refl refl refl refl
-named Mercury = name_from (base_name Mercury) refl refl refl refl
-named Cadmium = name_from (base_name Cadmium) refl refl refl refl
-named ChromiumVi = name_from (base_name ChromiumVi) refl refl refl refl
-named Pbb = name_from (base_name Pbb) refl refl refl refl
-named Pbde = name_from (base_name Pbde) refl refl refl refl
-named Dehp = name_from (base_name Dehp) refl refl refl refl
-named Bbp = name_from (base_name Bbp) refl refl refl refl
-named Dbp = name_from (base_name Dbp) refl refl refl refl
-named Dibp = name_from (base_name Dibp) refl refl refl refl
+use Rattle.desk_model.proofs.BaseSubstances.{base_named}
 
 spelled : (bytes : List ℕ) (read : Result (List ℕ) NameFault) → name_of bytes ≡ read → is_ok read ≡ true → name_of bytes ≡ Ok bytes
 spelled bytes (Ok name) e f = e ∙ ap Ok (name_of-Ok bytes name e).0
 spelled bytes (Err fault) e f = absurd (false≢true f)
 
 pub base_is_name : (rule : Rule) → name_of (base_name rule) ≡ Ok (base_name rule)
-base_is_name rule = spelled (base_name rule) (name_of (base_name rule)) refl (named rule)
+base_is_name rule = spelled (base_name rule) (name_of (base_name rule)) refl (base_named rule)
 
-pub substances_by_code : with_rows (λ row. row.code) code_cmp (map base_substance all_rules) [] ≡ map base_substance rules_by_code
+pub substances_by_code : with_rows (λ row. row.code) code_cmp (map base_substance base_rules) [] ≡ map base_substance rules_by_code
 unfolding rule_code
 substances_by_code = refl
 
-pub members_by_code : with_rows member_key member_key_cmp (map base_member all_rules) [] ≡ map base_member rules_by_code
+pub members_by_code : with_rows member_key member_key_cmp (map base_member base_rules) [] ≡ map base_member rules_by_code
 unfolding rule_code rule_number
 members_by_code = refl
 
 pub inside_ok : {X F : Type 0} (x y : X) (read : Result X F) → read ≡ Ok x → read ≡ Ok y → x ≡ y
 inside_ok x y read e f = cc
 
-pub all_substances : (rules : List Rule) (rows : List SubstanceRow) (i : ℕ) → rules ≡ all_rules → length rules ≤ i → rows ≡ map base_substance (take i rules) → with_rows (λ row. row.code) code_cmp rows [] ≡ map base_substance rules_by_code
+pub all_substances : (rules : List Rule) (rows : List SubstanceRow) (i : ℕ) → rules ≡ base_rules → length rules ≤ i → rows ≡ map base_substance (take i rules) → with_rows (λ row. row.code) code_cmp rows [] ≡ map base_substance rules_by_code
 all_substances rules rows i e l h = ap (λ all. with_rows (λ row. row.code) code_cmp all []) (h ∙ ap (map base_substance) (take_whole rules i l ∙ e)) ∙ substances_by_code
 
-pub all_members : (rules : List Rule) (rows : List MemberRow) (i : ℕ) → rules ≡ all_rules → length rules ≤ i → rows ≡ map base_member (take i rules) → with_rows member_key member_key_cmp rows [] ≡ map base_member rules_by_code
+pub all_members : (rules : List Rule) (rows : List MemberRow) (i : ℕ) → rules ≡ base_rules → length rules ≤ i → rows ≡ map base_member (take i rules) → with_rows member_key member_key_cmp rows [] ≡ map base_member rules_by_code
 all_members rules rows i e l h = ap (λ all. with_rows member_key member_key_cmp all []) (h ∙ ap (map base_member) (take_whole rules i l ∙ e)) ∙ members_by_code
 
 unfoldable pub base_with : List ℕ → List ℕ → Option (List ℕ) → SubstanceRow

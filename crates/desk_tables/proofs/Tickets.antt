@@ -8,13 +8,13 @@ use Rattle.desk_model.specs.declared.rows.ticket.TicketRow.{TicketRow}
 use Rattle.desk_model.specs.declared.limits.TheConstants.{TEXT_LIMIT}
 use Rattle.desk_model.specs.Lists.{Lists, ticket_row}
 use Rattle.desk_history.specs.Limits.{has_too_much_text}
-use Rattle.desk_tables.specs.Change.{changed}
-use Rattle.desk_tables.specs.Plan.{entered_by}
+use Rattle.desk_tables.specs.Change.{with_change_made}
+use Rattle.desk_tables.specs.Plan.{with_change_entered}
 use Rattle.desk_tables.specs.declared.row_change.RowChange.{RowChange}
 use Rattle.desk_tables.specs.declared.row_change.RowChange.TheVariants as change
 
-pub tickets_stay : (t : Lists) (made : RowChange) → (changed t made).tickets ≡ t.tickets
-unfolding changed
+pub tickets_stay : (t : Lists) (made : RowChange) → (with_change_made t made).tickets ≡ t.tickets
+unfolding with_change_made
 tickets_stay t (change.PutSubstance row room) = refl
 tickets_stay t (change.PutMember row room) = refl
 tickets_stay t (change.DropMember substance rule) = refl
@@ -44,7 +44,7 @@ pub sum_with : (t : Lists) (ticket : TicketRow) (sum : ℕ) → ticket_row t tic
 sum_with t ticket sum absent e = omega (arith, text_with t ticket absent, e)
 
 -- what the sum of all texts is with one more: over the limit, or not
-pub text_over : (t : Lists) (made : RowChange) (ticket : TicketRow) (sum : ℕ) → ticket_row t ticket.code ≡ None → sum ≡ sum_by (λ row. length row.text) t.tickets → nat_lt TEXT_LIMIT (sum + length ticket.text) ≡ has_too_much_text (entered_by t made ticket)
+pub text_over : (t : Lists) (made : RowChange) (ticket : TicketRow) (sum : ℕ) → ticket_row t ticket.code ≡ None → sum ≡ sum_by (λ row. length row.text) t.tickets → nat_lt TEXT_LIMIT (sum + length ticket.text) ≡ has_too_much_text (with_change_entered t made ticket)
 unfolding has_too_much_text
 text_over t made ticket sum absent e = ap (nat_lt TEXT_LIMIT) (sum_with t ticket sum absent e)
 

@@ -12,9 +12,9 @@ use Rattle.desk_findings.specs.Totals.{has_too_many_findings, too_heavy_part, to
 use Rattle.desk_history.specs.Refused.{refuse_if}
 use Rattle.desk_history.specs.Rising.{may_add_findings, may_raise_masses, may_raise_years}
 
--- the rules 21 to 23, in order: a part is too heavy, there are too many findings, a year is too heavy
-abbrev pub rules_of_sums : Lists → List (Option RuleFault)
-rules_of_sums t =
+-- the refusals 21 to 23, in order: a part is too heavy, there are too many findings, a year is too heavy
+abbrev pub refusals_of_sums : Lists → List (Option RuleFault)
+refusals_of_sums t =
     option_map TotalTooLarge (too_heavy_part t)
     ∷ refuse_if (has_too_many_findings t) FindingsFull
     ∷ option_map YearTooLarge (too_heavy_year t)

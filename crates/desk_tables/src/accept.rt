@@ -1,11 +1,11 @@
 ghost use Rattle.std.specs.Prelude.{◌≡◌, [], ◌∷◌, None, Ok, true, is_ok, Err, IfErr, IfOk, IfSome, OnErr, OnOk};
-ghost use Rattle.desk_model.specs.Effect.{made};
+ghost use Rattle.desk_model.specs.Effect.{with_edit_made};
 ghost use Rattle.desk_model.specs.Forms.{is_edit_in_form};
 ghost use Rattle.desk_history.specs.History.{PassesRows};
 ghost use Rattle.desk_history.specs.Refused.{closes_cycle, findings_full, first_some, refused_by_bill, refused_by_rows, total_too_large, year_too_large};
 ghost use Rattle.desk_history.specs.Sound.{Sound};
 ghost use Rattle.desk_history.specs.Step.{kept_number, step};
-ghost use Rattle.desk_tables.specs.Change.{changed};
+ghost use Rattle.desk_tables.specs.Change.{with_change_made};
 ghost use Rattle.desk_tables.specs.Judged.{IsRefusal, IsRowsPlan, answer_by};
 ghost use Rattle.desk_tables.specs.Plan.{IsPlan};
 ghost use Rattle.desk_tables.specs.PutLine.{cycle_with, with_line};
@@ -18,11 +18,11 @@ use desk_model::{Edit, LineRow, RuleFault};
 use desk_text::OutOfMemory;
 use std::alloc::Global;
 
-/// Judgement by all rules, and what it leads to.
+/// Judgement by all refusals, and what it leads to.
 impl Tables {
     /// Whether the edit would be accepted, or is kept already. Nothing changes.
     ///
-    /// `Rule`: the first rule that it breaks. `OutOfMemory`: none was left to judge it.
+    /// `Rule`: the first refusal that it meets. `OutOfMemory`: none was left to judge it.
     pub fn check(&self, alloc: Global, edit: &Edit) -> Result<(), EditFault>
         requires { Sound self.now.lists }
         ensures ok { OnOk result (is_ok (step self.now.lists edit.now).0 ≡ true) }
@@ -34,7 +34,7 @@ impl Tables {
 
     /// Takes the edit, and gives its number: the kept number of an edit that is kept, and else the next.
     ///
-    /// `Rule`: the first rule that it breaks. `OutOfMemory`: none was left to take it. After a refusal the tables are as they were.
+    /// `Rule`: the first refusal that it meets. `OutOfMemory`: none was left to take it. After a refusal the tables are as they were.
     pub fn accept(&mut self, alloc: Global, edit: Edit) -> Result<u64, EditFault>
         requires { Sound self.old.lists }
         ensures number { IfOk result (λ number. (step self.old.lists edit).0 ≡ Ok number) }
@@ -48,9 +48,9 @@ impl Tables {
         Ok(self.commit(plan))
     }
 
-    /// The plan of an edit that is kept, or that breaks no rule. Nothing changes.
+    /// The plan of an edit that is kept, or that meets no refusal. Nothing changes.
     ///
-    /// `Rule`: the first rule that it breaks. `OutOfMemory`: none was left for the plan.
+    /// `Rule`: the first refusal that it meets. `OutOfMemory`: none was left for the plan.
     #[tactic(auto, unfolding(crate::specs::Judged::IsRefusal))]
     pub fn prepare(&self, alloc: Global, edit: &Edit) -> Result<TablesPlan, EditFault>
         requires { Sound self.now.lists }
@@ -65,7 +65,7 @@ impl Tables {
         unless_refused(plan, fault)
     }
 
-    /// The first of the rules 20 to 23 that an edit with this plan breaks. Memory is wanting only for an edit that may raise a sum over
+    /// The first of the refusals 20 to 23 that an edit with this plan meets. Memory is wanting only for an edit that may raise a sum over
     /// whole tables.
     #[tactic(auto, unfolding(crate::specs::Judged::IsRowsPlan))]
     fn plan_fault(
@@ -86,7 +86,7 @@ impl Tables {
         }
     }
 
-    /// The first of the rules 20 to 23, on the whole bill, that a new edit breaks.
+    /// The first of the refusals 20 to 23, on the whole bill, that a new edit meets.
     #[tactic(auto, unfolding(desk_history::specs::Refused::refused_by_bill))]
     fn refused_by_bill(
         &self,
@@ -97,7 +97,7 @@ impl Tables {
         requires sound { Sound self.now.lists }
         requires new { kept_number self.now.lists edit.now ≡ None }
         requires unrefused { refused_by_rows self.now.lists edit.now ≡ None }
-        requires made { changed self.now.lists change.now ≡ made self.now.lists edit.now }
+        requires made { with_change_made self.now.lists change.now ≡ with_edit_made self.now.lists edit.now }
         requires sums { may_raise_sums edit.now ≡ true → is_of_sums change.now ≡ true }
         ensures fault { IfOk result (λ fault. fault ≡ refused_by_bill self.now.lists edit.now) }
         ensures memory { IfErr result (λ _. may_raise_sums edit.now ≡ true) }
@@ -109,7 +109,7 @@ impl Tables {
         }
     }
 
-    /// The first of the rules 20 to 23 that a new edit breaks that puts this line in. The links of the tables are made once: it
+    /// The first of the refusals 20 to 23 that a new edit meets that puts this line in. The links of the tables are made once: it
     /// takes a search or two for each line of the bill.
     #[tactic(auto, unfolding(desk_history::specs::Refused::refused_by_bill))]
     fn refused_by_line(
@@ -123,7 +123,7 @@ impl Tables {
         requires new { kept_number self.now.lists edit.now ≡ None }
         requires unrefused { refused_by_rows self.now.lists edit.now ≡ None }
         requires cycle { closes_cycle self.now.lists edit.now ≡ cycle_with self.now.lists line.now }
-        requires made { made self.now.lists edit.now ≡ with_line self.now.lists line.now }
+        requires made { with_edit_made self.now.lists edit.now ≡ with_line self.now.lists line.now }
         ensures { IfOk result (λ fault. fault ≡ refused_by_bill self.now.lists edit.now) }
     {
         let bill = self.lists().links(alloc)?;
@@ -133,7 +133,7 @@ impl Tables {
         }
     }
 
-    /// The first of the rules 21 to 23, on sums over the whole bill, that a new edit breaks.
+    /// The first of the refusals 21 to 23, on sums over the whole bill, that a new edit meets.
     fn refused_by_sums(
         &self,
         alloc: Global,
@@ -142,7 +142,7 @@ impl Tables {
     ) -> Result<Option<RuleFault>, OutOfMemory>
         requires sound { Sound self.now.lists }
         requires passes { PassesRows self.now.lists edit.now }
-        requires made { changed self.now.lists change.now ≡ made self.now.lists edit.now }
+        requires made { with_change_made self.now.lists change.now ≡ with_edit_made self.now.lists edit.now }
         requires sums { may_raise_sums edit.now ≡ true → is_of_sums change.now ≡ true }
         ensures fault { IfOk result (λ fault. fault ≡ first_some (
             total_too_large self.now.lists edit.now

@@ -2,7 +2,7 @@ ghost use Rattle.std.specs.Prelude.{◌≡◌, true, IfErr, IfOk, OnOk};
 ghost use Rattle.desk_findings.specs.Bill.{are_children_right, are_codes_apart, is_acyclic};
 ghost use Rattle.desk_tables.specs.Soundness.{NamesBreach};
 ghost use Rattle.desk_totals.specs.Cycles.{IsOnCycle};
-ghost use Rattle.desk_totals.specs.Linked.{IsBillOf};
+ghost use Rattle.desk_totals.specs.Linked.{IsLinkedOf};
 
 use crate::tested_row::fault_at;
 use crate::{SoundFault, Tables};
@@ -16,7 +16,7 @@ impl Tables {
     pub(crate) fn acyclic_bill(&self, alloc: Global) -> Result<Links, SoundFault>
         requires apart { are_codes_apart self.now.lists ≡ true }
         requires children { are_children_right self.now.lists ≡ true }
-        ensures bill { IfOk result (λ bill. IsBillOf bill self.now.lists) }
+        ensures bill { IfOk result (λ bill. IsLinkedOf bill self.now.lists) }
         ensures acyclic { OnOk result (is_acyclic self.now.lists ≡ true) }
         ensures told { IfErr result (NamesBreach self.now.lists) }
     {

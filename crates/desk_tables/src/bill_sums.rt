@@ -6,7 +6,7 @@ ghost use Rattle.desk_findings.specs.Reaches.{is_or_reaches};
 ghost use Rattle.desk_findings.specs.Totals.{too_heavy_part};
 ghost use Rattle.desk_history.specs.Sound.{IsConsistent};
 ghost use Rattle.desk_totals.specs.Fit.{fit};
-ghost use Rattle.desk_totals.specs.Linked.{IsBillOf};
+ghost use Rattle.desk_totals.specs.Linked.{IsLinkedOf};
 
 use crate::TableLists;
 use desk_text::{Code, OutOfMemory};
@@ -18,7 +18,7 @@ impl<'a> TableLists<'a> {
     /// The bill of materials by the places of its nodes. It takes up to two searches of a node for each line.
     pub fn links(&self, alloc: Global) -> Result<Links, OutOfMemory>
         requires { IsConsistent self.now }
-        ensures { IfOk result (λ bill. IsBillOf bill self.now) }
+        ensures { IfOk result (λ bill. IsLinkedOf bill self.now) }
     {
         self.linked(alloc)
     }
@@ -29,7 +29,7 @@ impl<'a> TableLists<'a> {
         requires ordered { IsOrdered self.now }
         requires apart { are_codes_apart self.now ≡ true }
         requires children { are_children_right self.now ≡ true }
-        ensures { IfOk result (λ bill. IsBillOf bill self.now) }
+        ensures { IfOk result (λ bill. IsLinkedOf bill self.now) }
     {
         let nodes = self.nodes(alloc)?;
         Links::new(alloc, nodes, self.materials().len(), self.lines())
@@ -44,7 +44,7 @@ impl<'a> TableLists<'a> {
         target: &Code,
     ) -> Result<bool, OutOfMemory>
         requires consistent { IsConsistent self.now }
-        requires bill { IsBillOf bill.now self.now }
+        requires bill { IsLinkedOf bill.now self.now }
         ensures { IfOk result (λ does. does ≡ is_or_reaches self.now part.now target.now) }
     {
         if part == target {
@@ -71,7 +71,7 @@ impl<'a> TableLists<'a> {
     /// and lines.
     pub fn masses(&self, alloc: Global, bill: &Links) -> Result<Vec<Option<u128>>, OutOfMemory>
         requires consistent { IsConsistent self.now }
-        requires bill { IsBillOf bill.now self.now }
+        requires bill { IsLinkedOf bill.now self.now }
         ensures { IfOk result (λ masses. masses.items ≡ map (λ part. fit (mass self.now part.code)) self.now.parts) }
     {
         let own = self.own_masses(alloc)?;

@@ -1,7 +1,7 @@
 ghost use Rattle.std.specs.Prelude.{◌≡◌, IfOk, true};
 ghost use Rattle.desk_text.specs.Code.{code_cmp};
 ghost use Rattle.desk_rows.specs.Rows.{with_rows};
-ghost use Rattle.desk_tables.specs.Change.{changed};
+ghost use Rattle.desk_tables.specs.Change.{with_change_made};
 ghost use Rattle.desk_tables.specs.Sums.{is_of_lines_or_shipments, is_of_sums, with_table};
 
 use crate::{RowChange, TableLists, Tables};
@@ -27,14 +27,14 @@ pub(crate) enum ChangedTable {
 
 impl Tables {
     /// A copy of the table that the change is of, with the change made. It takes a copy of each row of that table.
-    #[tactic(auto, unfolding(crate::specs::Change::changed))]
+    #[tactic(auto, unfolding(crate::specs::Change::with_change_made))]
     pub(crate) fn changed_table(
         &self,
         alloc: Global,
         change: &RowChange,
     ) -> Result<ChangedTable, OutOfMemory>
         requires { is_of_sums change.now ≡ true }
-        ensures { IfOk result (λ table. with_table self.now.lists table ≡ changed self.now.lists change.now) }
+        ensures { IfOk result (λ table. with_table self.now.lists table ≡ with_change_made self.now.lists change.now) }
     {
         match change {
             RowChange::PutMember { row, .. } => {
@@ -59,14 +59,14 @@ impl Tables {
     }
 
     /// The same for a change of lines or shipments.
-    #[tactic(auto, unfolding(crate::specs::Change::changed))]
+    #[tactic(auto, unfolding(crate::specs::Change::with_change_made))]
     fn changed_bill_table(
         &self,
         alloc: Global,
         change: &RowChange,
     ) -> Result<ChangedTable, OutOfMemory>
         requires { is_of_lines_or_shipments change.now ≡ true }
-        ensures { IfOk result (λ table. with_table self.now.lists table ≡ changed self.now.lists change.now) }
+        ensures { IfOk result (λ table. with_table self.now.lists table ≡ with_change_made self.now.lists change.now) }
     {
         match change {
             RowChange::PutLine { row, .. } => {

@@ -1,12 +1,12 @@
 ghost use Rattle.std.specs.Prelude.{◌≡◌, ◌+◌, IfOk, None, true};
 ghost use Rattle.desk_text.specs.Code.{code_cmp};
 ghost use Rattle.desk_rows.specs.Rows.{IsByKey, with_row};
-ghost use Rattle.desk_model.specs.Effect.{declared_row, declared_rows, made, with_factor, with_units};
+ghost use Rattle.desk_model.specs.Effect.{declared_row, declared_rows, with_edit_made, with_factor, with_units};
 ghost use Rattle.desk_model.specs.Forms.{is_of_bill};
 ghost use Rattle.desk_model.specs.Lists.{line_key, line_key_cmp};
 ghost use Rattle.desk_model.specs.declared.edit.Edit.TheVariants.{Declare};
 ghost use Rattle.desk_history.specs.Refused.{units_too_large};
-ghost use Rattle.desk_tables.specs.Change.{IsReady, changed};
+ghost use Rattle.desk_tables.specs.Change.{IsReady, with_change_made};
 ghost use Rattle.desk_tables.specs.Sums.{is_of_sums, may_raise_sums};
 
 use crate::refuse::year_number;
@@ -22,10 +22,10 @@ use std::alloc::Global;
 /// What edits make of the rows. Each of these calls answers `OutOfMemory` where none was left for the rows or for their room.
 impl Tables {
     /// What the edit makes of the rows of its table, with room for it. The year's units have to be in range.
-    #[tactic(auto, unfolding(desk_model::specs::Effect::made, crate::specs::Change::changed, crate::specs::Change::IsReady))]
+    #[tactic(auto, unfolding(desk_model::specs::Effect::with_edit_made, crate::specs::Change::with_change_made, crate::specs::Change::IsReady))]
     pub(crate) fn change_for(&self, alloc: Global, edit: &Edit) -> Result<RowChange, OutOfMemory>
         requires { units_too_large self.now.lists edit.now ≡ None }
-        ensures made { IfOk result (λ change. changed self.now.lists change ≡ made self.now.lists edit.now) }
+        ensures made { IfOk result (λ change. with_change_made self.now.lists change ≡ with_edit_made self.now.lists edit.now) }
         ensures ready { IfOk result (λ change. IsReady self.now change) }
         ensures sums { IfOk result (λ change. may_raise_sums edit.now ≡ true → is_of_sums change ≡ true) }
     {
@@ -51,11 +51,11 @@ impl Tables {
     }
 
     /// What an edit of a part, a line, a product or its shipments makes of the rows.
-    #[tactic(auto, unfolding(desk_model::specs::Effect::made, crate::specs::Change::changed, crate::specs::Change::IsReady, desk_history::specs::Refused::units_too_large))]
+    #[tactic(auto, unfolding(desk_model::specs::Effect::with_edit_made, crate::specs::Change::with_change_made, crate::specs::Change::IsReady, desk_history::specs::Refused::units_too_large))]
     fn bill_change(&self, alloc: Global, edit: &Edit) -> Result<RowChange, OutOfMemory>
         requires bill { is_of_bill edit.now ≡ true }
         requires units { units_too_large self.now.lists edit.now ≡ None }
-        ensures made { IfOk result (λ change. changed self.now.lists change ≡ made self.now.lists edit.now) }
+        ensures made { IfOk result (λ change. with_change_made self.now.lists change ≡ with_edit_made self.now.lists edit.now) }
         ensures ready { IfOk result (λ change. IsReady self.now change) }
         ensures sums { IfOk result (λ change. may_raise_sums edit.now ≡ true → is_of_sums change ≡ true) }
     {
@@ -102,7 +102,7 @@ impl Tables {
     }
 
     /// The substance goes in.
-    #[tactic(auto, unfolding(desk_model::specs::Effect::made, crate::specs::Change::changed, crate::specs::Change::IsReady))]
+    #[tactic(auto, unfolding(desk_model::specs::Effect::with_edit_made, crate::specs::Change::with_change_made, crate::specs::Change::IsReady))]
     fn put_substance(
         &self,
         alloc: Global,
@@ -110,7 +110,7 @@ impl Tables {
         name: &Name,
         cas: Option<Cas>,
     ) -> Result<RowChange, OutOfMemory>
-        ensures made { IfOk result (λ change. changed self.now.lists change
+        ensures made { IfOk result (λ change. with_change_made self.now.lists change
             ≡ record self.now.lists { substances = with_row (λ row. row.code) code_cmp (record { code = code; name = name.now; cas = cas }) self.now.lists.substances }) }
         ensures ready { IfOk result (λ change. IsReady self.now change) }
     {
@@ -121,7 +121,7 @@ impl Tables {
     }
 
     /// The rule counts the substance by this factor, and not at all where it is 0.
-    #[tactic(auto, unfolding(crate::specs::Change::changed, crate::specs::Change::IsReady))]
+    #[tactic(auto, unfolding(crate::specs::Change::with_change_made, crate::specs::Change::IsReady))]
     fn set_factor(
         &self,
         alloc: Global,
@@ -129,7 +129,7 @@ impl Tables {
         rule: Rule,
         factor: Factor,
     ) -> Result<RowChange, OutOfMemory>
-        ensures made { IfOk result (λ change. changed self.now.lists change ≡ with_factor self.now.lists substance rule factor) }
+        ensures made { IfOk result (λ change. with_change_made self.now.lists change ≡ with_factor self.now.lists substance rule factor) }
         ensures ready { IfOk result (λ change. IsReady self.now change) }
         ensures sums { IfOk result (λ change. is_of_sums change ≡ true) }
     {
@@ -147,13 +147,13 @@ impl Tables {
     }
 
     /// The materials of the declaration go in.
-    #[tactic(auto, unfolding(desk_model::specs::Effect::made, crate::specs::Change::changed, crate::specs::Change::IsReady))]
+    #[tactic(auto, unfolding(desk_model::specs::Effect::with_edit_made, crate::specs::Change::with_change_made, crate::specs::Change::IsReady))]
     fn put_materials(
         &self,
         alloc: Global,
         declaration: &Declaration,
     ) -> Result<RowChange, OutOfMemory>
-        ensures made { IfOk result (λ change. changed self.now.lists change ≡ made self.now.lists (Declare declaration.now)) }
+        ensures made { IfOk result (λ change. with_change_made self.now.lists change ≡ with_edit_made self.now.lists (Declare declaration.now)) }
         ensures ready { IfOk result (λ change. IsReady self.now change) }
         ensures sums { IfOk result (λ change. is_of_sums change ≡ true) }
     {
@@ -163,9 +163,9 @@ impl Tables {
     }
 
     /// The exemption row goes in.
-    #[tactic(auto, unfolding(desk_model::specs::Effect::made, crate::specs::Change::changed, crate::specs::Change::IsReady))]
+    #[tactic(auto, unfolding(desk_model::specs::Effect::with_edit_made, crate::specs::Change::with_change_made, crate::specs::Change::IsReady))]
     fn put_exemption(&self, alloc: Global, exemption: &Exemption) -> Result<RowChange, OutOfMemory>
-        ensures made { IfOk result (λ change. changed self.now.lists change
+        ensures made { IfOk result (λ change. with_change_made self.now.lists change
             ≡ record self.now.lists { exemptions = with_row (λ row. row.terms.row) code_cmp (exemption.now) self.now.lists.exemptions }) }
         ensures ready { IfOk result (λ change. IsReady self.now change) }
     {
@@ -178,14 +178,14 @@ impl Tables {
     }
 
     /// The candidate goes in.
-    #[tactic(auto, unfolding(desk_model::specs::Effect::made, crate::specs::Change::changed, crate::specs::Change::IsReady))]
+    #[tactic(auto, unfolding(desk_model::specs::Effect::with_edit_made, crate::specs::Change::with_change_made, crate::specs::Change::IsReady))]
     fn put_candidate(
         &self,
         alloc: Global,
         substance: Code,
         day: Day,
     ) -> Result<RowChange, OutOfMemory>
-        ensures made { IfOk result (λ change. changed self.now.lists change
+        ensures made { IfOk result (λ change. with_change_made self.now.lists change
             ≡ record self.now.lists { candidates = with_row (λ row. row.substance) code_cmp (record { substance = substance; day = day }) self.now.lists.candidates }) }
         ensures ready { IfOk result (λ change. IsReady self.now change) }
         ensures sums { IfOk result (λ change. is_of_sums change ≡ true) }
@@ -196,7 +196,7 @@ impl Tables {
     }
 
     /// The part goes in.
-    #[tactic(auto, unfolding(desk_model::specs::Effect::made, crate::specs::Change::changed, crate::specs::Change::IsReady))]
+    #[tactic(auto, unfolding(desk_model::specs::Effect::with_edit_made, crate::specs::Change::with_change_made, crate::specs::Change::IsReady))]
     fn put_part(
         &self,
         alloc: Global,
@@ -204,7 +204,7 @@ impl Tables {
         sort: PartSort,
         name: &Name,
     ) -> Result<RowChange, OutOfMemory>
-        ensures made { IfOk result (λ change. changed self.now.lists change
+        ensures made { IfOk result (λ change. with_change_made self.now.lists change
             ≡ record self.now.lists { parts = with_row (λ row. row.code) code_cmp (record { code = code; sort = sort; name = name.now }) self.now.lists.parts }) }
         ensures ready { IfOk result (λ change. IsReady self.now change) }
     {
@@ -215,7 +215,7 @@ impl Tables {
     }
 
     /// The line goes in.
-    #[tactic(auto, unfolding(desk_model::specs::Effect::made, crate::specs::Change::changed, crate::specs::Change::IsReady))]
+    #[tactic(auto, unfolding(desk_model::specs::Effect::with_edit_made, crate::specs::Change::with_change_made, crate::specs::Change::IsReady))]
     fn put_line(
         &self,
         alloc: Global,
@@ -223,7 +223,7 @@ impl Tables {
         child: Code,
         count: Count,
     ) -> Result<RowChange, OutOfMemory>
-        ensures made { IfOk result (λ change. changed self.now.lists change
+        ensures made { IfOk result (λ change. with_change_made self.now.lists change
             ≡ record self.now.lists { lines = with_row line_key line_key_cmp (record { parent = parent; child = child; count = count }) self.now.lists.lines }) }
         ensures ready { IfOk result (λ change. IsReady self.now change) }
         ensures sums { IfOk result (λ change. is_of_sums change ≡ true) }
@@ -238,9 +238,9 @@ impl Tables {
     }
 
     /// The product goes in.
-    #[tactic(auto, unfolding(desk_model::specs::Effect::made, crate::specs::Change::changed, crate::specs::Change::IsReady))]
+    #[tactic(auto, unfolding(desk_model::specs::Effect::with_edit_made, crate::specs::Change::with_change_made, crate::specs::Change::IsReady))]
     fn put_product(&self, alloc: Global, part: Code, kind: Kind) -> Result<RowChange, OutOfMemory>
-        ensures made { IfOk result (λ change. changed self.now.lists change
+        ensures made { IfOk result (λ change. with_change_made self.now.lists change
             ≡ record self.now.lists { products = with_row (λ row. row.part) code_cmp (record { part = part; kind = kind }) self.now.lists.products }) }
         ensures ready { IfOk result (λ change. IsReady self.now change) }
     {
@@ -250,7 +250,7 @@ impl Tables {
     }
 
     /// The year's entry of the product holds so many units, and is taken out where that is 0.
-    #[tactic(auto, unfolding(crate::specs::Change::changed, crate::specs::Change::IsReady))]
+    #[tactic(auto, unfolding(crate::specs::Change::with_change_made, crate::specs::Change::IsReady))]
     fn set_units(
         &self,
         alloc: Global,
@@ -258,7 +258,7 @@ impl Tables {
         product: Code,
         units: u64,
     ) -> Result<RowChange, OutOfMemory>
-        ensures made { IfOk result (λ change. changed self.now.lists change ≡ with_units self.now.lists year product units) }
+        ensures made { IfOk result (λ change. with_change_made self.now.lists change ≡ with_units self.now.lists year product units) }
         ensures ready { IfOk result (λ change. IsReady self.now change) }
         ensures sums { IfOk result (λ change. is_of_sums change ≡ true) }
     {

@@ -1,6 +1,6 @@
 ghost use Rattle.std.specs.Prelude.{◌≡◌, is_some, length, if◌then◌else◌};
 ghost use Rattle.desk_rows.specs.Rows.{IsByKey, row_of, with_row, with_rows, without_row};
-ghost use Rattle.desk_tables.specs.Change.{IsReady, changed};
+ghost use Rattle.desk_tables.specs.Change.{IsReady, with_change_made};
 ghost use Rattle.desk_tables.specs.Counts.{counts_of};
 
 use crate::{RowChange, Tables};
@@ -41,10 +41,10 @@ impl Tables {
     }
 
     /// How many rows each table has with the change made.
-    #[tactic(auto, unfolding(crate::specs::Change::changed, crate::specs::Change::IsReady))]
+    #[tactic(auto, unfolding(crate::specs::Change::with_change_made, crate::specs::Change::IsReady))]
     pub(crate) fn counts_with(&self, change: &RowChange) -> RowCounts
         requires { IsReady self.now change.now }
-        ensures { result ≡ counts_of (changed self.now.lists change.now) }
+        ensures { result ≡ counts_of (with_change_made self.now.lists change.now) }
     {
         let mut counts = self.counts();
         match change {

@@ -1,11 +1,11 @@
 ghost use Rattle.std.specs.Prelude.{◌≡◌, IfOk, IfSome, None, true};
-ghost use Rattle.desk_model.specs.Effect.{made};
+ghost use Rattle.desk_model.specs.Effect.{with_edit_made};
 ghost use Rattle.desk_model.specs.Lists.{Lists};
 ghost use Rattle.desk_history.specs.Refused.{closes_cycle};
 ghost use Rattle.desk_history.specs.Sound.{Sound};
 ghost use Rattle.desk_tables.specs.PutLine.{cycle_with, with_line};
 ghost use Rattle.desk_tables.specs.Sums.{may_raise_sums};
-ghost use Rattle.desk_totals.specs.Linked.{IsBillOf};
+ghost use Rattle.desk_totals.specs.Linked.{IsLinkedOf};
 
 use crate::Tables;
 use desk_model::{Edit, LineRow, RuleFault};
@@ -23,7 +23,7 @@ impl Tables {
         line: &LineRow,
     ) -> Result<Option<RuleFault>, OutOfMemory>
         requires sound { Sound self.now.lists }
-        requires bill { IsBillOf bill.now self.now.lists }
+        requires bill { IsLinkedOf bill.now self.now.lists }
         ensures { IfOk result (λ fault. fault ≡ cycle_with self.now.lists line.now) }
     {
         let (child, parent) = (&line.child, &line.parent);
@@ -37,11 +37,11 @@ impl Tables {
 }
 
 /// The line of an edit that puts one in.
-#[tactic(auto, unfolding(desk_history::specs::Refused::closes_cycle, desk_model::specs::Effect::made))]
+#[tactic(auto, unfolding(desk_history::specs::Refused::closes_cycle, desk_model::specs::Effect::with_edit_made))]
 pub(crate) fn line_of(edit: &Edit) -> Option<LineRow>
     ensures none { result ≡ None → (t : Lists) → closes_cycle t edit.now ≡ None }
     ensures cycle { IfSome result (λ line. (t : Lists) → closes_cycle t edit.now ≡ cycle_with t line) }
-    ensures made { IfSome result (λ line. (t : Lists) → made t edit.now ≡ with_line t line) }
+    ensures made { IfSome result (λ line. (t : Lists) → with_edit_made t edit.now ≡ with_line t line) }
     ensures raises { IfSome result (λ _. may_raise_sums edit.now ≡ true) }
 {
     match edit {

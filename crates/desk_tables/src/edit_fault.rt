@@ -9,7 +9,7 @@ use std::fmt;
 /// Why an edit isn't taken. The tables are as they were.
 #[derive(Debug, Drop)]
 pub enum EditFault {
-    /// It breaks a rule: the first that it breaks.
+    /// It is refused: the first refusal that it meets.
     Rule(RuleFault),
     /// There was no memory to judge it or to take it.
     OutOfMemory,

@@ -3,7 +3,7 @@ ghost use Rattle.desk_model.specs.declared.limits.TheConstants.{FINDING_LIMIT};
 ghost use Rattle.desk_findings.specs.Totals.{has_too_many_findings};
 ghost use Rattle.desk_history.specs.Sound.{IsConsistent};
 ghost use Rattle.desk_totals.specs.Fit.{fit};
-ghost use Rattle.desk_totals.specs.Linked.{IsBillOf};
+ghost use Rattle.desk_totals.specs.Linked.{IsLinkedOf};
 
 use crate::TableLists;
 use desk_model::limits::FINDING_LIMIT;
@@ -21,7 +21,7 @@ impl<'a> TableLists<'a> {
     /// there are rules and candidates. It takes a few passes over nodes and lines, and looks at no material.
     pub(crate) fn has_few_ways(&self, alloc: Global, bill: &Links) -> Result<bool, OutOfMemory>
         requires consistent { IsConsistent self.now }
-        requires bill { IsBillOf bill.now self.now }
+        requires bill { IsLinkedOf bill.now self.now }
         ensures { IfOk result (λ few. few ≡ true → has_too_many_findings self.now ≡ false) }
     {
         let own = vec![in alloc; 1; bill.nodes().len()]?;

@@ -9,7 +9,7 @@ ghost use Rattle.desk_findings.specs.Totals.{has_too_many_findings, too_heavy_pa
 ghost use Rattle.desk_history.specs.Sound.{IsConsistent};
 ghost use Rattle.desk_tables.specs.FindingCounts.{added_at, holders_among, own_of_material, own_of_part};
 ghost use Rattle.desk_totals.specs.Fit.{fit};
-ghost use Rattle.desk_totals.specs.Linked.{IsBillOf};
+ghost use Rattle.desk_totals.specs.Linked.{IsLinkedOf};
 
 use crate::TableLists;
 use desk_model::limits::FINDING_LIMIT;
@@ -32,7 +32,7 @@ impl<'a> TableLists<'a> {
         masses: &[Option<u128>],
     ) -> Result<bool, OutOfMemory>
         requires consistent { IsConsistent self.now }
-        requires bill { IsBillOf bill.now self.now }
+        requires bill { IsLinkedOf bill.now self.now }
         requires masses { masses.now ≡ map (λ part. fit (mass self.now part.code)) self.now.parts }
         requires light { too_heavy_part self.now ≡ None }
         ensures { IfOk result (λ many. many ≡ has_too_many_findings self.now) }

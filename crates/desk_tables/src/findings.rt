@@ -22,7 +22,7 @@ impl<'a> TableLists<'a> {
         requires few { length material.now.substances ≤ CONTENT_LIMIT }
         ensures { result ≡ length (rules_over self.now material.now) }
     {
-        self.over_among(material, &Rule::ALL)
+        self.over_among(material, &Rule::RESTRICTING)
     }
 
     /// Of how many of these rules the material is over the limit.

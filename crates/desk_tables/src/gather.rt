@@ -1,5 +1,6 @@
 ghost use Rattle.std.specs.Prelude.{◌≡◌, OnErr, OnOk, length, sum_by};
-ghost use Rattle.desk_tables.specs.Gathered.{no_rows, put_in};
+ghost use Rattle.desk_model.specs.PutRows.{put_in};
+ghost use Rattle.desk_tables.specs.Gathered.{no_rows};
 
 use crate::Tables;
 use desk_model::{

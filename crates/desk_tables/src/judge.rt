@@ -1,6 +1,6 @@
 ghost use Rattle.std.specs.Prelude.{◌≡◌};
 ghost use Rattle.desk_history.specs.Refused.{first_some};
-ghost use Rattle.desk_history.specs.Refused.{rules_of_names, rules_of_values};
+ghost use Rattle.desk_history.specs.Refused.{refusals_of_names, refusals_of_values};
 
 use crate::Tables;
 use crate::rules::{exemption_span, masses_exceed, outside_annex};
@@ -8,9 +8,9 @@ use desk_model::{Edit, RuleFault};
 
 /// The rules that look-ups decide, in their order.
 impl Tables {
-    /// The first of the rules 2 to 10, on the names in an edit, that the edit breaks.
+    /// The first of the refusals 2 to 10, on the names in an edit, that the edit meets.
     pub(crate) fn refused_by_names(&self, edit: &Edit) -> Option<RuleFault>
-        ensures { result ≡ first_some (rules_of_names self.now.lists edit.now) }
+        ensures { result ≡ first_some (refusals_of_names self.now.lists edit.now) }
     {
         if let Some(fault) = self.unknown_substance(edit) {
             return Some(fault);
@@ -39,9 +39,9 @@ impl Tables {
         self.no_such_line(edit)
     }
 
-    /// The first of the rules 11 to 17, on the values in an edit, that the edit breaks.
+    /// The first of the refusals 11 to 17, on the values in an edit, that the edit meets.
     pub(crate) fn refused_by_values(&self, edit: &Edit) -> Option<RuleFault>
-        ensures { result ≡ first_some (rules_of_values self.now.lists edit.now) }
+        ensures { result ≡ first_some (refusals_of_values self.now.lists edit.now) }
     {
         if let Some(fault) = self.foreign_material(edit) {
             return Some(fault);

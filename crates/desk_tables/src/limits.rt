@@ -6,9 +6,9 @@ ghost use Rattle.desk_model.specs.declared.rule_fault.RuleFault.TheVariants.{Tab
 ghost use Rattle.desk_history.specs.Limits.{has_too_many_lines, has_too_much_text, tables_over};
 ghost use Rattle.desk_history.specs.Refused.{first_of, refuse_if};
 ghost use Rattle.desk_history.specs.Sound.{Sound};
-ghost use Rattle.desk_tables.specs.Change.{IsReady, changed};
+ghost use Rattle.desk_tables.specs.Change.{IsReady, with_change_made};
 ghost use Rattle.desk_tables.specs.Counts.{counts_of};
-ghost use Rattle.desk_tables.specs.Plan.{entered_by};
+ghost use Rattle.desk_tables.specs.Plan.{with_change_entered};
 
 use crate::counts::{RowCounts, count_with};
 use crate::refuse::refuse_if;
@@ -22,13 +22,13 @@ use desk_model::{LineRow, RuleFault, TicketRow};
 use desk_rows::run_of;
 use desk_text::Code;
 
-/// The rules 18 and 19, on the limits of tables and texts.
+/// The refusals 18 and 19, on the limits of tables and texts.
 impl Tables {
     /// 18: a table would exceed its limit, the first of the ten, or else one parent's lines.
     pub(crate) fn table_full(&self, change: &RowChange, ticket: &TicketRow) -> Option<RuleFault>
         requires sound { Sound self.now.lists }
         requires ready { IsReady self.now change.now }
-        ensures { result ≡ option_map TableFull (first_of (tables_over (entered_by self.now.lists change.now ticket.now))) }
+        ensures { result ≡ option_map TableFull (first_of (tables_over (with_change_entered self.now.lists change.now ticket.now))) }
     {
         let mut counts = self.counts_with(change);
         counts.tickets = count_with(self.tickets.as_slice(), ticket);
@@ -39,10 +39,10 @@ impl Tables {
     }
 
     /// Whether some part has more lines than one parent may have, with the change made.
-    #[tactic(auto, unfolding(crate::specs::Change::changed))]
+    #[tactic(auto, unfolding(crate::specs::Change::with_change_made))]
     fn has_too_many_lines_with(&self, change: &RowChange) -> bool
         requires { Sound self.now.lists }
-        ensures { result ≡ has_too_many_lines (changed self.now.lists change.now) }
+        ensures { result ≡ has_too_many_lines (with_change_made self.now.lists change.now) }
     {
         match change {
             RowChange::PutLine { row, .. } => {
@@ -70,7 +70,7 @@ impl Tables {
     pub(crate) fn text_full(&self, change: &RowChange, ticket: &TicketRow) -> Option<RuleFault>
         requires sound { Sound self.now.lists }
         requires new { ticket_row self.now.lists ticket.now.code ≡ None }
-        ensures { result ≡ refuse_if (has_too_much_text (entered_by self.now.lists change.now ticket.now)) TextFull }
+        ensures { result ≡ refuse_if (has_too_much_text (with_change_entered self.now.lists change.now ticket.now)) TextFull }
     {
         let text = self.text + ticket.text.len() as u128;
         refuse_if(text > TEXT_LIMIT as u128, RuleFault::TextFull)

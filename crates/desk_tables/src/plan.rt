@@ -4,8 +4,8 @@ ghost use Rattle.desk_rows.specs.Held.{IsRoomFor};
 ghost use Rattle.desk_rows.specs.Rows.{with_row};
 ghost use Rattle.desk_model.specs.Lists.{ticket_row};
 ghost use Rattle.desk_history.specs.Limits.{has_too_much_text};
-ghost use Rattle.desk_tables.specs.Change.{IsReady, changed, held};
-ghost use Rattle.desk_tables.specs.Plan.{CanCommit, plan_number, planned};
+ghost use Rattle.desk_tables.specs.Change.{IsReady, with_change_made, rows_with_room};
+ghost use Rattle.desk_tables.specs.Plan.{CanCommit, plan_number, tables_planned};
 
 use crate::{RowChange, Tables};
 use desk_model::TicketRow;
@@ -19,7 +19,7 @@ pub enum TablesPlan {
         /// The edit's number.
         number: u64,
     },
-    /// The edit is new and breaks no rule.
+    /// The edit is new and meets no refusal.
     New {
         /// What it makes of the rows.
         change: RowChange,
@@ -46,11 +46,11 @@ impl TablesPlan {
 impl Tables {
     /// Carries out the plan, which was prepared at these tables as they stand, and gives the edit's number. It can't be refused and
     /// takes no memory.
-    #[tactic(auto, unfolding(crate::specs::Plan::planned, crate::specs::Plan::plan_number, crate::specs::Plan::CanCommit))]
+    #[tactic(auto, unfolding(crate::specs::Plan::tables_planned, crate::specs::Plan::plan_number, crate::specs::Plan::CanCommit))]
     pub fn commit(&mut self, plan: TablesPlan) -> u64
         requires { CanCommit self.old plan }
         ensures number { result ≡ plan_number plan }
-        ensures lists { self.new.lists ≡ planned self.old.lists plan }
+        ensures lists { self.new.lists ≡ tables_planned self.old.lists plan }
     {
         match plan {
             TablesPlan::Kept { number } => number,
@@ -68,10 +68,10 @@ impl Tables {
     }
 
     /// Makes the change of the rows.
-    #[tactic(auto, unfolding(crate::specs::Change::changed, crate::specs::Change::IsReady))]
+    #[tactic(auto, unfolding(crate::specs::Change::with_change_made, crate::specs::Change::IsReady))]
     fn make(&mut self, change: RowChange)
         requires { IsReady self.old change }
-        ensures lists { self.new.lists ≡ changed self.old.lists change }
+        ensures lists { self.new.lists ≡ with_change_made self.old.lists change }
         ensures tickets { self.new.rooms.tickets ≡ self.old.rooms.tickets }
     {
         match change {
@@ -103,7 +103,7 @@ impl Tables {
 
     /// Enters a ticket that isn't kept.
     fn enter(&mut self, ticket: TicketRow, room: Room<TicketRow>)
-        requires room { IsRoomFor 1 (held self.old.lists.tickets self.old.rooms.tickets) room }
+        requires room { IsRoomFor 1 (rows_with_room self.old.lists.tickets self.old.rooms.tickets) room }
         requires new { ticket_row self.old.lists ticket.code ≡ None }
         requires fits { has_too_much_text (record self.old.lists { tickets = with_row (λ row. row.code) code_cmp ticket self.old.lists.tickets }) ≡ false }
         ensures { self.new.lists ≡ record self.old.lists { tickets = with_row (λ row. row.code) code_cmp ticket self.old.lists.tickets } }

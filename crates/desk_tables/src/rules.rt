@@ -9,7 +9,7 @@ use crate::terms::{breaks_annex, breaks_span};
 use desk_model::limits::UNITS_LIMIT;
 use desk_model::{Edit, RuleFault};
 
-/// The rules 2 to 17, which look-ups of a few rows decide: each tells its fault where the edit breaks it.
+/// The refusals 2 to 17, which look-ups of a few rows decide: each tells its fault where the edit meets it.
 impl Tables {
     /// 2: member or candidate names a substance that isn't kept, or a declared material lists one.
     #[tactic(auto, unfolding(desk_history::specs::Refused::unknown_substance))]

@@ -49,8 +49,8 @@ fn base_tables(alloc: Global) -> Result<Tables, OutOfMemory>
 fn base_substances(alloc: Global) -> Result<Table<SubstanceRow>, OutOfMemory>
     ensures { IfOk result (λ table. table.rows ≡ map base_substance rules_by_code) }
 {
-    let mut rows = Vec::with_capacity(alloc, Rule::ALL.len())?;
-    for rule in Rule::ALL {
+    let mut rows = Vec::with_capacity(alloc, Rule::BASE.len())?;
+    for rule in Rule::BASE {
         rows.push_reserved(base_substance(alloc, rule)?);
     }
     let mut table = Table::new(alloc);
@@ -62,8 +62,8 @@ fn base_substances(alloc: Global) -> Result<Table<SubstanceRow>, OutOfMemory>
 fn base_members(alloc: Global) -> Result<Table<MemberRow>, OutOfMemory>
     ensures { IfOk result (λ table. table.rows ≡ map base_member rules_by_code) }
 {
-    let mut rows = Vec::with_capacity(alloc, Rule::ALL.len())?;
-    for rule in Rule::ALL {
+    let mut rows = Vec::with_capacity(alloc, Rule::BASE.len())?;
+    for rule in Rule::BASE {
         rows.push_reserved(base_member(rule));
     }
     let mut table = Table::new(alloc);

@@ -1,10 +1,10 @@
 ghost use Rattle.std.specs.Prelude.{◌≡◌, true, IfOk};
 ghost use Rattle.desk_history.specs.Refused.{first_some};
 ghost use Rattle.desk_history.specs.Sound.{IsConsistent};
-ghost use Rattle.desk_tables.specs.Change.{changed};
+ghost use Rattle.desk_tables.specs.Change.{with_change_made};
 ghost use Rattle.desk_tables.specs.PutLine.{with_line};
-ghost use Rattle.desk_tables.specs.Sums.{is_of_sums, may_raise_sums, rules_of_sums};
-ghost use Rattle.desk_totals.specs.Linked.{IsBillOf};
+ghost use Rattle.desk_tables.specs.Sums.{is_of_sums, may_raise_sums, refusals_of_sums};
+ghost use Rattle.desk_totals.specs.Linked.{IsLinkedOf};
 
 use crate::{RowChange, TableLists, Tables};
 use desk_model::{Edit, LineRow, RuleFault};
@@ -14,15 +14,15 @@ use desk_totals::Links;
 use std::alloc::Global;
 
 impl<'a> TableLists<'a> {
-    /// The first of the rules 21 to 23 that the lists break, over a bill that is theirs.
+    /// The first of the refusals 21 to 23 that the lists meet, over a bill that is theirs.
     pub(crate) fn sums_fault(
         &self,
         alloc: Global,
         bill: &Links,
     ) -> Result<Option<RuleFault>, OutOfMemory>
         requires consistent { IsConsistent self.now }
-        requires bill { IsBillOf bill.now self.now }
-        ensures { IfOk result (λ fault. fault ≡ first_some (rules_of_sums self.now)) }
+        requires bill { IsLinkedOf bill.now self.now }
+        ensures { IfOk result (λ fault. fault ≡ first_some (refusals_of_sums self.now)) }
     {
         let masses = self.masses(alloc, bill)?;
         if let Some(part) = self.too_heavy_part(masses.as_slice()) {
@@ -39,15 +39,15 @@ impl<'a> TableLists<'a> {
 }
 
 impl Tables {
-    /// The first of the rules 21 to 23 that the tables break with the change made.
+    /// The first of the refusals 21 to 23 that the tables meet with the change made.
     pub(crate) fn sums_fault_with(
         &self,
         alloc: Global,
         change: &RowChange,
     ) -> Result<Option<RuleFault>, OutOfMemory>
-        requires consistent { IsConsistent (changed self.now.lists change.now) }
+        requires consistent { IsConsistent (with_change_made self.now.lists change.now) }
         requires sums { is_of_sums change.now ≡ true }
-        ensures { IfOk result (λ fault. fault ≡ first_some (rules_of_sums (changed self.now.lists change.now))) }
+        ensures { IfOk result (λ fault. fault ≡ first_some (refusals_of_sums (with_change_made self.now.lists change.now))) }
     {
         let table = self.changed_table(alloc, change)?;
         let lists = self.lists_with(&table);
@@ -55,16 +55,16 @@ impl Tables {
         lists.sums_fault(alloc, &bill)
     }
 
-    /// The first of the rules 21 to 23 that the tables break with the line put in, where the bill is theirs without it.
+    /// The first of the refusals 21 to 23 that the tables meet with the line put in, where the bill is theirs without it.
     pub(crate) fn sums_fault_with_line(
         &self,
         alloc: Global,
         bill: Links,
         line: &LineRow,
     ) -> Result<Option<RuleFault>, OutOfMemory>
-        requires bill { IsBillOf bill self.now.lists }
+        requires bill { IsLinkedOf bill self.now.lists }
         requires consistent { IsConsistent (with_line self.now.lists line.now) }
-        ensures { IfOk result (λ fault. fault ≡ first_some (rules_of_sums (with_line self.now.lists line.now))) }
+        ensures { IfOk result (λ fault. fault ≡ first_some (refusals_of_sums (with_line self.now.lists line.now))) }
     {
         let bill = self.bill_with_line(alloc, bill, line)?;
         let lines = self.lines.copied_with(alloc, *line)?;
@@ -80,9 +80,9 @@ impl Tables {
         bill: Links,
         line: &LineRow,
     ) -> Result<Links, OutOfMemory>
-        requires bill { IsBillOf bill self.now.lists }
+        requires bill { IsLinkedOf bill self.now.lists }
         requires consistent { IsConsistent (with_line self.now.lists line.now) }
-        ensures { IfOk result (λ bill. IsBillOf bill (with_line self.now.lists line.now)) }
+        ensures { IfOk result (λ bill. IsLinkedOf bill (with_line self.now.lists line.now)) }
     {
         self.in_order();
         match place_of_row(self.lines(), line) {

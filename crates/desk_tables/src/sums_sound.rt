@@ -8,7 +8,7 @@ ghost use Rattle.desk_findings.specs.Totals.{has_too_many_findings, too_heavy_pa
 ghost use Rattle.desk_history.specs.Sound.{IsConsistent, KeepsSums};
 ghost use Rattle.desk_tables.specs.Soundness.{IsNaming, NamesBreach};
 ghost use Rattle.desk_totals.specs.Fit.{fit};
-ghost use Rattle.desk_totals.specs.Linked.{IsBillOf};
+ghost use Rattle.desk_totals.specs.Linked.{IsLinkedOf};
 
 use crate::tested_row::fault_at;
 use crate::tested_rows::code_text;
@@ -26,7 +26,7 @@ impl Tables {
     /// findings of their own, a few more.
     pub(crate) fn test_sums(&self, alloc: Global, bill: &Links) -> Result<(), SoundFault>
         requires consistent { IsConsistent self.now.lists }
-        requires bill { IsBillOf bill.now self.now.lists }
+        requires bill { IsLinkedOf bill.now self.now.lists }
         ensures kept { OnOk result (KeepsSums self.now.lists) }
         ensures told { IfErr result (NamesBreach self.now.lists) }
     {
@@ -66,7 +66,7 @@ impl<'a> TableLists<'a> {
         masses: &[Option<u128>],
     ) -> Result<Option<Code>, OutOfMemory>
         requires consistent { IsConsistent self.now }
-        requires bill { IsBillOf bill.now self.now }
+        requires bill { IsLinkedOf bill.now self.now }
         requires masses { masses.now ≡ map (λ part. fit (mass self.now part.code)) self.now.parts }
         requires light { too_heavy_part self.now ≡ None }
         ensures { IfOk result (λ part. MatchOption part

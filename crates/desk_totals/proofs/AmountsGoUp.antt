@@ -13,14 +13,14 @@ use Rattle.desk_totals.proofs.Fits.{fit-below, fits_lines}
 use Rattle.desk_totals.proofs.Scatter.{map-value_of, value_of-map}
 use Rattle.desk_totals.proofs.Settle.{settled_right}
 use Rattle.desk_totals.specs.Fit.{fit, fit_with}
-use Rattle.desk_totals.specs.Linked.{IsBillOf, Linked, are_distinct, is_among}
+use Rattle.desk_totals.specs.Linked.{IsLinkedOf, Linked, are_codes_distinct, is_among}
 use Rattle.desk_totals.specs.Rounds.{IsSettled, value_of, with_lines}
 
 map_map : (amount : List ℕ → ℕ) (codes : List (List ℕ)) → map Some (map amount codes) ≡ map (λ code. Some (amount code)) codes
 map_map amount [] = refl
 map_map amount (code ∷ codes) = ap (λ l. Some (amount code) ∷ l) (map_map amount codes)
 
-module _ (t : Lists) (is_bill : IsBill t) (bill : Linked) (of : IsBillOf bill t) (distinct : are_distinct bill.nodes ≡ true) (children : AllByRecursion (λ line. is_among line.child bill.nodes ≡ true) t.lines) where
+module _ (t : Lists) (is_bill : IsBill t) (bill : Linked) (of : IsLinkedOf bill t) (distinct : are_codes_distinct bill.nodes ≡ true) (children : AllByRecursion (λ line. is_among line.child bill.nodes ≡ true) t.lines) where
   small_at : (own : List ℕ) → ((i : ℕ) → get_or own i 0 < 2 ^ 128) → (amount : List ℕ → ℕ) → own ≡ map amount bill.nodes → (code : List ℕ) → is_among code bill.nodes ≡ true → amount code < 2 ^ 128
   small_at own small amount its_own code there =
       let found = place_of_among bill.nodes code there in

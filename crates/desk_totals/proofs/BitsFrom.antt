@@ -11,12 +11,12 @@ use Rattle.desk_totals.proofs.CountsGoUp.{same_place}
 use Rattle.desk_totals.proofs.Distinct.{among_at, place_of_among}
 use Rattle.desk_totals.proofs.Scatter.{value_of-at}
 use Rattle.desk_totals.proofs.Settle.{settled-length}
-use Rattle.desk_totals.specs.Linked.{IsBillOf, Linked, are_distinct, is_among}
+use Rattle.desk_totals.specs.Linked.{IsLinkedOf, Linked, are_codes_distinct, is_among}
 use Rattle.desk_totals.specs.Marks.{has_bit, with_bits}
 use Rattle.desk_totals.specs.Places.{node_at}
 use Rattle.desk_totals.specs.Rounds.{IsSettled, value_of}
 
-module _ (t : Lists) (is_bill : IsBill t) (bill : Linked) (of : IsBillOf bill t) (distinct : are_distinct bill.nodes ≡ true) (children : AllByRecursion (λ line. is_among line.child bill.nodes ≡ true) t.lines)
+module _ (t : Lists) (is_bill : IsBill t) (bill : Linked) (of : IsLinkedOf bill t) (distinct : are_codes_distinct bill.nodes ≡ true) (children : AllByRecursion (λ line. is_among line.child bill.nodes ≡ true) t.lines)
     (own bits : List ℕ) (own_size : length own ≡ length bill.nodes) (settled : IsSettled with_bits 0 bill own bits)
     (bit place : ℕ) (within : place < length bill.nodes)
     (own_at : (node : ℕ) → node < length bill.nodes → has_bit bit (get_or own node 0) ≡ (place == node))

@@ -16,7 +16,7 @@ use Rattle.desk_findings.proofs.Bill.{has_parents, lines_of-none, not_itself, re
 use Rattle.desk_totals.proofs.Distinct.{each_among, map_same}
 use Rattle.desk_totals.proofs.Scatter.{value_of-map}
 use Rattle.desk_totals.proofs.Settle.{settled_right}
-use Rattle.desk_totals.specs.Linked.{IsBillOf, Linked, is_among}
+use Rattle.desk_totals.specs.Linked.{IsLinkedOf, Linked, is_among}
 use Rattle.desk_totals.specs.Marks.{has_bit, with_bits}
 use Rattle.desk_totals.specs.Rounds.{IsSettled, value_of, with_lines}
 
@@ -59,7 +59,7 @@ pub lowest_own : (nodes : List (List ℕ)) (own target : List ℕ) → own ≡ m
 lowest_own nodes own target its_own code there =
     ap (λ list. has_bit 0 (value_of 0 nodes list code)) its_own ∙ ap (has_bit 0) (value_of-map 0 (λ c. if same_code c target then 1 else 0) nodes code there) ∙ lowest (same_code code target)
 
-module _ (t : Lists) (is_bill : IsBill t) (bill : Linked) (of : IsBillOf bill t) (children : AllByRecursion (λ line. is_among line.child bill.nodes ≡ true) t.lines) where
+module _ (t : Lists) (is_bill : IsBill t) (bill : Linked) (of : IsLinkedOf bill t) (children : AllByRecursion (λ line. is_among line.child bill.nodes ≡ true) t.lines) where
   pub bits_right : (own bits : List ℕ) → IsSettled with_bits 0 bill own bits → (bit : ℕ) (target : List ℕ) → ((code : List ℕ) → is_among code bill.nodes ≡ true → has_bit bit (value_of 0 bill.nodes own code) ≡ same_code code target) →
       (code : List ℕ) → is_among code bill.nodes ≡ true → has_bit bit (value_of 0 bill.nodes bits code) ≡ is_or_reaches t code target
   bits_right own bits settled bit target its_own =

@@ -15,20 +15,20 @@ use Rattle.desk_totals.proofs.BitsGoUp.{bits_right, reaches_only}
 use Rattle.desk_totals.proofs.Distinct.{among_at, each_at, later_distinct, others, place_of_among}
 use Rattle.desk_totals.proofs.Scatter.{value_of-at}
 use Rattle.desk_totals.proofs.Settle.{settled-length}
-use Rattle.desk_totals.specs.Linked.{IsBillOf, Linked, are_distinct, is_among}
+use Rattle.desk_totals.specs.Linked.{IsLinkedOf, Linked, are_codes_distinct, is_among}
 use Rattle.desk_totals.specs.Marks.{has_bit, reach_count, with_bits}
 use Rattle.desk_totals.specs.Places.{node_at}
 use Rattle.desk_totals.specs.Rounds.{IsSettled, value_of}
 
 -- nodes at two places are the same where the places are
-apart_at : (nodes : List (List ℕ)) (i j : ℕ) → are_distinct nodes ≡ true → i < length nodes → j < length nodes → (i ≡ j → ⊥) → same_code (node_at nodes i) (node_at nodes j) ≡ false
+apart_at : (nodes : List (List ℕ)) (i j : ℕ) → are_codes_distinct nodes ≡ true → i < length nodes → j < length nodes → (i ≡ j → ⊥) → same_code (node_at nodes i) (node_at nodes j) ≡ false
 apart_at [] i j e h k other = absurd (omega (arith, h))
 apart_at (node ∷ nodes) zero zero e h k other = absurd (other refl)
 apart_at (node ∷ nodes) zero (suc j) e h k other = each_at (λ later. same_code node later ≡ false) nodes j (omega (arith, k)) (others node nodes e)
 apart_at (node ∷ nodes) (suc i) zero e h k other = same_code_back (node_at nodes i) node ∙ each_at (λ later. same_code node later ≡ false) nodes i (omega (arith, h)) (others node nodes e)
 apart_at (node ∷ nodes) (suc i) (suc j) e h k other = apart_at nodes i j (later_distinct node nodes e) (omega (arith, h)) (omega (arith, k)) (λ same. other (ap suc same))
 
-pub same_place : (nodes : List (List ℕ)) (i j : ℕ) → are_distinct nodes ≡ true → i < length nodes → j < length nodes → (j == i) ≡ same_code (node_at nodes i) (node_at nodes j)
+pub same_place : (nodes : List (List ℕ)) (i j : ℕ) → are_codes_distinct nodes ≡ true → i < length nodes → j < length nodes → (j == i) ≡ same_code (node_at nodes i) (node_at nodes j)
 same_place nodes i j e h k =
     elim (cases_eq i j) [
       | inl same ↦ ap (λ p. j == p) same ∙ eq-eqb j j refl ∙ sym (ap (λ p. same_code (node_at nodes p) (node_at nodes j)) same ∙ same_code_itself (node_at nodes j))
@@ -39,7 +39,7 @@ count_by-map : {X Y : Type 0} (p : Y → Bool) (f : X → Y) (xs : List X) → c
 count_by-map p f [] = refl
 count_by-map p f (x ∷ xs) = count_by-cons p (f x) (map f xs) ∙ ap (λ n. cond (p (f x)) 1 0 + n) (count_by-map p f xs) ∙ sym (count_by-cons (λ y. p (f y)) x xs)
 
-module _ (t : Lists) (is_bill : IsBill t) (bill : Linked) (of : IsBillOf bill t) (distinct : are_distinct bill.nodes ≡ true) (children : AllByRecursion (λ line. is_among line.child bill.nodes ≡ true) t.lines)
+module _ (t : Lists) (is_bill : IsBill t) (bill : Linked) (of : IsLinkedOf bill t) (distinct : are_codes_distinct bill.nodes ≡ true) (children : AllByRecursion (λ line. is_among line.child bill.nodes ≡ true) t.lines)
     (own bits cleared : List ℕ) (own_size : length own ≡ length bill.nodes) (settled : IsSettled with_bits 0 bill own bits) (cleared_size : length cleared ≡ length bits)
     (bit place : ℕ) (within : place < length bill.nodes)
     (own_at : (node : ℕ) → node < length bill.nodes → has_bit bit (get_or own node 0) ≡ (place == node))

@@ -22,7 +22,7 @@ use Rattle.desk_totals.proofs.Scatter.{value_of-at, value_of-map}
 use Rattle.desk_totals.proofs.Settle.{parts-le}
 use Rattle.desk_totals.specs.declared.link.Link.{Link}
 use Rattle.desk_totals.specs.Cycles.{IsOnCycle}
-use Rattle.desk_totals.specs.Linked.{IsBillOf, Linked, are_distinct, is_among}
+use Rattle.desk_totals.specs.Linked.{IsLinkedOf, Linked, are_codes_distinct, is_among}
 use Rattle.desk_totals.specs.Marks.{has_bit, with_bits}
 use Rattle.desk_totals.specs.Places.{ArePlaces, line_at, node_at}
 use Rattle.desk_totals.specs.Rounds.{round, rounds, value_of, with_lines}
@@ -63,7 +63,7 @@ module _ (t : Lists) (height : List ℕ → ℕ) (falls : AllByRecursion (λ lin
       t.parts)
 
 -- heights of places that fall along each link
-pub acyclic_by_heights : (t : Lists) (bill : Linked) → IsBillOf bill t → are_distinct bill.nodes ≡ true → (links : List Link) → bill.lines ≡ map (line_at bill.nodes) links → ArePlaces (length bill.nodes) links → (heights : List ℕ) → length heights ≡ length bill.nodes →
+pub acyclic_by_heights : (t : Lists) (bill : Linked) → IsLinkedOf bill t → are_codes_distinct bill.nodes ≡ true → (links : List Link) → bill.lines ≡ map (line_at bill.nodes) links → ArePlaces (length bill.nodes) links → (heights : List ℕ) → length heights ≡ length bill.nodes →
     list_all (λ link. nat_lt (get_or heights link.child 0) (get_or heights link.parent 0)) links ≡ true → is_acyclic t ≡ true
 acyclic_by_heights t bill of distinct links lines places heights size e =
     acyclic_where_falls t (value_of 0 bill.nodes heights)
@@ -82,7 +82,7 @@ acyclic_by_heights t bill of distinct links lines places heights size e =
     (each_from_all (λ link. nat_lt (get_or heights link.child 0) (get_or heights link.parent 0)) links e)))))
 
 -- the materials stand before the parts
-part_place : (t : Lists) (bill : Linked) → IsBillOf bill t → (i : ℕ) → node_at bill.nodes (bill.material_count + i) ≡ node_at (map (λ row. row.code) t.parts) i
+part_place : (t : Lists) (bill : Linked) → IsLinkedOf bill t → (i : ℕ) → node_at bill.nodes (bill.material_count + i) ≡ node_at (map (λ row. row.code) t.parts) i
 part_place t bill of i =
     ap (λ nodes. node_at nodes (bill.material_count + i)) of.nodes
     ∙ ap (λ n. node_at (map (λ row. row.code) t.materials ++ map (λ row. row.code) t.parts) (n + i)) (of.material_count ∙ sym (length-map t.materials (λ row. row.code)))
@@ -93,7 +93,7 @@ each_from_at P [] f = tt
 each_from_at P (code ∷ codes) f = (f 0 (omega arith), each_from_at P codes (λ i h. f (suc i) (omega (arith, h))))
 
 -- a bill is acyclic where none of these reaches itself
-pub acyclic_by_parts : (t : Lists) (bill : Linked) → IsBillOf bill t → ((place : ℕ) → bill.material_count ≤ place → place < length bill.nodes → reaches t (node_at bill.nodes place) (node_at bill.nodes place) ≡ false) → is_acyclic t ≡ true
+pub acyclic_by_parts : (t : Lists) (bill : Linked) → IsLinkedOf bill t → ((place : ℕ) → bill.material_count ≤ place → place < length bill.nodes → reaches t (node_at bill.nodes place) (node_at bill.nodes place) ≡ false) → is_acyclic t ≡ true
 acyclic_by_parts t bill of none =
     all_from_each (λ part. not (reaches t part.code part.code)) t.parts
     (each_in_map (λ code. not (reaches t code code) ≡ true) (λ row. row.code) t.parts
@@ -104,7 +104,7 @@ acyclic_by_parts t bill of none =
     subst (λ code. not (reaches t code code) ≡ true) (part_place t bill of i)
     (not_from_false (reaches t (node_at bill.nodes (bill.material_count + i)) (node_at bill.nodes (bill.material_count + i))) (none (bill.material_count + i) (omega arith) within)))))
 
-module _ (t : Lists) (bill : Linked) (of : IsBillOf bill t) (children : AllByRecursion (λ line. is_among line.child bill.nodes ≡ true) t.lines) (own target : List ℕ)
+module _ (t : Lists) (bill : Linked) (of : IsLinkedOf bill t) (children : AllByRecursion (λ line. is_among line.child bill.nodes ≡ true) t.lines) (own target : List ℕ)
     (its_own : (code : List ℕ) → is_among code bill.nodes ≡ true → has_bit 0 (value_of 0 bill.nodes own code) ≡ same_code code target)
   where
     after : ℕ → List ℕ
@@ -127,7 +127,7 @@ module _ (t : Lists) (bill : Linked) (of : IsBillOf bill t) (children : AllByRec
     child_lines : (part : List ℕ) → AllByRecursion (λ line. (is_among line.child bill.nodes ≡ true) × (same_code line.parent part ≡ true)) (lines_of t.lines part)
     child_lines part = each_filter (λ line. is_among line.child bill.nodes ≡ true) (λ line. same_code line.parent part) t.lines children
 
-    blank_at : (code : List ℕ) → is_among code bill.nodes ≡ true → are_distinct bill.nodes ≡ true → has_bit 0 (value_of 0 bill.nodes (after zero) code) ≡ false
+    blank_at : (code : List ℕ) → is_among code bill.nodes ≡ true → are_codes_distinct bill.nodes ≡ true → has_bit 0 (value_of 0 bill.nodes (after zero) code) ≡ false
     unfolding rounds after
     blank_at code there distinct =
         let found = place_of_among bill.nodes code there in
@@ -135,7 +135,7 @@ module _ (t : Lists) (bill : Linked) (of : IsBillOf bill t) (children : AllByRec
         ∙ ap (has_bit 0) (value_of-at 0 bill.nodes (replicate (length bill.nodes) 0) found.0 distinct found.1 (length-replicate (length bill.nodes) 0) ∙ get_or-replicate (length bill.nodes) found.0 0 0 found.1)
 
     -- rounds from blank bits follow the lines so deep
-    blank_right : are_distinct bill.nodes ≡ true → (k : ℕ) (code : List ℕ) → is_among code bill.nodes ≡ true → has_bit 0 (value_of 0 bill.nodes (after (suc k)) code) ≡ (same_code code target || reaches_within t.lines k code target)
+    blank_right : are_codes_distinct bill.nodes ≡ true → (k : ℕ) (code : List ℕ) → is_among code bill.nodes ≡ true → has_bit 0 (value_of 0 bill.nodes (after (suc k)) code) ≡ (same_code code target || reaches_within t.lines k code target)
     blank_right distinct zero code there =
         ap (λ values. has_bit 0 (value_of 0 bill.nodes values code)) (after-suc zero)
         ∙ round-at (after zero) code there
@@ -152,7 +152,7 @@ module _ (t : Lists) (bill : Linked) (of : IsBillOf bill t) (children : AllByRec
         ∙ sym (reached_by_lines t.lines k code target))
 
     -- and so many rounds are enough
-    above : are_distinct bill.nodes ≡ true → are_parents_kept t ≡ true → (bits : List ℕ) → bits ≡ rounds with_bits 0 bill own (length bill.nodes + 2) (replicate (length bill.nodes) 0) → (code : List ℕ) → is_among code bill.nodes ≡ true →
+    above : are_codes_distinct bill.nodes ≡ true → are_parents_kept t ≡ true → (bits : List ℕ) → bits ≡ rounds with_bits 0 bill own (length bill.nodes + 2) (replicate (length bill.nodes) 0) → (code : List ℕ) → is_among code bill.nodes ≡ true →
         has_bit 0 (value_of 0 bill.nodes bits code) ≡ is_or_reaches t code target
     unfolding after
     above distinct parents bits so code there =
@@ -165,7 +165,7 @@ module _ (t : Lists) (bill : Linked) (of : IsBillOf bill t) (children : AllByRec
         ∙ ap (λ b. same_code code target || b) (reaches-deeper t (has_parents t parents) target (length bill.nodes - length t.parts) code)
 
 -- a node reaches itself where a link from it leads to a node that is it or reaches it
-pub reaches_itself_by_links : (t : Lists) (bill : Linked) (of : IsBillOf bill t) (distinct : are_distinct bill.nodes ≡ true) (children : AllByRecursion (λ line. is_among line.child bill.nodes ≡ true) t.lines) (parents : are_parents_kept t ≡ true)
+pub reaches_itself_by_links : (t : Lists) (bill : Linked) (of : IsLinkedOf bill t) (distinct : are_codes_distinct bill.nodes ≡ true) (children : AllByRecursion (λ line. is_among line.child bill.nodes ≡ true) t.lines) (parents : are_parents_kept t ≡ true)
     (links : List Link) (lines : bill.lines ≡ map (line_at bill.nodes) links) (places : ArePlaces (length bill.nodes) links) (own bits : List ℕ) (place : ℕ) (within : place < length bill.nodes)
     (its_own : (code : List ℕ) → is_among code bill.nodes ≡ true → has_bit 0 (value_of 0 bill.nodes own code) ≡ same_code code (node_at bill.nodes place)) (size : length bits ≡ length bill.nodes)
     (so : bits ≡ rounds with_bits 0 bill own (length bill.nodes + 2) (replicate (length bill.nodes) 0)) →
@@ -186,7 +186,7 @@ reaches_itself_by_links t bill of distinct children parents links lines places o
     ∙ sym (reaches-step t (has_parents t parents) target target)
 
 -- a link from a node to what is the node or reaches it stands for a line on a cycle; where there is none the node doesn't reach itself
-pub line_by_link : (t : Lists) (bill : Linked) (of : IsBillOf bill t) (distinct : are_distinct bill.nodes ≡ true) (children : AllByRecursion (λ line. is_among line.child bill.nodes ≡ true) t.lines) (parents : are_parents_kept t ≡ true)
+pub line_by_link : (t : Lists) (bill : Linked) (of : IsLinkedOf bill t) (distinct : are_codes_distinct bill.nodes ≡ true) (children : AllByRecursion (λ line. is_among line.child bill.nodes ≡ true) t.lines) (parents : are_parents_kept t ≡ true)
     (links : List Link) (lines : bill.lines ≡ map (line_at bill.nodes) links) (places : ArePlaces (length bill.nodes) links) (own bits : List ℕ) (place : ℕ) (within : place < length bill.nodes)
     (its_own : (code : List ℕ) → is_among code bill.nodes ≡ true → has_bit 0 (value_of 0 bill.nodes own code) ≡ same_code code (node_at bill.nodes place)) (size : length bits ≡ length bill.nodes)
     (so : bits ≡ rounds with_bits 0 bill own (length bill.nodes + 2) (replicate (length bill.nodes) 0)) (found : Option ℕ) →

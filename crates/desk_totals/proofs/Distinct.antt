@@ -10,7 +10,7 @@ use Rattle.desk_model.proofs.Kept.{same_code-true}
 use Rattle.desk_findings.proofs.FindingRolls.{same_code_back}
 use Rattle.desk_model.specs.Lists.{Lists}
 use Rattle.desk_totals.specs.declared.link.Link.{Link}
-use Rattle.desk_totals.specs.Linked.{IsBillOf, IsLinked, Linked, are_distinct, has_ends_in, is_among}
+use Rattle.desk_totals.specs.Linked.{IsLinkedOf, IsLinked, Linked, are_codes_distinct, has_ends_in, is_among}
 use Rattle.desk_totals.specs.Places.{ArePlaces, IsKeptRight, line_at, node_at}
 use Rattle.std.proofs.lemmas.List.Elements.{All-tail}
 
@@ -26,11 +26,11 @@ among_at (code ∷ codes) zero h = ap (λ b. b || is_among code codes) (same_cod
 among_at (code ∷ codes) (suc i) h = Rattle.std.proofs.lemmas.Bool.or_right (same_code (node_at codes i) code) (is_among (node_at codes i) codes) (among_at codes i (omega arith))
 
 -- none of the later codes is the first
-pub others : (code : List ℕ) (codes : List (List ℕ)) → are_distinct (code ∷ codes) ≡ true → AllByRecursion (λ other. same_code code other ≡ false) codes
-others code codes e = none_from_any (same_code code) codes (not-true (is_among code codes) (and_parts (not (is_among code codes)) (are_distinct codes) e).0)
+pub others : (code : List ℕ) (codes : List (List ℕ)) → are_codes_distinct (code ∷ codes) ≡ true → AllByRecursion (λ other. same_code code other ≡ false) codes
+others code codes e = none_from_any (same_code code) codes (not-true (is_among code codes) (and_parts (not (is_among code codes)) (are_codes_distinct codes) e).0)
 
-pub later_distinct : (code : List ℕ) (codes : List (List ℕ)) → are_distinct (code ∷ codes) ≡ true → are_distinct codes ≡ true
-later_distinct code codes e = (and_parts (not (is_among code codes)) (are_distinct codes) e).1
+pub later_distinct : (code : List ℕ) (codes : List (List ℕ)) → are_codes_distinct (code ∷ codes) ≡ true → are_codes_distinct codes ≡ true
+later_distinct code codes e = (and_parts (not (is_among code codes)) (are_codes_distinct codes) e).1
 
 pub each_at : (P : List ℕ → Type 0) (codes : List (List ℕ)) (i : ℕ) → i < length codes → AllByRecursion P codes → P (node_at codes i)
 each_at P [] i h a = absurd (omega arith)
@@ -56,7 +56,7 @@ module _ {V : Type 0} where
   but_at-other f here value code e = rw e refl
 
   -- a value written at a place is another value of the code there, and of no other
-  pub written : (f : List ℕ → V) (codes : List (List ℕ)) (i : ℕ) (value : V) → are_distinct codes ≡ true → i < length codes → set (map f codes) i value ≡ map (but_at f (node_at codes i) value) codes
+  pub written : (f : List ℕ → V) (codes : List (List ℕ)) (i : ℕ) (value : V) → are_codes_distinct codes ≡ true → i < length codes → set (map f codes) i value ≡ map (but_at f (node_at codes i) value) codes
   written f [] i value e h = refl
   written f (code ∷ codes) zero value e h =
       rw (but_at-same f code value code (same_code_itself code))
@@ -86,7 +86,7 @@ pub linked_from_kept : (nodes : List (List ℕ)) (count : ℕ) (links : List Lin
 linked_from_kept nodes count links kept = record { distinct = kept.distinct; materials = kept.materials; ends = ends_from_places nodes links kept.places }
 
 -- so the children of the lines of tables are among the nodes of their bill
-pub children_among : (bill : Linked) (t : Lists) → IsBillOf bill t → list_all (has_ends_in bill.nodes) bill.lines ≡ true → AllByRecursion (λ line. is_among line.child bill.nodes ≡ true) t.lines
+pub children_among : (bill : Linked) (t : Lists) → IsLinkedOf bill t → list_all (has_ends_in bill.nodes) bill.lines ≡ true → AllByRecursion (λ line. is_among line.child bill.nodes ≡ true) t.lines
 children_among bill t of ends =
     each_map (λ line. has_ends_in bill.nodes line ≡ true) (λ line. is_among line.child bill.nodes ≡ true) (λ line e. (and_parts (is_among line.parent bill.nodes) (is_among line.child bill.nodes) e).1) t.lines
     (each_from_all (has_ends_in bill.nodes) t.lines (ap (list_all (has_ends_in bill.nodes)) (sym of.lines) ∙ ends))

@@ -10,7 +10,7 @@ use Rattle.desk_model.proofs.Elements.{each_filter, each_map}
 use Rattle.desk_findings.specs.Reaches.{enough, is_or_reaches, lines_of}
 use Rattle.desk_totals.proofs.Distinct.{among_at, place_of_among}
 use Rattle.desk_totals.proofs.Scatter.{value_of-at}
-use Rattle.desk_totals.specs.Linked.{IsBillOf, Linked, are_distinct, is_among}
+use Rattle.desk_totals.specs.Linked.{IsLinkedOf, Linked, are_codes_distinct, is_among}
 use Rattle.desk_totals.specs.Marks.{has_bit}
 use Rattle.desk_totals.specs.Next.{AreNext, AreSteps, or_child}
 use Rattle.desk_totals.specs.Places.{node_at}
@@ -50,7 +50,7 @@ module _ (nodes : List (List ℕ)) (test : List ℕ → Bool) where
   first_child f (line ∷ lines) are =
       subst (IsFirst (line ∷ lines)) (sym (one_more f line lines)) (first_or f line lines (f line.child) are.0 (first_child f lines are.1))
 
-module _ (t : Lists) (bill : Linked) (of : IsBillOf bill t) (distinct : are_distinct bill.nodes ≡ true) (children : AllByRecursion (λ line. is_among line.child bill.nodes ≡ true) t.lines) (target bits : List ℕ)
+module _ (t : Lists) (bill : Linked) (of : IsLinkedOf bill t) (distinct : are_codes_distinct bill.nodes ≡ true) (children : AllByRecursion (λ line. is_among line.child bill.nodes ≡ true) t.lines) (target bits : List ℕ)
     (right : (code : List ℕ) → is_among code bill.nodes ≡ true → has_bit 0 (value_of 0 bill.nodes bits code) ≡ is_or_reaches t code target) (size : length bits ≡ length bill.nodes)
     (steps : List (Option ℕ)) (are : AreSteps bits steps) (steps_size : length steps ≡ length bill.nodes)
   where

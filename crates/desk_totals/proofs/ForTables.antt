@@ -19,7 +19,7 @@ use Rattle.desk_totals.specs.Marks.{reach_count}
 use Rattle.desk_findings.specs.Bill.{IsBill, are_children_kept, are_codes_apart, are_parents_kept}
 use Rattle.desk_findings.proofs.FindingRolls.{same_code_back}
 use Rattle.desk_totals.proofs.Distinct.{later_distinct}
-use Rattle.desk_totals.specs.Linked.{IsBillOf, IsLinked, Linked, are_distinct, has_ends_in, is_among}
+use Rattle.desk_totals.specs.Linked.{IsLinkedOf, IsLinked, Linked, are_codes_distinct, has_ends_in, is_among}
 
 -- a code is among those of rows where a row of it is kept
 among_rows : {R : Type 0} (key : R → List ℕ) (code : List ℕ) (rows : List R) → is_among code (map key rows) ≡ is_some (row_of key code_cmp code rows)
@@ -29,37 +29,37 @@ among_rows key code (row ∷ rows) =
     ∙ elim (same_code (key row) code) as (λ b. (b || is_among code (map key rows)) ≡ is_some (cond b (Rattle.std.proofs.Common.Some row) (row_of key code_cmp code rows))) [ true ↦ refl | false ↦ among_rows key code rows ]
 
 -- codes that rise are distinct
-rising_distinct : (codes : List (List ℕ)) → IsStrictlySortedBy code_cmp codes → are_distinct codes ≡ true
+rising_distinct : (codes : List (List ℕ)) → IsStrictlySortedBy code_cmp codes → are_codes_distinct codes ≡ true
 unfolding IsStrictlySortedBy
 rising_distinct [] h = refl
 rising_distinct (code ∷ codes) h =
-    and_from (not (is_among code codes)) (are_distinct codes)
+    and_from (not (is_among code codes)) (are_codes_distinct codes)
     (not_from_false (is_among code codes) (any_none (same_code code) codes (each_map (λ other. code_cmp code other ≡ Less) (λ other. same_code code other ≡ false) (λ other e. ap is_eq e) codes h.0)))
     (rising_distinct codes h.1)
 
 -- and so are distinct codes behind others, where none of them is one of the others
-distinct-append : (codes others : List (List ℕ)) → are_distinct codes ≡ true → are_distinct others ≡ true → AllByRecursion (λ code. is_among code codes ≡ false) others → are_distinct (codes ++ others) ≡ true
+distinct-append : (codes others : List (List ℕ)) → are_codes_distinct codes ≡ true → are_codes_distinct others ≡ true → AllByRecursion (λ code. is_among code codes ≡ false) others → are_codes_distinct (codes ++ others) ≡ true
 distinct-append [] others d e apart = e
 distinct-append (code ∷ codes) others d e apart =
     let none : is_among code others ≡ false =
     any_none (same_code code) others
     (each_map (λ other. is_among other (code ∷ codes) ≡ false) (λ other. same_code code other ≡ false) (λ other h. same_code_back code other ∙ (or_parts (same_code other code) (is_among other codes) h).0) others apart) in
     let here : is_among code (codes ++ others) ≡ false =
-    list_any-append (same_code code) codes others ∙ rw (none, not-true (is_among code codes) (and_parts (not (is_among code codes)) (are_distinct codes) d).0) refl in
-    and_from (not (is_among code (codes ++ others))) (are_distinct (codes ++ others)) (not_from_false (is_among code (codes ++ others)) here)
+    list_any-append (same_code code) codes others ∙ rw (none, not-true (is_among code codes) (and_parts (not (is_among code codes)) (are_codes_distinct codes) d).0) refl in
+    and_from (not (is_among code (codes ++ others))) (are_codes_distinct (codes ++ others)) (not_from_false (is_among code (codes ++ others)) here)
     (distinct-append codes others (later_distinct code codes d) e
     (each_map (λ other. is_among other (code ∷ codes) ≡ false) (λ other. is_among other codes ≡ false) (λ other h. (or_parts (same_code other code) (is_among other codes) h).1) others apart))
 
-module _ (bill : Linked) (t : Lists) (of : IsBillOf bill t) where
+module _ (bill : Linked) (t : Lists) (of : IsLinkedOf bill t) where
   among_nodes : (code : List ℕ) → is_among code bill.nodes ≡ is_kept t code
   among_nodes code =
       ap (is_among code) of.nodes
       ∙ list_any-append (same_code code) (map (λ row. row.code) t.materials) (map (λ row. row.code) t.parts)
       ∙ ap (λ b. b || is_among code (map (λ row. row.code) t.parts)) (among_rows (λ row. row.code) code t.materials) ∙ ap (λ b. is_material t code || b) (among_rows (λ row. row.code) code t.parts)
 
-  distinct_nodes : IsOrdered t → are_codes_apart t ≡ true → are_distinct bill.nodes ≡ true
+  distinct_nodes : IsOrdered t → are_codes_apart t ≡ true → are_codes_distinct bill.nodes ≡ true
   distinct_nodes ordered apart =
-      ap are_distinct of.nodes
+      ap are_codes_distinct of.nodes
       ∙ distinct-append (map (λ row. row.code) t.materials) (map (λ row. row.code) t.parts) (rising_distinct (map (λ row. row.code) t.materials) ordered.materials) (rising_distinct (map (λ row. row.code) t.parts) ordered.parts)
       (each_of_map (λ code. is_among code (map (λ row. row.code) t.materials) ≡ false) (λ row. row.code) t.parts
       (each_map (λ (part : PartRow). not (is_material t part.code) ≡ true) (λ part. is_among part.code (map (λ row. row.code) t.materials) ≡ false)
@@ -84,14 +84,14 @@ module _ (bill : Linked) (t : Lists) (of : IsBillOf bill t) where
   }
 
 -- a code that is among distinct ones is there once
-count_same : (code : List ℕ) (codes : List (List ℕ)) → are_distinct codes ≡ true → count_by (λ other. same_code other code) codes ≡ cond (is_among code codes) 1 0
+count_same : (code : List ℕ) (codes : List (List ℕ)) → are_codes_distinct codes ≡ true → count_by (λ other. same_code other code) codes ≡ cond (is_among code codes) 1 0
 count_same code [] e = refl
 count_same code (first ∷ codes) e =
     let later = count_same code codes (later_distinct first codes e) in
     elim (cases_Bool (same_code first code)) [
       | inl same ↦
           let first_is : first ≡ code = same_code-true first code same in
-          let gone : is_among code codes ≡ false = ap (λ c. is_among c codes) (sym first_is) ∙ not-true (is_among first codes) (and_parts (not (is_among first codes)) (are_distinct codes) e).0 in
+          let gone : is_among code codes ≡ false = ap (λ c. is_among c codes) (sym first_is) ∙ not-true (is_among first codes) (and_parts (not (is_among first codes)) (are_codes_distinct codes) e).0 in
           count_by-cons (λ other. same_code other code) first codes ∙ rw (same_code_back code first, same, later, gone) refl
       | inr other ↦
           count_by-cons (λ c. same_code c code) first codes ∙ rw (same_code_back code first, other, later) (zero-add (cond (is_among code codes) 1 0))

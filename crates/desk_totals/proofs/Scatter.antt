@@ -12,7 +12,7 @@ use Rattle.desk_findings.proofs.FindingRolls.{same_code_back}
 use Rattle.desk_findings.specs.Reaches.{lines_of}
 use Rattle.desk_totals.proofs.Distinct.{but_at, but_at-other, but_at-same, each_at, later_distinct, map_same, others, written}
 use Rattle.desk_totals.specs.declared.link.Link.{Link}
-use Rattle.desk_totals.specs.Linked.{are_distinct, is_among}
+use Rattle.desk_totals.specs.Linked.{are_codes_distinct, is_among}
 use Rattle.desk_totals.specs.Places.{line_at, node_at}
 use Rattle.desk_totals.specs.Rounds.{round, value_of, with_lines}
 
@@ -26,7 +26,7 @@ module _ {V : Type 0} (none : V) where
   value_of-there node nodes value values code e = rw e refl
 
   -- the value of the code at a place is the value at that place
-  pub value_of-at : (nodes : List (List ℕ)) (values : List V) (i : ℕ) → are_distinct nodes ≡ true → i < length nodes → length values ≡ length nodes → value_of none nodes values (node_at nodes i) ≡ get_or values i none
+  pub value_of-at : (nodes : List (List ℕ)) (values : List V) (i : ℕ) → are_codes_distinct nodes ≡ true → i < length nodes → length values ≡ length nodes → value_of none nodes values (node_at nodes i) ≡ get_or values i none
   value_of-at [] values i e h size = absurd (omega arith)
   value_of-at (node ∷ nodes) [] i e h size = absurd (omega arith)
   value_of-at (node ∷ nodes) (value ∷ values) zero e h size = value_of-here node nodes value values node (same_code_itself node)
@@ -35,7 +35,7 @@ module _ {V : Type 0} (none : V) where
       ∙ value_of-at nodes values i (later_distinct node nodes e) (omega arith) (omega arith)
 
   -- the values of the nodes, one after the other, are the list itself
-  pub map-value_of : (nodes : List (List ℕ)) (values : List V) → are_distinct nodes ≡ true → length values ≡ length nodes → map (value_of none nodes values) nodes ≡ values
+  pub map-value_of : (nodes : List (List ℕ)) (values : List V) → are_codes_distinct nodes ≡ true → length values ≡ length nodes → map (value_of none nodes values) nodes ≡ values
   map-value_of [] [] e size = refl
   map-value_of [] (value ∷ values) e size = absurd (omega arith)
   map-value_of (node ∷ nodes) [] e size = absurd (omega arith)
@@ -74,7 +74,7 @@ module _ {V : Type 0} (add : V → ℕ → V → V) where
   part_round none nodes links own values i =
       map (λ code. with_lines add (value_of none nodes values) (value_of none nodes own code) (lines_of (take i (map (line_at nodes) links)) code)) nodes
 
-  module _ (none : V) (nodes : List (List ℕ)) (distinct : are_distinct nodes ≡ true) (links : List Link) (own values : List V) where
+  module _ (none : V) (nodes : List (List ℕ)) (distinct : are_codes_distinct nodes ≡ true) (links : List Link) (own values : List V) where
     -- a round begins with each node's own value
     pub part_round-none : length own ≡ length nodes → own ≡ part_round none nodes links own values 0
     unfolding part_round

@@ -14,11 +14,11 @@ use Rattle.desk_findings.specs.Bill.{IsBill}
 use Rattle.desk_findings.specs.Reaches.{is_or_reaches, lines_of, reaches}
 use Rattle.desk_findings.proofs.Bill.{by_line, has_parents, lines_of-none, not_itself}
 use Rattle.desk_totals.proofs.Scatter.{value_of-map}
-use Rattle.desk_totals.specs.Linked.{IsBillOf, Linked, is_among}
+use Rattle.desk_totals.specs.Linked.{IsLinkedOf, Linked, is_among}
 use Rattle.desk_totals.specs.Rounds.{IsSettled, round, rounds, value_of, with_lines}
 
 -- there are no more parts than nodes
-pub parts-le : (t : Lists) (bill : Linked) → IsBillOf bill t → length t.parts ≤ length bill.nodes
+pub parts-le : (t : Lists) (bill : Linked) → IsLinkedOf bill t → length t.parts ≤ length bill.nodes
 parts-le t bill of =
     omega (arith, ap length of.nodes, length-append (map (λ row. row.code) t.materials) (map (λ row. row.code) t.parts), length-map t.parts (λ row. row.code))
 
@@ -53,7 +53,7 @@ module _ (t : Lists) (is_bill : IsBill t) where
       (each_map (λ line. (target : List ℕ) → is_or_reaches t line.child target ≡ true → reaches t line.parent target ≡ true) (λ line. is_part t line.child ≡ true → rank line.child < rank line.parent) falls t.lines
       (by_line t (has_parents t is_bill.parents))))
 
-  module _ {V : Type 0} (add : V → ℕ → V → V) (none : V) (bill : Linked) (of : IsBillOf bill t) (own : List V) (children : AllByRecursion (λ line. is_among line.child bill.nodes ≡ true) t.lines)
+  module _ {V : Type 0} (add : V → ℕ → V → V) (none : V) (bill : Linked) (of : IsLinkedOf bill t) (own : List V) (children : AllByRecursion (λ line. is_among line.child bill.nodes ≡ true) t.lines)
       (IsRight : List ℕ → V → Type 0)
       (step : (f : List ℕ → V) (code : List ℕ) → is_among code bill.nodes ≡ true → AllByRecursion (λ line. IsRight line.child (f line.child)) (lines_of t.lines code) → IsRight code (with_lines add f (value_of none bill.nodes own code) (lines_of t.lines code)))
     where

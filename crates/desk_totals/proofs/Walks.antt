@@ -17,7 +17,7 @@ use Rattle.desk_text.proofs.CodeLemmas.{same_code_itself}
 use Rattle.std.proofs.lemmas.Bool.{both_ways, false_from_ne_true, or_right}
 use Rattle.std.proofs.lemmas.List.Folds.{list_any-append}
 use Rattle.desk_totals.proofs.Settle.{parts-le}
-use Rattle.desk_totals.specs.Linked.{IsBillOf, Linked, is_among}
+use Rattle.desk_totals.specs.Linked.{IsLinkedOf, Linked, is_among}
 use Rattle.desk_totals.specs.Next.{AreNext}
 use Rattle.desk_totals.specs.Places.{node_at}
 
@@ -84,7 +84,7 @@ module _ (lines : List LineRow) (deep : ℕ) (target : List ℕ) where
     walked_all k at codes whole within e began = sym (append-nil codes) ∙ ap (λ l. codes ++ l) (sym (rest_by_step k at None within e)) ∙ began
 
 -- as many steps as there are nodes, and two more, are enough for a chain
-pub steps_enough : (t : Lists) → IsBill t → (bill : Linked) → IsBillOf bill t → (code target : List ℕ) → chain_within t.lines (enough t) (length bill.nodes + 2) code target ≡ chain t code target
+pub steps_enough : (t : Lists) → IsBill t → (bill : Linked) → IsLinkedOf bill t → (code target : List ℕ) → chain_within t.lines (enough t) (length bill.nodes + 2) code target ≡ chain t code target
 steps_enough t is_bill bill of code target =
     let less = parts-le t bill of in
     let steps : length bill.nodes + 2 ≡ length bill.nodes + 1 - length t.parts + enough t = omega (arith, less) in
@@ -94,7 +94,7 @@ steps_enough t is_bill bill of code target =
     ∙ chain-deeper t (has_parents t is_bill.parents) is_bill.acyclic target 0 (length bill.nodes + 1 - length t.parts) code
 
 -- a code that isn't a node's is no part's
-pub no_part : (t : Lists) (bill : Linked) → IsBillOf bill t → (code : List ℕ) → is_among code bill.nodes ≡ false → is_part t code ≡ false
+pub no_part : (t : Lists) (bill : Linked) → IsLinkedOf bill t → (code : List ℕ) → is_among code bill.nodes ≡ false → is_part t code ≡ false
 no_part t bill of code absent =
     false_from_ne_true (is_part t code)
     (λ kept.
@@ -109,14 +109,14 @@ either true = refl
 either false = refl
 
 -- and its chain is the code alone
-pub chain_alone : (t : Lists) → IsBill t → (bill : Linked) → IsBillOf bill t → (code target : List ℕ) → is_among code bill.nodes ≡ false → chain t code target ≡ code ∷ []
+pub chain_alone : (t : Lists) → IsBill t → (bill : Linked) → IsLinkedOf bill t → (code target : List ℕ) → is_among code bill.nodes ≡ false → chain t code target ≡ code ∷ []
 chain_alone t is_bill bill of code target absent =
     chain-step t (has_parents t is_bill.parents) is_bill.acyclic target code
     ∙ ap (λ lines. if same_code code target then code ∷ [] else code ∷ option_map_or (λ child. chain t child target) (option_map (λ line. line.child) (find (λ line. is_or_reaches t line.child target) lines)) []) (lines_of-none t (has_parents t is_bill.parents) code (no_part t bill of code absent))
     ∙ either (same_code code target)
 
 -- nor does it reach anything
-pub reaches_nothing : (t : Lists) → IsBill t → (bill : Linked) → IsBillOf bill t → (code target : List ℕ) → is_among code bill.nodes ≡ false → reaches t code target ≡ false
+pub reaches_nothing : (t : Lists) → IsBill t → (bill : Linked) → IsLinkedOf bill t → (code target : List ℕ) → is_among code bill.nodes ≡ false → reaches t code target ≡ false
 reaches_nothing t is_bill bill of code target absent =
     reaches-step t (has_parents t is_bill.parents) target code
     ∙ ap (list_any (λ line. is_or_reaches t line.child target)) (lines_of-none t (has_parents t is_bill.parents) code (no_part t bill of code absent))

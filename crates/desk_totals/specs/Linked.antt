@@ -12,7 +12,7 @@ pub record Linked : Type 0 where
   pub lines : List LineRow
 
 -- the bill has the materials, the parts and the lines of these tables
-pub record IsBillOf (bill : Linked) (t : Lists) : Type 0 where
+pub record IsLinkedOf (bill : Linked) (t : Lists) : Type 0 where
   pub nodes : bill.nodes ≡ nodes_of t
   pub material_count : bill.material_count ≡ length t.materials
   pub lines : bill.lines ≡ t.lines
@@ -22,9 +22,9 @@ abbrev pub is_among : List ℕ → List (List ℕ) → Bool
 is_among code codes = list_any (same_code code) codes
 
 -- no code stands twice
-abbrev pub are_distinct : List (List ℕ) → Bool
-are_distinct [] = true
-are_distinct (code ∷ codes) = not (is_among code codes) && are_distinct codes
+abbrev pub are_codes_distinct : List (List ℕ) → Bool
+are_codes_distinct [] = true
+are_codes_distinct (code ∷ codes) = not (is_among code codes) && are_codes_distinct codes
 
 -- the line goes from one of the codes to one of them
 abbrev pub has_ends_in : List (List ℕ) → LineRow → Bool
@@ -33,7 +33,7 @@ has_ends_in codes line = is_among line.parent codes && is_among line.child codes
 -- what is right of a bill: no code stands twice, no more of them are materials than there are, and each line has both its ends
 -- among them
 pub record IsLinked (bill : Linked) : Type 0 where
-  pub distinct : are_distinct bill.nodes ≡ true
+  pub distinct : are_codes_distinct bill.nodes ≡ true
   pub materials : bill.material_count ≤ length bill.nodes
   pub ends : list_all (has_ends_in bill.nodes) bill.lines ≡ true
 

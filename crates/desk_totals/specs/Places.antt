@@ -3,7 +3,7 @@ use Rattle.std.specs.Prelude.{◌≡◌, ℕ, ◌<◌, ◌≤◌, true, List, []
 use Rattle.std.specs.List.{All}
 use Rattle.desk_model.specs.declared.rows.line.LineRow.{LineRow}
 use Rattle.desk_totals.specs.declared.link.Link.{Link}
-use Rattle.desk_totals.specs.Linked.{are_distinct}
+use Rattle.desk_totals.specs.Linked.{are_codes_distinct}
 
 -- the code of the node at a place
 abbrev pub node_at : List (List ℕ) → ℕ → List ℕ
@@ -23,6 +23,6 @@ ArePlaces count links = All (λ link. (link.parent < count) × (link.child < cou
 
 -- the nodes are distinct, the materials are no more than they, and each link goes between two of their places
 pub record IsKeptRight (nodes : List (List ℕ)) (material_count : ℕ) (links : List Link) : Type 0 where
-  pub distinct : are_distinct nodes ≡ true
+  pub distinct : are_codes_distinct nodes ≡ true
   pub materials : material_count ≤ length nodes
   pub places : ArePlaces (length nodes) links

@@ -5,7 +5,7 @@ ghost use Rattle.desk_findings.specs.Bill.{are_parents_kept, is_acyclic};
 ghost use Rattle.desk_findings.specs.Reaches.{reaches};
 ghost use Rattle.desk_totals.specs.declared.link.Link.{Link};
 ghost use Rattle.desk_totals.specs.Cycles.{IsOnCycle};
-ghost use Rattle.desk_totals.specs.Linked.{IsBillOf};
+ghost use Rattle.desk_totals.specs.Linked.{IsLinkedOf};
 ghost use Rattle.desk_totals.specs.Marks.{has_bit};
 ghost use Rattle.desk_totals.specs.Places.{ArePlaces, node_at};
 
@@ -25,7 +25,7 @@ impl Links {
     /// found, a pass over the lines for each step of the longest way to it; and that for each part, if the guess was
     /// wrong.
     pub fn line_on_cycle(&self, alloc: Global) -> Result<Option<usize>, OutOfMemory>
-        ensures { (t : Lists) → IsBillOf self.now t → are_parents_kept t ≡ true
+        ensures { (t : Lists) → IsLinkedOf self.now t → are_parents_kept t ≡ true
             → IfOk result (λ line. MatchOption line (is_acyclic t ≡ true) (IsOnCycle t)) }
     {
         let heights = guessed_heights(alloc, self)?;
@@ -79,7 +79,7 @@ fn does_fall(links: &[Link], heights: &[usize]) -> bool
 
 /// The place of a line of the node at the place, where that is a node, whose child is the node or reaches it.
 fn line_from(alloc: Global, bill: &Links, place: usize) -> Result<Option<usize>, OutOfMemory>
-    ensures { (t : Lists) → IsBillOf bill.now t → are_parents_kept t ≡ true
+    ensures { (t : Lists) → IsLinkedOf bill.now t → are_parents_kept t ≡ true
         → IfOk result (λ line. IfSome line (IsOnCycle t)) }
 {
     if place >= bill.nodes().len() {
@@ -90,7 +90,7 @@ fn line_from(alloc: Global, bill: &Links, place: usize) -> Result<Option<usize>,
 
 /// The place of a line of the first part that reaches itself, whose child is the part or reaches it.
 fn first_on_cycle(alloc: Global, bill: &Links) -> Result<Option<usize>, OutOfMemory>
-    ensures { (t : Lists) → IsBillOf bill.now t → are_parents_kept t ≡ true
+    ensures { (t : Lists) → IsLinkedOf bill.now t → are_parents_kept t ≡ true
         → IfOk result (λ line. MatchOption line (is_acyclic t ≡ true) (IsOnCycle t)) }
 {
     for place in bill.material_count()..bill.nodes().len() {
@@ -105,7 +105,7 @@ fn first_on_cycle(alloc: Global, bill: &Links) -> Result<Option<usize>, OutOfMem
 /// reach itself.
 fn line_to_itself(alloc: Global, bill: &Links, place: usize) -> Result<Option<usize>, OutOfMemory>
     requires { place < length bill.now.nodes }
-    ensures { (t : Lists) → IsBillOf bill.now t → are_parents_kept t ≡ true
+    ensures { (t : Lists) → IsLinkedOf bill.now t → are_parents_kept t ≡ true
         → IfOk result (λ line. MatchOption line (reaches t (node_at bill.now.nodes place) (node_at bill.now.nodes place) ≡ false) (IsOnCycle t)) }
 {
     let nodes = bill.nodes();

@@ -3,7 +3,7 @@ ghost use Rattle.desk_model.specs.Lists.{Lists};
 ghost use Rattle.desk_findings.specs.Bill.{IsBill};
 ghost use Rattle.desk_findings.specs.Rolled.{rolled};
 ghost use Rattle.desk_totals.specs.Fit.{fit, fit_with};
-ghost use Rattle.desk_totals.specs.Linked.{IsBillOf, IsLinked};
+ghost use Rattle.desk_totals.specs.Linked.{IsLinkedOf, IsLinked};
 ghost use Rattle.desk_totals.specs.Rounds.{IsSettled, round};
 
 use crate::link::Link;
@@ -18,7 +18,7 @@ impl Links {
     /// It takes two passes over nodes and lines.
     pub fn rolled_up(&self, alloc: Global, own: &[u128]) -> Result<Vec<Option<u128>>, OutOfMemory>
         requires { length own.now ≡ length self.now.nodes }
-        ensures amounts { (t : Lists) (amount : List ℕ → ℕ) → IsBillOf self.now t → IsBill t → own.now ≡ map amount self.now.nodes
+        ensures amounts { (t : Lists) (amount : List ℕ → ℕ) → IsLinkedOf self.now t → IsBill t → own.now ≡ map amount self.now.nodes
             → IfOk result (λ amounts. amounts.items ≡ map (λ code. fit (rolled t amount code)) self.now.nodes) }
         ensures len { IfOk result (λ amounts. length amounts.items ≡ length self.now.nodes) }
     {

@@ -3,7 +3,7 @@ ghost use Rattle.std.specs.List.{All};
 ghost use Rattle.desk_model.specs.Lists.{Lists};
 ghost use Rattle.desk_findings.specs.Bill.{IsBill};
 ghost use Rattle.desk_findings.specs.Reaches.{is_or_reaches};
-ghost use Rattle.desk_totals.specs.Linked.{IsBillOf};
+ghost use Rattle.desk_totals.specs.Linked.{IsLinkedOf};
 ghost use Rattle.desk_totals.specs.Marks.{has_bit};
 ghost use Rattle.desk_totals.specs.Places.{node_at};
 
@@ -25,7 +25,7 @@ impl Links {
     ) -> Result<Vec<bool>, OutOfMemory>
         requires from { from < length self.now.nodes }
         requires places { All (λ place. place < length self.now.nodes) targets.now }
-        ensures { (t : Lists) → IsBillOf self.now t → IsBill t
+        ensures { (t : Lists) → IsLinkedOf self.now t → IsBill t
             → IfOk result (λ marks. marks.items ≡ map (λ place. is_or_reaches t (node_at self.now.nodes from) (node_at self.now.nodes place)) targets.now) }
     {
         let mut marks = Vec::new(alloc);
@@ -50,7 +50,7 @@ fn marks_of(
     requires from { from < length bill.now.nodes }
     requires places { All (λ place. place < length bill.now.nodes) targets.now }
     requires few { length targets.now ≤ 64 }
-    ensures { (t : Lists) → IsBillOf bill.now t → IsBill t
+    ensures { (t : Lists) → IsLinkedOf bill.now t → IsBill t
         → IfOk result (λ marks. marks.items ≡ map (λ place. is_or_reaches t (node_at bill.now.nodes from) (node_at bill.now.nodes place)) targets.now) }
 {
     let own = bits_at(alloc, bill.nodes().len(), targets)?;

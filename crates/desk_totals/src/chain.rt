@@ -4,7 +4,7 @@ ghost use Rattle.desk_model.specs.declared.rows.line.LineRow.{LineRow};
 ghost use Rattle.desk_model.specs.Lists.{Lists};
 ghost use Rattle.desk_findings.specs.Bill.{IsBill};
 ghost use Rattle.desk_findings.specs.Chain.{chain, chain_within};
-ghost use Rattle.desk_totals.specs.Linked.{IsBillOf};
+ghost use Rattle.desk_totals.specs.Linked.{IsLinkedOf};
 ghost use Rattle.desk_totals.specs.Marks.{has_bit};
 ghost use Rattle.desk_totals.specs.Next.{AreNext, AreSteps, or_child};
 ghost use Rattle.desk_totals.specs.Places.{node_at};
@@ -22,7 +22,7 @@ impl Links {
     ///
     /// It takes a few passes over nodes and lines.
     pub fn chain(&self, alloc: Global, from: &Code, target: &Code) -> Result<Codes, OutOfMemory>
-        ensures { (t : Lists) → IsBillOf self.now t → IsBill t → IfOk result (λ codes. codes ≡ chain t from.now target.now) }
+        ensures { (t : Lists) → IsLinkedOf self.now t → IsBill t → IfOk result (λ codes. codes ≡ chain t from.now target.now) }
     {
         let codes = match self.place_of(from) {
             Some(start) => chain_from(alloc, self, start, target)?,
@@ -49,7 +49,7 @@ fn chain_from(
     target: &Code,
 ) -> Result<Vec<Code>, OutOfMemory>
     requires { start < length bill.now.nodes }
-    ensures { (t : Lists) → IsBillOf bill.now t → IsBill t
+    ensures { (t : Lists) → IsLinkedOf bill.now t → IsBill t
         → IfOk result (λ codes. codes.items ≡ chain t (node_at bill.now.nodes start) target.now) }
 {
     let own = bits_at_target(alloc, bill.nodes(), target)?;

@@ -2,7 +2,7 @@ ghost use Rattle.std.specs.Prelude.{◌≡◌, ◌==◌, ◌&&◌, ◌||◌, ◌
 ghost use Rattle.std.specs.List.{All};
 ghost use Rattle.desk_model.specs.Lists.{Lists};
 ghost use Rattle.desk_findings.specs.Bill.{IsBill};
-ghost use Rattle.desk_totals.specs.Linked.{IsBillOf};
+ghost use Rattle.desk_totals.specs.Linked.{IsLinkedOf};
 ghost use Rattle.desk_totals.specs.Marks.{has_bit, reach_count};
 ghost use Rattle.desk_totals.specs.Places.{node_at};
 
@@ -20,7 +20,7 @@ impl Links {
     /// It takes, for each 64 of them, a few passes over nodes and lines, and a step for each of them and each part.
     pub fn reach_counts(&self, alloc: Global, holders: &[usize]) -> Result<Vec<usize>, OutOfMemory>
         requires { All (λ place. place < length self.now.nodes) holders.now }
-        ensures { (t : Lists) → IsBillOf self.now t → IsBill t
+        ensures { (t : Lists) → IsLinkedOf self.now t → IsBill t
             → IfOk result (λ counts. counts.items ≡ map (λ place. reach_count t (node_at self.now.nodes place)) holders.now) }
     {
         let mut counts = Vec::new(alloc);
@@ -39,7 +39,7 @@ impl Links {
 fn counts_of(alloc: Global, bill: &Links, holders: &[usize]) -> Result<Vec<usize>, OutOfMemory>
     requires places { All (λ place. place < length bill.now.nodes) holders.now }
     requires few { length holders.now ≤ 64 }
-    ensures { (t : Lists) → IsBillOf bill.now t → IsBill t
+    ensures { (t : Lists) → IsLinkedOf bill.now t → IsBill t
         → IfOk result (λ counts. counts.items ≡ map (λ place. reach_count t (node_at bill.now.nodes place)) holders.now) }
 {
     let own = bits_at(alloc, bill.nodes().len(), holders)?;

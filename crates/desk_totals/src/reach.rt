@@ -3,7 +3,7 @@ ghost use Rattle.desk_text.specs.Code.{same_code};
 ghost use Rattle.desk_model.specs.Lists.{Lists};
 ghost use Rattle.desk_findings.specs.Bill.{IsBill};
 ghost use Rattle.desk_findings.specs.Reaches.{reaches};
-ghost use Rattle.desk_totals.specs.Linked.{IsBillOf, are_distinct};
+ghost use Rattle.desk_totals.specs.Linked.{IsLinkedOf, are_codes_distinct};
 ghost use Rattle.desk_totals.specs.Marks.{has_bit};
 ghost use Rattle.desk_totals.specs.Rounds.{value_of};
 
@@ -17,7 +17,7 @@ impl Links {
     ///
     /// It takes two passes over nodes and lines.
     pub fn does_reach(&self, alloc: Global, from: &Code, target: &Code) -> Result<bool, OutOfMemory>
-        ensures { (t : Lists) → IsBillOf self.now t → IsBill t → IfOk result (λ does. does ≡ reaches t from.now target.now) }
+        ensures { (t : Lists) → IsLinkedOf self.now t → IsBill t → IfOk result (λ does. does ≡ reaches t from.now target.now) }
     {
         let marks = self.marks(alloc, target)?;
         match self.place_of(from) {
@@ -30,7 +30,7 @@ impl Links {
     ///
     /// It takes two passes over nodes and lines.
     pub fn marks(&self, alloc: Global, target: &Code) -> Result<Vec<bool>, OutOfMemory>
-        ensures marks { (t : Lists) → IsBillOf self.now t → IsBill t
+        ensures marks { (t : Lists) → IsLinkedOf self.now t → IsBill t
             → IfOk result (λ marks. marks.items ≡ map (λ code. reaches t code target.now) self.now.nodes) }
         ensures len { IfOk result (λ marks. vec_len marks ≡ length self.now.nodes) }
     {
@@ -63,7 +63,7 @@ fn marks_above(
     bits: &[u64],
     target: &Code,
 ) -> Result<Vec<bool>, OutOfMemory>
-    requires distinct { are_distinct nodes.now ≡ true }
+    requires distinct { are_codes_distinct nodes.now ≡ true }
     requires bits { length bits.now ≡ length nodes.now }
     ensures marks { IfOk result (λ marks. marks.items
         ≡ map (λ code. has_bit 0 (value_of 0 nodes.now bits.now code) && not (same_code code target.now)) nodes.now) }

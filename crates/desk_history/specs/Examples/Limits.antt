@@ -21,7 +21,7 @@ use Rattle.desk_model.specs.declared.rows.candidate.CandidateRow.{CandidateRow}
 use Rattle.desk_model.specs.declared.rows.shipment.ShipmentRow.{ShipmentRow}
 use Rattle.desk_model.specs.declared.rows.ticket.TicketRow.{TicketRow}
 use Rattle.desk_model.specs.declared.rule_fault.RuleFault.TheVariants.{TableFull, TextFull, TotalTooLarge, FindingsFull, YearTooLarge}
-use Rattle.desk_model.specs.Effect.{entered}
+use Rattle.desk_model.specs.Effect.{with_edit_entered}
 use Rattle.desk_findings.specs.Findings.{finding_count}
 use Rattle.desk_model.specs.Lists.{Lists}
 use Rattle.desk_findings.specs.Mass.{mass}
@@ -149,12 +149,12 @@ pub record LimitExamples : Type 0 where
   -- a new candidate has no room, and a kept one needs none
   pub rule_18 : answer_at full (Candidate (codes "t1") (codes "lead") (date 2018 6 27)) ≡ Err (TableFull 8)
   pub room_in_others : answer_at full (Substance (codes "t1") (codes "tin") (codes "Tin") None) ≡ Ok 1
-  -- texts of the greatest length in all leave no room for one more byte, and then rule 19 refuses
+  -- texts of the greatest length in all leave no room for one more byte, and then refusal 19 refuses
   pub most_text : (text : List ℕ) → length text ≡ 67108864 → has_too_much_text (kept_texts text []) ≡ false
   pub too_much_text : (text : List ℕ) → length text ≡ 67108864 → has_too_much_text (kept_texts text (0 ∷ [])) ≡ true
-  pub rule_19 : (t : Lists) (edit : Edit) → has_too_much_text (entered t edit) ≡ true → text_full t edit ≡ Some TextFull
-  -- with more findings than the desk keeps, rule 22 refuses
-  pub rule_22 : (t : Lists) (edit : Edit) → has_too_many_findings (entered t edit) ≡ true → findings_full t edit ≡ Some FindingsFull
+  pub rule_19 : (t : Lists) (edit : Edit) → has_too_much_text (with_edit_entered t edit) ≡ true → text_full t edit ≡ Some TextFull
+  -- with more findings than the desk keeps, refusal 22 refuses
+  pub rule_22 : (t : Lists) (edit : Edit) → has_too_many_findings (with_edit_entered t edit) ≡ true → findings_full t edit ≡ Some FindingsFull
 
 -- parts that are one part, P, and lines
 abbrev pub lines_of_one : List LineRow → Lists
@@ -193,7 +193,7 @@ pub record TableLimitExamples : Type 0 where
   pub lines_of_parent_over : (lines : List LineRow) → length lines ≡ 5000 → length (lines_of lines (codes "P")) ≡ 4097 →
       tables_over (lines_of_one lines) ≡ 11 ∷ []
   -- of tables that are over together the first is told
-  pub first_table : (t : Lists) (edit : Edit) → tables_over (entered t edit) ≡ 7 ∷ 8 ∷ 11 ∷ [] → table_full t edit ≡ Some (TableFull 7)
+  pub first_table : (t : Lists) (edit : Edit) → tables_over (with_edit_entered t edit) ≡ 7 ∷ 8 ∷ 11 ∷ [] → table_full t edit ≡ Some (TableFull 7)
   pub two_tables : (rows : List ExemptionRow) (others : List TicketRow) → length rows ≡ 2049 → length others ≡ 262145 →
       tables_over (record start { exemptions = rows; tickets = others }) ≡ 7 ∷ 10 ∷ []
   -- as many findings as the desk keeps, and one more

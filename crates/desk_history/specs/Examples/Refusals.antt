@@ -120,7 +120,7 @@ wider = desk_after (
 abbrev pub unticketed : Lists
 unticketed = record desk { tickets = [] }
 
--- of several materials or substances that break a rule the first is told
+-- of several materials or substances that meet a refusal the first is told
 pub record FirstExamples : Type 0 where
   -- in order of material, and then of substance
   pub rule_2 : answer_at desk (declares (codes "ACME") 8 (material (codes "M1") 9 (holds (codes "zinc") 1 ∷ [])
@@ -202,7 +202,7 @@ reused =
     ∷ Ship (codes "t2") (codes "BOARD") 2024 999999999998
     ∷ []
 
--- edits that break two rules at once
+-- edits that meet two refusals at once
 pub record OrderExamples : Type 0 where
   -- 1 before 2
   pub reused_and_unknown : answer_at desk (Member (codes "t2") (codes "gold") Lead 1) ≡ Err TicketReused

@@ -4,7 +4,7 @@ use Rattle.std.specs.Prelude.{◌≡◌, ◌+◌, ◌*◌, [], ◌∷◌, Some, 
 use Rattle.desk_model.specs.declared.edit.Edit.{Edit}
 use Rattle.desk_model.specs.declared.edit.Edit.TheVariants.{Line, Unline}
 use Rattle.desk_model.specs.declared.rule_fault.RuleFault.TheVariants.{TotalTooLarge, YearTooLarge}
-use Rattle.desk_model.specs.Effect.{entered}
+use Rattle.desk_model.specs.Effect.{with_edit_entered}
 use Rattle.desk_model.specs.Lists.{Lists}
 use Rattle.desk_model.specs.Examples.Desks.{declares, material}
 use Rattle.desk_findings.specs.Bill.{IsBill}
@@ -25,7 +25,7 @@ seventh = Line (codes "t17") (codes "L7") (codes "L6") 1000000
 
 -- the tables that it would leave
 abbrev pub too_high : Lists
-too_high = entered tower seventh
+too_high = with_edit_entered tower seventh
 
 -- a material so heavy that a part and the year in which it was shipped are both too heavy
 abbrev pub heavy_again : Edit
@@ -36,7 +36,7 @@ abbrev pub lighten : Edit
 lighten = Unline (codes "t12") (codes "W") (codes "W2")
 
 pub record TowerExamples : Type 0 where
-  -- the line passes the rules 1 to 20, and what it would leave holds together, though it isn't sound
+  -- the line passes the refusals 1 to 20, and what it would leave holds together, though it isn't sound
   pub passes : PassesRows tower seventh
   pub consistent : IsConsistent too_high
   pub bill : IsBill too_high
@@ -54,4 +54,4 @@ pub record TowerExamples : Type 0 where
   pub year_too : year_too_large (desk_after (powers 16384)) heavy_again ≡ Some (YearTooLarge 2025)
   -- taking out a line can add findings: what is left of the article is all of the substance
   pub none_found : finding_count articles.desk ≡ 0
-  pub two_found : finding_count (entered articles.desk lighten) ≡ 2
+  pub two_found : finding_count (with_edit_entered articles.desk lighten) ≡ 2

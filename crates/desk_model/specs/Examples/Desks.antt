@@ -6,7 +6,7 @@ use Rattle.desk_model.specs.declared.edit.Edit.TheVariants.{Declare, Part}
 use Rattle.desk_model.specs.declared.material_decl.MaterialDecl.{MaterialDecl}
 use Rattle.desk_model.specs.declared.part_sort.PartSort.TheVariants.{Article, Assembly}
 use Rattle.desk_model.specs.declared.substance_mass.SubstanceMass.{SubstanceMass}
-use Rattle.desk_model.specs.Effect.{entered}
+use Rattle.desk_model.specs.Effect.{with_edit_entered}
 use Rattle.desk_model.specs.Lists.{Lists}
 use Rattle.desk_model.specs.Start.{start}
 
@@ -32,7 +32,7 @@ assembly ticket code = Part ticket code Assembly code
 -- the tables with these edits made, one after another
 abbrev pub all_entered : Lists → List Edit → Lists
 all_entered t [] = t
-all_entered t (edit ∷ edits) = all_entered (entered t edit) edits
+all_entered t (edit ∷ edits) = all_entered (with_edit_entered t edit) edits
 
 -- the start tables with these edits made, whether or not a rule would refuse them
 abbrev pub desk_with : List Edit → Lists

@@ -1,6 +1,7 @@
 use Rattle.std.proofs.Common.{◌∙◌, ap, refl}
 use Rattle.desk_text.specs.Code.{code_of}
-use Rattle.desk_tables.proofs.StartTexts.{inside_ok, rule_is_code}
+use Rattle.desk_law.proofs.Rules.{rule_is_code}
+use Rattle.desk_tables.proofs.StartTexts.{inside_ok}
 use Rattle.desk_tables.proofs.start.base_code.Goals as goal
 
 pub unwrap-requires : goal.unwrap-requires

@@ -1,5 +1,5 @@
 use Rattle.std.proofs.Common.{◌∙◌, sym, ap}
-use Rattle.desk_tables.specs.Plan.{planned}
+use Rattle.desk_tables.specs.Plan.{tables_planned}
 use Rattle.desk_tables.proofs.Commits.{can_enter, fits_after, new_after, planned_after, room_after}
 use Rattle.desk_tables.proofs.tables.Tables.commit.Goals as goal
 
@@ -19,8 +19,8 @@ enter-requires-clause-fits c =
     (can_enter c.args.self.now c.args.plan c.in-New.change c.in-New.ticket c.in-New.room c.in-New.is c.requires).text_fits
 
 pub returns-in-New-clause-lists : goal.returns-in-New-clause-lists
-unfolding planned
+unfolding tables_planned
 returns-in-New-clause-lists c =
     c.enter.ensures
     ∙ planned_after c.args.self.now c.make.new.self c.in-New.change c.make.ensures.lists c.make.ensures.tickets c.in-New.ticket
-    ∙ sym (ap (planned c.args.self.now.lists) c.in-New.is)
+    ∙ sym (ap (tables_planned c.args.self.now.lists) c.in-New.is)

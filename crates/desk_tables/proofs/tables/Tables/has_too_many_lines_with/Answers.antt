@@ -4,7 +4,7 @@ use Rattle.desk_model.specs.declared.limits.TheConstants.{LINES_OF_PARENT_LIMIT}
 use Rattle.desk_rows.specs.Rows.{with_row}
 use Rattle.desk_findings.specs.Reaches.{lines_of}
 use Rattle.desk_history.specs.Limits.{has_too_many_lines}
-use Rattle.desk_tables.specs.Change.{changed}
+use Rattle.desk_tables.specs.Change.{with_change_made}
 use Rattle.desk_tables.proofs.ParentLines.{with_line, without_line}
 use Rattle.desk_tables.proofs.tables.Tables.has_too_many_lines_with.Goals as goal
 
@@ -19,7 +19,7 @@ returns-then-is_part c =
     ap many c.lines_with.ensures
     ∙ sym (ap (λ kept. kept && many (length (lines_of (with_row line_key line_key_cmp new t.lines) new.parent))) (sym c.is_part.ensures ∙ c.if-is_part.true))
     ∙ sym (with_line t c.requires new c.in-PutLine.room)
-    ∙ sym (ap (λ change. has_too_many_lines (changed t change)) c.in-PutLine.is)
+    ∙ sym (ap (λ change. has_too_many_lines (with_change_made t change)) c.in-PutLine.is)
 
 pub returns-else-is_part : goal.returns-else-is_part
 returns-else-is_part c =
@@ -29,4 +29,4 @@ returns-else-is_part c =
     c.if-is_part.false
     ∙ sym (ap (λ kept. kept && many (length (lines_of (with_row line_key line_key_cmp new t.lines) new.parent))) (sym c.is_part.ensures ∙ c.if-is_part.false))
     ∙ sym (with_line t c.requires new c.in-PutLine.room)
-    ∙ sym (ap (λ change. has_too_many_lines (changed t change)) c.in-PutLine.is)
+    ∙ sym (ap (λ change. has_too_many_lines (with_change_made t change)) c.in-PutLine.is)

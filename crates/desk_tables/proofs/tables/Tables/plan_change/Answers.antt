@@ -1,6 +1,6 @@
 use Rattle.std.proofs.Common.{◌∙◌, ap, sym, subst}
 use Rattle.desk_rows.specs.Held.{IsRoomFor}
-use Rattle.desk_tables.specs.Change.{held}
+use Rattle.desk_tables.specs.Change.{rows_with_room}
 use Rattle.desk_model.specs.Lists.{ticket_row}
 use Rattle.desk_history.specs.Limits.{has_too_much_text}
 use Rattle.desk_tables.specs.Judged.{IsRowsFault, IsRowsPlan}
@@ -33,7 +33,7 @@ can_enter c =
     let after = leaves t edit c.args.change c.args.ticket c.requires.made c.requires.ticket in
     record {
       rows_ready = c.requires.ready;
-      ticket_has_room = subst (λ desk. IsRoomFor 1 (held desk.lists.tickets desk.rooms.tickets) c.in_ok-room.room) c.self.view_is c.in_ok-room.ensures;
+      ticket_has_room = subst (λ desk. IsRoomFor 1 (rows_with_room desk.lists.tickets desk.rooms.tickets) c.in_ok-room.room) c.self.view_is c.in_ok-room.ensures;
       ticket_is_new = ap (λ ticket. ticket_row t ticket.code) c.requires.ticket ∙ ticket_is_new t edit c.requires.new c.requires.unused;
       text_fits = ap has_too_much_text after ∙ text_fits_after t edit limits;
     }

@@ -3,14 +3,14 @@ use Rattle.std.specs.List.{All}
 use Rattle.desk_findings.specs.Bill.{IsBill}
 use Rattle.desk_findings.specs.Reaches.{is_or_reaches}
 use Rattle.desk_model.specs.Lists.{Lists}
-use Rattle.desk_totals.specs.Linked.{IsBillOf}
+use Rattle.desk_totals.specs.Linked.{IsLinkedOf}
 use Rattle.desk_totals.specs.Places.{node_at}
 use Rattle.desk_totals.proofs.links.Links.reached_among.Given as goal
 
 abbrev pub invariant-loop-rest : goal.invariant-loop-rest
 invariant-loop-rest l =
     All (λ place. place < length l.self.nodes) l.rest
-    × ((t : Lists) → IsBillOf l.self t → IsBill t
+    × ((t : Lists) → IsLinkedOf l.self t → IsBill t
     → l.marks.items ++ map (λ place. is_or_reaches t (node_at l.self.nodes l.from) (node_at l.self.nodes place)) l.rest
     ≡ map (λ place. is_or_reaches t (node_at l.self.nodes l.from) (node_at l.self.nodes place)) l.targets)
 
