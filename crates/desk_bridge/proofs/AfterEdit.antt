@@ -3,15 +3,15 @@ use Rattle.std.proofs.Common.{◌≡◌, ℕ, ◌<◌, ◌≤◌, true, false, �
 use Rattle.std.specs.List.{AllByRecursion}
 use Rattle.std.proofs.lemmas.Bool.{cases_Bool, cases_lt, eqb-true, or_cases, true≢false}
 use Rattle.desk_graph.specs.declared.line.BillLine.{BillLine}
-use Rattle.desk_graph.specs.Graph.{Graph, label_of, lines_of as node_lines}
-use Rattle.desk_graph.specs.Reaches.{has_node, is_affected as is_affected_node, is_or_reaches as node_is_or_reaches, reaches as node_reaches}
+use Rattle.desk_graph.specs.Graph.{Graph, label_of, lines_of_node as node_lines}
+use Rattle.desk_graph.specs.Reaches.{has_node, is_node_affected as is_affected_node, is_node_or_reaches as node_is_or_reaches, node_reaches}
 use Rattle.desk_graph.proofs.Reached.{any_node-out, same_test}
 use Rattle.desk_rollup.proofs.Lists.{each_line, is_found}
 use Rattle.desk_rollup.proofs.OneNode.{step_stays}
 use Rattle.desk_rollup.specs.Plan.{CanPrepare, nodes_of_owns}
 use Rattle.desk_rollup.specs.Values.{KeptValues, OwnValues, amount_of, own_at, own_with}
 use Rattle.desk_model.specs.declared.edit.Edit.{Edit}
-use Rattle.desk_model.specs.Effect.{entered}
+use Rattle.desk_model.specs.Effect.{with_edit_entered}
 use Rattle.desk_model.specs.Lists.{Lists, is_kept}
 use Rattle.desk_model.proofs.Elements.{any-map}
 use Rattle.desk_findings.specs.Carried.{own_load}
@@ -79,13 +79,13 @@ node_of t g bridge code kept = label_place t g.labels (labels_of t g bridge) cod
 
 module _ (t : Lists) (edit : Edit) (g new : Graph) (kept : KeptValues) (owns : List OwnValues) (edited : IsEdited t edit g new kept owns) where
   abbrev u : Lists
-  u = entered t edit
+  u = with_edit_entered t edit
 
-  pub after_consistent : IsConsistent (entered t edit)
+  pub after_consistent : IsConsistent (with_edit_entered t edit)
   after_consistent = IsConsistent-entered t edit edited.consistent edited.passes
 
-  after_right : IsRight (entered t edit)
-  after_right = right_tables (entered t edit) after_consistent
+  after_right : IsRight (with_edit_entered t edit)
+  after_right = right_tables (with_edit_entered t edit) after_consistent
 
   pub affected_agree : (node : ℕ) → node < length new.labels → is_affected_node new.lines (nodes_of_owns owns) node ≡ is_affected t edit (label_of new.labels node)
   affected_agree node inside =
@@ -98,7 +98,7 @@ module _ (t : Lists) (edit : Edit) (g new : Graph) (kept : KeptValues) (owns : L
         | inl here ↦ subst (λ n. is_affected t edit (label_of new.labels n) ≡ true) (sym (eqb-true node found.0 here)) seed
         | inr there ↦
             rises t edit after_consistent (label_of new.labels node) (label_of new.labels found.0)
-            (sym (reached_agree (entered t edit) after_right new edited.after found.0 at node inside) ∙ there) seed
+            (sym (reached_agree (with_edit_entered t edit) after_right new edited.after found.0 at node inside) ∙ there) seed
       ])
       (into_nodes t edit after_consistent new edited.after edited.passes.is_new (nodes_of_owns owns) edited.renewed.seeds node inside)
 
@@ -113,7 +113,7 @@ module _ (t : Lists) (edit : Edit) (g new : Graph) (kept : KeptValues) (owns : L
         elim (cases_lt node (length g.labels)) [
           | inl before ↦ before
           | inr past ↦
-              let was : is_kept t (label_of new.labels node) ≡ true = sym stay.kept ∙ label_kept (entered t edit) after_right new edited.after node inside in
+              let was : is_kept t (label_of new.labels node) ≡ true = sym stay.kept ∙ label_kept (with_edit_entered t edit) after_right new edited.after node inside in
               let found = node_of t g edited.before (label_of new.labels node) was in
               let same : label_of new.labels found.0 ≡ label_of new.labels node = edited.labels found.0 found.1 ∙ found.2 in
               let one = edited.after.bill.unique found.0 node (omega (arith, found.1, edited.nodes)) inside same in
@@ -125,16 +125,16 @@ module _ (t : Lists) (edit : Edit) (g new : Graph) (kept : KeptValues) (owns : L
         same_lines g.labels new.labels edited.nodes edited.labels edited.after.bill.unique (node_lines new.lines node) (node_lines g.lines node)
         (each_line (λ child. child < length new.labels) (node_lines new.lines node) (λ child line. edited.after.bill.children node child line))
         (each_line (λ child. child < length g.labels) (node_lines g.lines node) (λ child line. edited.before.bill.children node child line))
-        (ends_alike (entered t edit) new edited.after node inside
+        (ends_alike (with_edit_entered t edit) new edited.after node inside
         ∙ ap ends_of stay.lines
         ∙ ap (λ code. ends_of (lines_of t.lines code)) (edited.labels node old)
         ∙ sym (ends_alike t g edited.before node old))
 
-    own_stays : (number : Finding → ℕ) (name : ℕ → List ℕ) → AreOwnOf t g number name (own_at kept.owns) → IsOwnOf (entered t edit) number name (label_of new.labels node) (own_with owns kept.owns node)
+    own_stays : (number : Finding → ℕ) (name : ℕ → List ℕ) → AreOwnOf t g number name (own_at kept.owns) → IsOwnOf (with_edit_entered t edit) number name (label_of new.labels node) (own_with owns kept.owns node)
     own_stays number name own =
         let was = own node old in
         let here : IsOwnOf t number name (label_of new.labels node) (own_at kept.owns node) = subst (λ code. IsOwnOf t number name code (own_at kept.owns node)) (sym (edited.labels node old)) was in
-        subst (IsOwnOf (entered t edit) number name (label_of new.labels node)) (sym (own_kept owns kept.owns node other))
+        subst (IsOwnOf (with_edit_entered t edit) number name (label_of new.labels node)) (sym (own_kept owns kept.owns node other))
         (record {
           weight = here.weight ∙ sym stay.masses;
           marks = λ n. here.marks n ∙ ap (λ found. has_numbered number found n) (sym stay.found);
@@ -142,15 +142,15 @@ module _ (t : Lists) (edit : Edit) (g new : Graph) (kept : KeptValues) (owns : L
         })
 
   pub owns_after : (number : Finding → ℕ) (name : ℕ → List ℕ) → AreOwnOf t g number name (own_at kept.owns) →
-      ((node : ℕ) → has_node (nodes_of_owns owns) node ≡ true → IsOwnOf (entered t edit) number name (label_of new.labels node) (own_with owns kept.owns node)) →
-      AreOwnOf (entered t edit) new number name (own_with owns kept.owns)
+      ((node : ℕ) → has_node (nodes_of_owns owns) node ≡ true → IsOwnOf (with_edit_entered t edit) number name (label_of new.labels node) (own_with owns kept.owns node)) →
+      AreOwnOf (with_edit_entered t edit) new number name (own_with owns kept.owns)
   owns_after number name own given node inside =
       elim (cases_Bool (has_node (nodes_of_owns owns) node)) [
         | inl here ↦ given node here
         | inr other ↦ own_stays node inside other number name own
       ]
 
-  pub can_prepare : (number : Finding → ℕ) (name : ℕ → List ℕ) → AreOwnOf (entered t edit) new number name (own_with owns kept.owns) → CanPrepare new owns kept
+  pub can_prepare : (number : Finding → ℕ) (name : ℕ → List ℕ) → AreOwnOf (with_edit_entered t edit) new number name (own_with owns kept.owns) → CanPrepare new owns kept
   can_prepare number name own = record {
     distinct = edited.renewed.distinct;
     nodes = edited.renewed.inside;
@@ -164,7 +164,7 @@ module _ (t : Lists) (edit : Edit) (g new : Graph) (kept : KeptValues) (owns : L
         let inside : node < length new.labels = omega (arith, there, edited.rolled.rolled_size, edited.nodes) in
         step_stays g edited.before.bill kept edited.rolled new.lines node there (lines_same node inside other);
     lighter = λ node what inside.
-        let carries = rolled_agree (entered t edit) after_right new edited.after (λ n. amount_of (own_with owns kept.owns n).loads what) (own_load (entered t edit) (name what)) (λ n at. (own n at).loads what) node inside in
-        let weighs = rolled_agree (entered t edit) after_right new edited.after (λ n. (own_with owns kept.owns n).weight) (own_mass (entered t edit)) (λ n at. (own n at).weight) node inside in
-        omega (arith, carries, weighs, carried-le (entered t edit) after_right.children after_right.apart after_consistent.contents_fit after_right.acyclic (name what) (label_of new.labels node));
+        let carries = rolled_agree (with_edit_entered t edit) after_right new edited.after (λ n. amount_of (own_with owns kept.owns n).loads what) (own_load (with_edit_entered t edit) (name what)) (λ n at. (own n at).loads what) node inside in
+        let weighs = rolled_agree (with_edit_entered t edit) after_right new edited.after (λ n. (own_with owns kept.owns n).weight) (own_mass (with_edit_entered t edit)) (λ n at. (own n at).weight) node inside in
+        omega (arith, carries, weighs, carried-le (with_edit_entered t edit) after_right.children after_right.apart after_consistent.contents_fit after_right.acyclic (name what) (label_of new.labels node));
   }

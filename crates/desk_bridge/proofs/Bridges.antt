@@ -15,9 +15,9 @@ use Rattle.desk_findings.proofs.Numbering.{label_count}
 use Rattle.desk_history.specs.Sound.{IsConsistent}
 use Rattle.desk_history.proofs.SoundClauses.{right_of}
 use Rattle.desk_graph.specs.declared.line.BillLine.{BillLine}
-use Rattle.desk_graph.specs.Bill.{IsBill}
+use Rattle.desk_graph.specs.Bill.{IsBillGraph}
 use Rattle.desk_graph.specs.Edits.{is_taken}
-use Rattle.desk_graph.specs.Graph.{Graph, label_of, lines_of as node_lines}
+use Rattle.desk_graph.specs.Graph.{Graph, label_of, lines_of_node as node_lines}
 use Rattle.desk_bridge.specs.Bridge.{IsBridge, line_row_at}
 use Rattle.desk_bridge.proofs.Nodes.{node_of_taken}
 
@@ -108,7 +108,7 @@ rows_by labels node (line ∷ lines) (row ∷ rows) a e =
     λ i. same i ∷ rest i
 
 -- a bill whose labels and ends are those of the tables is that of the tables
-pub bridge_by : (t : Lists) → IsConsistent t → (g : Graph) → IsBill g → AreLabels t g.labels → ((node : ℕ) → node < length g.labels → ends_at g.labels (node_lines g.lines node) ≡ ends_of (lines_of t.lines (label_of g.labels node))) → IsBridge t g
+pub bridge_by : (t : Lists) → IsConsistent t → (g : Graph) → IsBillGraph g → AreLabels t g.labels → ((node : ℕ) → node < length g.labels → ends_at g.labels (node_lines g.lines node) ≡ ends_of (lines_of t.lines (label_of g.labels node))) → IsBridge t g
 bridge_by t s g bill labels ends = record {
   bill = bill;
   of = record {

@@ -21,7 +21,7 @@ use Rattle.desk_findings.proofs.Bill.{HasParents, by_line, not_itself}
 use Rattle.desk_findings.proofs.Children.{right_child, right_parent}
 use Rattle.desk_history.specs.Sound.{IsConsistent, KeepsLimits}
 use Rattle.desk_history.proofs.SoundClauses.{forms_of, parents_of, right_of}
-use Rattle.desk_graph.specs.Bill.{IsBill}
+use Rattle.desk_graph.specs.Bill.{IsBillGraph}
 use Rattle.desk_graph.specs.Edits.{with_line_in}
 use Rattle.desk_graph.specs.Graph.{Graph, label_of, line_count}
 use Rattle.desk_graph.specs.Reaches as graph
@@ -100,7 +100,7 @@ reaches_fewer lines i (suc k) part target e =
 
 module _ (t : Lists) (s : IsConsistent t) where
   -- the next line
-  module _ (limits : KeepsLimits t) (g : Graph) (bill : IsBill g) (i : ℕ) (d : LineRow) (h : i < length t.lines) (of : IsBillOf (with_first t i) g) where
+  module _ (limits : KeepsLimits t) (g : Graph) (bill : IsBillGraph g) (i : ℕ) (d : LineRow) (h : i < length t.lines) (of : IsBillOf (with_first t i) g) where
     line : LineRow
     line = get_or t.lines i d
 
@@ -128,10 +128,10 @@ module _ (t : Lists) (s : IsConsistent t) where
     first_parents : (n : ℕ) → HasParents (with_first t n)
     first_parents n = each_take (λ l. is_part t l.parent ≡ true) n t.lines (parents_of t s)
 
-    opens : graph.is_or_reaches g.lines c p ≡ false
+    opens : graph.is_node_or_reaches g.lines c p ≡ false
     unfolding line
     opens =
-        false_from_ne_true (graph.is_or_reaches g.lines c p)
+        false_from_ne_true (graph.is_node_or_reaches g.lines c p)
         (λ closed.
         let told : is_or_reaches (with_first t i) line.child line.parent ≡ true =
         ap (λ a. is_or_reaches (with_first t i) a line.parent) (sym c_at.1) ∙ ap (λ b. is_or_reaches (with_first t i) (label_of g.labels c) b) (sym p_at.1)

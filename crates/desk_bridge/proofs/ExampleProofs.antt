@@ -5,18 +5,18 @@ use Rattle.desk_findings.proofs.ExampleProofs.{examples as desk_examples}
 use Rattle.desk_findings.specs.Findings.{findings_at, own_findings}
 use Rattle.desk_history.proofs.ExampleProofs.{examples as history_examples}
 use Rattle.desk_history.specs.Refused.{refused_by_bill}
-use Rattle.desk_graph.specs.Reaches.{chain_within, reaches_within}
+use Rattle.desk_graph.specs.Reaches.{chain_of_nodes_within, node_reaches_within}
 use Rattle.desk_rollup.specs.Chain.{way}
-use Rattle.desk_rollup.specs.Rolled.{gathered_within, rolled_within}
-use Rattle.desk_tables.specs.Change.{changed}
-use Rattle.desk_tables.specs.Plan.{planned}
+use Rattle.desk_rollup.specs.Rolled.{gathered_within, node_rolled_within}
+use Rattle.desk_tables.specs.Change.{with_change_made}
+use Rattle.desk_tables.specs.Plan.{tables_planned}
 use Rattle.desk_bridge.specs.Bridge.{bill_after}
 use Rattle.desk_bridge.specs.Examples.{BridgeExamples, EditExamples, FindingExamples, LineExamples, OrderExamples, OwnExamples, RefusalExamples, RollUpExamples, YearExamples}
 use Rattle.desk_bridge.specs.Planning.{cycle_by, has_ends}
 
 -- what the examples compute with
 unfoldable pub examples : Bool
-unfolding desk_examples history_examples bill_after chain_within changed cycle_by findings_at gathered_within has_ends own_findings planned reaches_within refused_by_bill rolled_within rule_number way
+unfolding desk_examples history_examples bill_after chain_of_nodes_within with_change_made cycle_by findings_at gathered_within has_ends own_findings tables_planned node_reaches_within refused_by_bill node_rolled_within rule_number way
 examples = true
 
 pub bridge_examples : BridgeExamples

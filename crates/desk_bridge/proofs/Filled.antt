@@ -15,7 +15,7 @@ use Rattle.desk_findings.specs.Numbering.{AreLabels}
 use Rattle.desk_findings.proofs.Children.{not_part}
 use Rattle.desk_findings.proofs.Numbering.{label_count}
 use Rattle.desk_history.specs.Sound.{IsConsistent, KeepsLimits}
-use Rattle.desk_graph.specs.Bill.{IsBill}
+use Rattle.desk_graph.specs.Bill.{IsBillGraph}
 use Rattle.desk_graph.specs.Edits.{is_taken, with_node}
 use Rattle.desk_graph.specs.Graph.{Graph}
 use Rattle.desk_graph.proofs.Ends.{lines_of-more}
@@ -80,7 +80,7 @@ module _ (t : Lists) (s : IsConsistent t) where
         bare = λ node. Rattle.std.proofs.lemmas.List.get_or_past {X = List Rattle.desk_graph.specs.declared.line.BillLine.BillLine} [] node [] (omega arith);
       }
 
-  module _ (g : Graph) (bill : IsBill g) where
+  module _ (g : Graph) (bill : IsBillGraph g) where
     label_once : (code : List ℕ) → times code g.labels ≡ cond (is_taken g.labels code) 1 0
     label_once = once g.labels bill.unique
 
@@ -157,7 +157,7 @@ module _ (t : Lists) (s : IsConsistent t) where
           ∙ sym (ap (λ b. cond b (node_of (g.labels ++ new ∷ []) code) 24576) (still code away ∙ e))
 
   -- a look-up tells whether a node is still missing
-  module _ (g : Graph) (bill : IsBill g) (rows : List NodeRow) (filled : IsFilled t g rows) (code : List ℕ) (found : Option ℕ) (is : found ≡ option_map (λ row. row.node) (row_of (λ row. row.code) code_cmp code rows)) where
+  module _ (g : Graph) (bill : IsBillGraph g) (rows : List NodeRow) (filled : IsFilled t g rows) (code : List ℕ) (found : Option ℕ) (is : found ≡ option_map (λ row. row.node) (row_of (λ row. row.code) code_cmp code rows)) where
     found_by : found ≡ option_map (λ row. row.node) (node_row_if (is_kept t code) code (node_or_none g.labels code))
     found_by = is ∙ ap (option_map (λ row. row.node)) (filled.index code)
 
@@ -225,7 +225,7 @@ module _ (t : Lists) (s : IsConsistent t) where
           and_no false = refl
 
   -- when each kept code has been tried, the bill has all nodes
-  module _ (limits : KeepsLimits t) (g : Graph) (bill : IsBill g) (rows : List NodeRow) (filled : IsFilled t g rows) (codes : List (List ℕ)) (codes_are : codes ≡ nodes_of t) (before : List ℕ → Bool)
+  module _ (limits : KeepsLimits t) (g : Graph) (bill : IsBillGraph g) (rows : List NodeRow) (filled : IsFilled t g rows) (codes : List (List ℕ)) (codes_are : codes ≡ nodes_of t) (before : List ℕ → Bool)
       (taken : (code : List ℕ) → is_taken g.labels code ≡ (before code || (is_kept t code && is_taken codes code))) where
     pub all_taken : (code : List ℕ) → is_taken g.labels code ≡ is_kept t code
     all_taken code = by_kept (is_kept t code) refl (is_taken g.labels code) refl

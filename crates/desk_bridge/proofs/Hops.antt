@@ -6,7 +6,7 @@ use Rattle.std.specs.Option.{option_map_or}
 use Rattle.std.proofs.lemmas.Bool.{and_parts, both_ways, cases_Bool, eq-eqb, eqb-true, false_from_ne_true}
 use Rattle.std.proofs.lemmas.List.{length-map}
 use Rattle.desk_graph.specs.declared.line.BillLine.{BillLine}
-use Rattle.desk_graph.specs.Graph.{Graph, label_of, lines_of as node_lines}
+use Rattle.desk_graph.specs.Graph.{Graph, label_of, lines_of_node as node_lines}
 use Rattle.desk_rollup.proofs.Counts.{times}
 use Rattle.desk_rollup.proofs.Lists.{each_line, find_same}
 use Rattle.desk_rollup.proofs.MarkCount.{once_once}
@@ -14,7 +14,7 @@ use Rattle.desk_rollup.proofs.Ranked.{gathered-step}
 use Rattle.desk_rollup.specs.Chain.{hop_chain as node_chain, next_hop as node_next, way}
 use Rattle.desk_rollup.specs.Numbers.{has, mark_numbers}
 use Rattle.desk_rollup.specs.Plan.{AreRolledUp}
-use Rattle.desk_rollup.specs.Rolled.{gathered, mark_count, mark_numbers_below}
+use Rattle.desk_rollup.specs.Rolled.{numbers_below, mark_count, mark_numbers_below}
 use Rattle.desk_rollup.specs.Values.{KeptValues, OwnValues, own_at}
 use Rattle.desk_model.specs.Lists.{IsOrdered, Lists, is_kept}
 use Rattle.desk_model.proofs.Elements.{any_of_all, any_same, each_map}
@@ -57,7 +57,7 @@ module _ (t : Lists) (right : IsRight t) (g : Graph) (bridge : IsBridge t g) (or
         as_many t ordered (bill t right g bridge) right.apart number numbered (code_of node) (mark_numbers_below g.lines own node)
         (λ n.
         subst (λ ns. times n ns ≤ 1) (sym (gathered-step g.lines bridge.bill.ranked.0 bridge.bill.ranked.1 (λ m. mark_numbers (own m).marks) node))
-        (once_once n (mark_numbers (own node).marks ++ flat_map (λ line. gathered g.lines (λ m. mark_numbers (own m).marks) line.node) (node_lines g.lines node))))
+        (once_once n (mark_numbers (own node).marks ++ flat_map (λ line. numbers_below g.lines (λ m. mark_numbers (own m).marks) line.node) (node_lines g.lines node))))
         (marked t right g bridge ordered number own owned node inside)
 
     lines_as_many : (node : ℕ) → node < length g.labels → length (node_lines g.lines node) ≡ length (lines_of t.lines (code_of node))

@@ -9,14 +9,14 @@ use Rattle.std.proofs.lemmas.Cmp.{nat_cmp_total, on_total, then_total, tied_itse
 use Rattle.std.proofs.lemmas.List.Kept.{IsStrictlySortedBy-filter}
 use Rattle.desk_text.specs.Code.{code_cmp}
 use Rattle.desk_law.specs.declared.rule.Rule.{Rule}
-use Rattle.desk_law.specs.Rule.{all_rules, rule_number}
+use Rattle.desk_law.specs.Rule.{restricting_rules, rule_number}
+use Rattle.desk_law.proofs.Rules.{rules_rise}
 use Rattle.desk_model.specs.declared.rows.candidate.CandidateRow.{CandidateRow}
 use Rattle.desk_model.specs.declared.rows.material.MaterialRow.{MaterialRow}
 use Rattle.desk_model.specs.declared.rows.part.PartRow.{PartRow}
 use Rattle.desk_model.specs.Lists.{IsOrdered, Lists}
 use Rattle.desk_model.proofs.Elements.{each, each_of_map}
 use Rattle.desk_model.proofs.Kept.{code_cmp_total}
-use Rattle.desk_model.proofs.Order.{sorted_from_rises}
 use Rattle.desk_findings.specs.Above.{is_above}
 use Rattle.desk_findings.specs.Articles.{articles_in, is_article_sort, materials_in}
 use Rattle.desk_findings.specs.Findings.{Finding, above, findings, findings_of_article, findings_on, is_in, over, rules_over, same_finding}
@@ -36,10 +36,6 @@ by_rule material a b e = rw (tied_itself code_cmp_total material, e) refl
 
 by_candidate : (article : List ℕ) (a b : CandidateRow) → code_cmp a.substance b.substance ≡ Less → finding_cmp (above article a.substance) (above article b.substance) ≡ Less
 by_candidate article a b e = rw (tied_itself code_cmp_total article, e) refl
-
-rules_rise : IsStrictlySortedBy (on rule_number nat_cmp) all_rules
-unfolding rule_number
-rules_rise = sorted_from_rises (on rule_number nat_cmp) all_rules refl
 
 module _ (t : Lists) (ordered : IsOrdered t) where
   -- what is of a material, and of an article
@@ -66,7 +62,7 @@ module _ (t : Lists) (ordered : IsOrdered t) where
   on_material_rise : (material : MaterialRow) → IsStrictlySortedBy finding_cmp (findings_on t material)
   on_material_rise material =
       sorted_map finding_cmp (on rule_number nat_cmp) (over material.code) (by_rule material.code) (rules_over t material)
-      (IsStrictlySortedBy-filter (on rule_number nat_cmp) (λ rule. is_over_limit t rule material) all_rules rules_rise)
+      (IsStrictlySortedBy-filter (on rule_number nat_cmp) (λ rule. is_over_limit t rule material) restricting_rules rules_rise)
 
   of_article_rise : (article : PartRow) → IsStrictlySortedBy finding_cmp (findings_of_article t article)
   of_article_rise article =

@@ -11,12 +11,12 @@ use Rattle.desk_rows.specs.Rows.{IsByKey, row_of, without_row}
 use Rattle.desk_rows.proofs.Lookups.{row_of-with_row, row_of-with_row_other, row_of-without_row_other}
 use Rattle.desk_rows.proofs.Order.{AllAbove, AllAbove-down, by_key, first_above, less_back, none_by_key, rest_by_key, row_of-above}
 use Rattle.desk_graph.specs.declared.line.BillLine.{BillLine}
-use Rattle.desk_graph.specs.Bill.{IsBill as IsGraph}
-use Rattle.desk_graph.specs.Graph.{Graph, IsByLabel, count_at, label_of, lines_of as node_lines}
+use Rattle.desk_graph.specs.Bill.{IsBillGraph as IsGraph}
+use Rattle.desk_graph.specs.Graph.{Graph, IsByLabel, count_at, label_of, lines_of_node as node_lines}
 use Rattle.desk_rollup.proofs.Lists.{each_line}
 use Rattle.desk_model.specs.declared.edit.Edit.TheVariants.{Line, Unline}
 use Rattle.desk_model.specs.declared.rows.line.LineRow.{LineRow}
-use Rattle.desk_model.specs.Effect.{entered, made}
+use Rattle.desk_model.specs.Effect.{with_edit_entered, with_edit_made}
 use Rattle.desk_model.specs.Lists.{Lists, is_kept, line_key, line_key_cmp, line_row}
 use Rattle.desk_model.proofs.Elements.{each_filter, each_from_all, each_in_map, each_map, each_of_map}
 use Rattle.desk_model.proofs.Kept.{code_cmp_total, line_key_cmp_total, same_code-from, same_code-true}
@@ -309,21 +309,21 @@ module _ (t u : Lists) (g new : Graph) (bridge : IsBridge t g) (s : IsConsistent
 
 pub line_kept : (t : Lists) → IsConsistent t → (g new : Graph) → IsBridge t g → (ticket : List ℕ) (parent child count : ℕ) →
     PassesRows t (Line ticket (label_of g.labels parent) (label_of g.labels child) count) → ChangesLine g new parent child (Some count) →
-    IsBridge (entered t (Line ticket (label_of g.labels parent) (label_of g.labels child) count)) new
-unfolding entered made
+    IsBridge (with_edit_entered t (Line ticket (label_of g.labels parent) (label_of g.labels child) count)) new
+unfolding with_edit_entered with_edit_made
 line_kept t s g new bridge ticket parent child count passes change =
     let line : LineRow = record { parent = label_of g.labels parent; child = label_of g.labels child; count = count } in
-    line_changed t (entered t (Line ticket (label_of g.labels parent) (label_of g.labels child) count)) g new bridge (IsConsistent-entered t (Line ticket (label_of g.labels parent) (label_of g.labels child) count) s passes) parent child (Some count) change
+    line_changed t (with_edit_entered t (Line ticket (label_of g.labels parent) (label_of g.labels child) count)) g new bridge (IsConsistent-entered t (Line ticket (label_of g.labels parent) (label_of g.labels child) count) s passes) parent child (Some count) change
     (λ code. refl)
     (ap (option_map (λ row. row.count)) (row_of-with_row line_key line_key_cmp line_key_cmp_total (record { parent = label_of g.labels parent; child = label_of g.labels child; count = count }) t.lines))
     (λ x y e. row_of-with_row_other line_key line_key_cmp line_key_cmp_total (record { parent = label_of g.labels parent; child = label_of g.labels child; count = count }) (x, y) t.lines e)
 
 pub unline_kept : (t : Lists) → IsConsistent t → (g new : Graph) → IsBridge t g → (ticket : List ℕ) (parent child : ℕ) →
     PassesRows t (Unline ticket (label_of g.labels parent) (label_of g.labels child)) → ChangesLine g new parent child None →
-    IsBridge (entered t (Unline ticket (label_of g.labels parent) (label_of g.labels child))) new
-unfolding entered made
+    IsBridge (with_edit_entered t (Unline ticket (label_of g.labels parent) (label_of g.labels child))) new
+unfolding with_edit_entered with_edit_made
 unline_kept t s g new bridge ticket parent child passes change =
-    line_changed t (entered t (Unline ticket (label_of g.labels parent) (label_of g.labels child))) g new bridge (IsConsistent-entered t (Unline ticket (label_of g.labels parent) (label_of g.labels child)) s passes) parent child None change
+    line_changed t (with_edit_entered t (Unline ticket (label_of g.labels parent) (label_of g.labels child))) g new bridge (IsConsistent-entered t (Unline ticket (label_of g.labels parent) (label_of g.labels child)) s passes) parent child None change
     (λ code. refl)
     (ap (option_map (λ row. row.count)) (taken_out (label_of g.labels parent, label_of g.labels child) t.lines s.ordered.lines))
     (λ x y e. row_of-without_row_other line_key line_key_cmp line_key_cmp_total (label_of g.labels parent, label_of g.labels child) (x, y) t.lines e)

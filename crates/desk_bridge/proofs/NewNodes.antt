@@ -8,13 +8,13 @@ use Rattle.desk_text.specs.Code.{code_cmp, same_code}
 use Rattle.desk_rows.specs.Rows.{IsByKey, row_of, with_row, with_rows}
 use Rattle.desk_rows.proofs.Lookups.{row_of-with_row, row_of-with_row_other}
 use Rattle.desk_graph.specs.declared.line.BillLine.{BillLine}
-use Rattle.desk_graph.specs.Graph.{Graph, count_at, has_line, label_of, lines_of as node_lines}
+use Rattle.desk_graph.specs.Graph.{Graph, count_at, has_line, label_of, lines_of_node as node_lines}
 use Rattle.desk_model.specs.declared.edit.Edit.{Edit}
 use Rattle.desk_model.specs.declared.edit.Edit.TheVariants.{Substance, Member, Declare, Part, Line, Unline, Product, Exemption, Unexempt, Candidate, Ship, Unship}
 use Rattle.desk_model.specs.declared.part_sort.PartSort.{PartSort}
 use Rattle.desk_model.specs.declared.rows.line.LineRow.{LineRow}
 use Rattle.desk_model.specs.Declaration.{Declared}
-use Rattle.desk_model.specs.Effect.{declared_row, declared_rows, entered, made}
+use Rattle.desk_model.specs.Effect.{declared_row, declared_rows, with_edit_entered, with_edit_made}
 use Rattle.desk_model.specs.Forms.{is_declaration_in_form, is_edit_in_form}
 use Rattle.desk_model.specs.Lists.{Lists, is_kept, is_material, is_part, line_key, line_key_cmp, line_row}
 use Rattle.desk_model.proofs.Anys.{count-append, count-once}
@@ -170,8 +170,8 @@ kept_with_all key (new ∷ more) code rows =
     regroup false b c = refl
 
 -- parts
-kept_after_part : (t : Lists) (ticket code name : List ℕ) (sort : PartSort) (other : List ℕ) → is_kept (entered t (Part ticket code sort name)) other ≡ (is_kept t other || same_code code other)
-unfolding entered made
+kept_after_part : (t : Lists) (ticket code name : List ℕ) (sort : PartSort) (other : List ℕ) → is_kept (with_edit_entered t (Part ticket code sort name)) other ≡ (is_kept t other || same_code code other)
+unfolding with_edit_entered with_edit_made
 kept_after_part t ticket code name sort other =
     ap (λ b. is_material t other || b) (kept_with (λ row. row.code) (record { code = code; sort = sort; name = name }) other t.parts)
     ∙ regroup (is_material t other) (is_part t other) (same_code code other)
@@ -201,21 +201,21 @@ new_one t code other = by_cases (is_kept t code) refl
     by_cases true e = none (is_kept t other) (same_code code other) (λ same. subst (λ c. is_kept t c ≡ true) (same_code-true code other same) e)
     by_cases false e = one true ∙ turned (is_kept t other) (same_code code other) (λ same. subst (λ c. is_kept t c ≡ false) (same_code-true code other same) e)
 
-lines_after_part : (t : Lists) (ticket code name : List ℕ) (sort : PartSort) → (entered t (Part ticket code sort name)).lines ≡ t.lines
-unfolding entered made
+lines_after_part : (t : Lists) (ticket code name : List ℕ) (sort : PartSort) → (with_edit_entered t (Part ticket code sort name)).lines ≡ t.lines
+unfolding with_edit_entered with_edit_made
 lines_after_part t ticket code name sort = refl
 
 pub part_kept : (t : Lists) → IsConsistent t → (ticket code : List ℕ) (sort : PartSort) (name : List ℕ) → PassesRows t (Part ticket code sort name) →
-    (g new : Graph) → IsBridge t g → AddsNodes g new (part_codes t code) → IsBridge (entered t (Part ticket code sort name)) new
+    (g new : Graph) → IsBridge t g → AddsNodes g new (part_codes t code) → IsBridge (with_edit_entered t (Part ticket code sort name)) new
 part_kept t s ticket code sort name passes g new bridge adds =
-    added t (entered t (Part ticket code sort name)) s (IsConsistent-entered t (Part ticket code sort name) s passes) (lines_after_part t ticket code name sort)
+    added t (with_edit_entered t (Part ticket code sort name)) s (IsConsistent-entered t (Part ticket code sort name) s passes) (lines_after_part t ticket code name sort)
     (λ other kept. kept_after_part t ticket code name sort other ∙ or_left (is_kept t other) (same_code code other) kept)
     g new bridge (part_codes t code)
     (λ other. new_one t code other ∙ ap (λ b. if b && not (is_kept t other) then 1 else 0) (sym (kept_after_part t ticket code name sort other))) adds
 
 -- declarations
-kept_after_declare : (t : Lists) (d : Declared) (other : List ℕ) → is_kept (entered t (Declare d)) other ≡ (is_kept t other || list_any (λ material. same_code material.code other) d.materials)
-unfolding entered made
+kept_after_declare : (t : Lists) (d : Declared) (other : List ℕ) → is_kept (with_edit_entered t (Declare d)) other ≡ (is_kept t other || list_any (λ material. same_code material.code other) d.materials)
+unfolding with_edit_entered with_edit_made
 kept_after_declare t d other =
     ap (λ b. b || is_part t other)
     (kept_with_all (λ row. row.code) (declared_rows d) other t.materials
@@ -229,8 +229,8 @@ kept_after_declare t d other =
     regroup false false true = refl
     regroup false false false = refl
 
-lines_after_declare : (t : Lists) (d : Declared) → (entered t (Declare d)).lines ≡ t.lines
-unfolding entered made
+lines_after_declare : (t : Lists) (d : Declared) → (with_edit_entered t (Declare d)).lines ≡ t.lines
+unfolding with_edit_entered with_edit_made
 lines_after_declare t d = refl
 
 -- a declaration's codes differ
@@ -261,9 +261,9 @@ new_declared t d form other =
     turned false false = refl
 
 pub declare_kept : (t : Lists) → IsConsistent t → (declaration : Declared) → PassesRows t (Declare declaration) →
-    (g new : Graph) → IsBridge t g → AddsNodes g new (declared_codes t declaration) → IsBridge (entered t (Declare declaration)) new
+    (g new : Graph) → IsBridge t g → AddsNodes g new (declared_codes t declaration) → IsBridge (with_edit_entered t (Declare declaration)) new
 declare_kept t s d passes g new bridge adds =
-    added t (entered t (Declare d)) s (IsConsistent-entered t (Declare d) s passes) (lines_after_declare t d)
+    added t (with_edit_entered t (Declare d)) s (IsConsistent-entered t (Declare d) s passes) (lines_after_declare t d)
     (λ other kept. kept_after_declare t d other ∙ or_left (is_kept t other) (list_any (λ material. same_code material.code other) d.materials) kept)
     g new bridge (declared_codes t d)
     (λ other. new_declared t d passes.in_form other ∙ ap (λ b. if b && not (is_kept t other) then 1 else 0) (sym (kept_after_declare t d other))) adds
@@ -283,8 +283,8 @@ bill_stays t u r same g bridge =
     ∙ ap (λ rows. if is_material u code || is_some (row_of (λ row. row.code) code_cmp code rows) then 1 else 0) (sym same.parts))
     (λ node inside. ends_alike t g bridge node inside ∙ ap (λ lines. ends_of (lines_of lines (label_of g.labels node))) (sym same.lines))
 
-same_bill : (t : Lists) (edit : Edit) → changes_bill edit ≡ false → SameBill t (entered t edit)
-unfolding entered made
+same_bill : (t : Lists) (edit : Edit) → changes_bill edit ≡ false → SameBill t (with_edit_entered t edit)
+unfolding with_edit_entered with_edit_made
 same_bill t (Substance ticket code name cas) e = record { lines = refl; materials = refl; parts = refl }
 same_bill t (Member ticket substance rule factor) e = let leaves = member_leaves t ticket substance rule factor in record { lines = leaves.lines; materials = leaves.materials; parts = parts_of_member t ticket substance rule factor }
 same_bill t (Declare declaration) e = absurd (true≢false e)
@@ -298,5 +298,5 @@ same_bill t (Candidate ticket substance day) e = record { lines = refl; material
 same_bill t (Ship ticket product year units) e = let leaves = ship_leaves t ticket product year units in record { lines = leaves.lines; materials = leaves.materials; parts = parts_of_ship t ticket product year units }
 same_bill t (Unship ticket product year units) e = let leaves = unship_leaves t ticket product year units in record { lines = leaves.lines; materials = leaves.materials; parts = parts_of_unship t ticket product year units }
 
-pub plain_kept : (t : Lists) → IsConsistent t → (edit : Edit) → PassesRows t edit → changes_bill edit ≡ false → (g : Graph) → IsBridge t g → IsBridge (entered t edit) g
-plain_kept t s edit passes e g bridge = bill_stays t (entered t edit) (IsConsistent-entered t edit s passes) (same_bill t edit e) g bridge
+pub plain_kept : (t : Lists) → IsConsistent t → (edit : Edit) → PassesRows t edit → changes_bill edit ≡ false → (g : Graph) → IsBridge t g → IsBridge (with_edit_entered t edit) g
+plain_kept t s edit passes e g bridge = bill_stays t (with_edit_entered t edit) (IsConsistent-entered t edit s passes) (same_bill t edit e) g bridge

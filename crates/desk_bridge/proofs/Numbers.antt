@@ -8,8 +8,8 @@ use Rattle.std.proofs.lemmas.List.{get_or_append_left, get_or_past}
 use Rattle.std.proofs.Math.Seq.{get_or-append_right}
 use Rattle.desk_text.specs.Code.{code_cmp, same_code}
 use Rattle.desk_law.specs.declared.rule.Rule.{Rule}
-use Rattle.desk_law.specs.declared.rule.Rule.TheVariants.{Lead, Mercury, Cadmium, ChromiumVi, Pbb, Pbde, Dehp, Bbp, Dbp, Dibp}
 use Rattle.desk_law.specs.Rule.{rule_number}
+use Rattle.desk_law.proofs.Rules.{rule_below, same_rule-true}
 use Rattle.desk_graph.specs.Graph.{Graph, label_of}
 use Rattle.desk_graph.specs.Reaches.{has_node}
 use Rattle.desk_rollup.specs.Plan.{CanPrepare, nodes_of_owns}
@@ -17,7 +17,7 @@ use Rattle.desk_rollup.specs.Values.{KeptValues, OwnValues, own_at, own_with}
 use Rattle.desk_model.specs.declared.edit.Edit.{Edit}
 use Rattle.desk_model.specs.declared.rows.material.MaterialRow.{MaterialRow}
 use Rattle.desk_model.specs.declared.rows.part.PartRow.{PartRow}
-use Rattle.desk_model.specs.Effect.{entered}
+use Rattle.desk_model.specs.Effect.{with_edit_entered}
 use Rattle.desk_model.specs.Lists.{Lists, is_kept, is_material, is_part, material_row, part_row}
 use Rattle.desk_model.proofs.Elements.{any_gives, any_same, each, each_filter, each_map, each_of_map}
 use Rattle.desk_model.proofs.Kept.{code_cmp_total, each_kept, found_each}
@@ -27,7 +27,7 @@ use Rattle.desk_findings.specs.Carried.{own_load}
 use Rattle.desk_findings.specs.Findings.{Finding, above, findings_of_article, findings_on, over, own_findings, rules_over, same_finding}
 use Rattle.desk_findings.specs.Mass.{mass}
 use Rattle.desk_findings.proofs.Children.{is_part-article, not_part}
-use Rattle.desk_findings.proofs.FindingsOnce.{same_finding-true, same_rule-true}
+use Rattle.desk_findings.proofs.FindingsOnce.{same_finding-true}
 use Rattle.desk_history.specs.Sound.{IsConsistent}
 use Rattle.desk_findings.specs.Holders.{holder}
 use Rattle.desk_findings.specs.Numbering.{AreLabels, AreNumbered, is_found}
@@ -56,19 +56,6 @@ place_stays (first ∷ codes) more code e =
 -- codes at one place are one
 one_place : (codes : List (List ℕ)) (a b : List ℕ) → is_listed codes a ≡ true → is_listed codes b ≡ true → place_of codes a ≡ place_of codes b → a ≡ b
 one_place codes a b here there e = sym (node_of-taken codes a here).1 ∙ ap (λ place. slice_index_or codes place []) e ∙ (node_of-taken codes b there).1
-
-rule_below : (rule : Rule) → rule_number rule < 4294967296
-unfolding rule_number
-rule_below Lead = omega arith
-rule_below Mercury = omega arith
-rule_below Cadmium = omega arith
-rule_below ChromiumVi = omega arith
-rule_below Pbb = omega arith
-rule_below Pbde = omega arith
-rule_below Dehp = omega arith
-rule_below Bbp = omega arith
-rule_below Dbp = omega arith
-rule_below Dibp = omega arith
 
 first_part : (a b c d : ℕ) → c < 4294967296 → d < 4294967296 → a * 4294967296 + c ≡ b * 4294967296 + d → a ≡ b
 first_part a b c d low lower e = omega arith
@@ -206,23 +193,23 @@ module _ (t : Lists) where
         }
 
 pub values_kept : (t : Lists) (edit : Edit) (g new : Graph) (kept : KeptValues) (owns : List OwnValues) → IsEdited t edit g new kept owns →
-    (more : List (List ℕ)) → new.labels ≡ g.labels ++ more → (names others : List (List ℕ)) → AreNames t names → AreNames (entered t edit) (names ++ others) →
+    (more : List (List ℕ)) → new.labels ≡ g.labels ++ more → (names others : List (List ℕ)) → AreNames t names → AreNames (with_edit_entered t edit) (names ++ others) →
     AllByRecursion (λ substance. is_candidate t substance ≡ false) others →
     AreOwnOf t g (finding_number g.labels names) (label_of names) (own_at kept.owns) →
-    ((node : ℕ) → has_node (nodes_of_owns owns) node ≡ true → IsOwnOf (entered t edit) (finding_number new.labels (names ++ others)) (label_of (names ++ others)) (label_of new.labels node) (own_with owns kept.owns node)) →
-    CanPrepare new owns kept × HasOwnValues (entered t edit) new (finding_number new.labels (names ++ others)) (label_of (names ++ others)) (own_with owns kept.owns)
+    ((node : ℕ) → has_node (nodes_of_owns owns) node ≡ true → IsOwnOf (with_edit_entered t edit) (finding_number new.labels (names ++ others)) (label_of (names ++ others)) (label_of new.labels node) (own_with owns kept.owns node)) →
+    CanPrepare new owns kept × HasOwnValues (with_edit_entered t edit) new (finding_number new.labels (names ++ others)) (label_of (names ++ others)) (own_with owns kept.owns)
 values_kept t edit g new kept owns edited more grown names others named named_after fresh own given =
     let number = finding_number new.labels (names ++ others) in
     let before : AreOwnOf t g (finding_number new.labels (names ++ others)) (label_of (names ++ others)) (own_at kept.owns) =
     subst (λ labels. AreOwnOf t g (finding_number labels (names ++ others)) (label_of (names ++ others)) (own_at kept.owns)) (sym grown)
     (owns_grow t edited.consistent g edited.before names named more others fresh (own_at kept.owns) own) in
-    let after : AreOwnOf (entered t edit) new (finding_number new.labels (names ++ others)) (label_of (names ++ others)) (own_with owns kept.owns) =
+    let after : AreOwnOf (with_edit_entered t edit) new (finding_number new.labels (names ++ others)) (label_of (names ++ others)) (own_with owns kept.owns) =
     owns_after t edit g new kept owns edited (finding_number new.labels (names ++ others)) (label_of (names ++ others)) before given in (
       can_prepare t edit g new kept owns edited (finding_number new.labels (names ++ others)) (label_of (names ++ others)) after,
       record {
         consistent = after_consistent t edit g new kept owns edited;
         bridge = edited.after;
-        numbered = numbers_differ (entered t edit) (after_consistent t edit g new kept owns edited) new.labels (names ++ others) (labels_of (entered t edit) new edited.after) named_after;
+        numbered = numbers_differ (with_edit_entered t edit) (after_consistent t edit g new kept owns edited) new.labels (names ++ others) (labels_of (with_edit_entered t edit) new edited.after) named_after;
         owns = after;
       },
     )

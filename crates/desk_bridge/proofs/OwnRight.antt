@@ -6,7 +6,7 @@ use Rattle.std.specs.Option.{option_map_or}
 use Rattle.std.proofs.lemmas.Bool.{and_from, and_parts, cases_lt, false≢true, le-ltb, lt-ltb, true≢false}
 use Rattle.std.proofs.lemmas.List.{get_or_past}
 use Rattle.desk_text.specs.Code.{code_cmp, same_code}
-use Rattle.desk_law.specs.Rule.{all_rules, rule_number}
+use Rattle.desk_law.specs.Rule.{restricting_rules, rule_number}
 use Rattle.desk_graph.specs.Graph.{label_of}
 use Rattle.desk_rows.specs.Rows.{row_of}
 use Rattle.desk_rollup.specs.declared.mark.Mark.{Mark}
@@ -52,7 +52,7 @@ numbers_same labels names m f (x ∷ xs) same n = rw (same x, numbers_same label
 module _ (t : Lists) (s : IsConsistent t) (names labels : List (List ℕ)) (code : List ℕ) (node : ℕ) (place : place_of labels code ≡ node) where
   -- a material
   pub material_own : (row : MaterialRow) → material_row t code ≡ Some row → (own : OwnValues) →
-      own ≡ record { node = node; weight = row.mass; marks = map (rule_mark node) (filter (λ rule. is_over_limit t rule row) all_rules); loads = [] } →
+      own ≡ record { node = node; weight = row.mass; marks = map (rule_mark node) (filter (λ rule. is_over_limit t rule row) restricting_rules); loads = [] } →
       IsOwnOf t (finding_number labels names) (label_of names) code own
   material_own row e own is =
       let has_own = of_material t (right_tables t s) code row e in
@@ -61,7 +61,7 @@ module _ (t : Lists) (s : IsConsistent t) (names labels : List (List ℕ)) (code
       (record {
         weight = sym has_own.0;
         marks = λ n.
-            numbers_same labels names (rule_mark node) (over row.code) (filter (λ rule. is_over_limit t rule row) all_rules)
+            numbers_same labels names (rule_mark node) (over row.code) (filter (λ rule. is_over_limit t rule row) restricting_rules)
             (λ rule. ap (λ p. p * 4294967296 + rule_number rule) (sym place ∙ ap (place_of labels) (sym same))) n
             ∙ ap (λ found. has_numbered (finding_number labels names) found n) (sym has_own.2);
         loads = λ n. sym (has_own.3 (label_of names n));

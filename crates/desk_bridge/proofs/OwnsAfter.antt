@@ -3,13 +3,13 @@ use Rattle.std.proofs.Common.{◌≡◌, ℕ, ◌<◌, ◌≤◌, Bool, true, fa
 use Rattle.std.specs.List.{list_any}
 use Rattle.std.proofs.lemmas.Bool.{and_from, and_parts, both_ways, cases_Bool, eqb-true, false_from_ne_true, not-true, not_from_false}
 use Rattle.desk_text.specs.Code.{same_code}
-use Rattle.desk_graph.specs.Bill.{IsBill}
+use Rattle.desk_graph.specs.Bill.{IsBillGraph}
 use Rattle.desk_graph.specs.Graph.{Graph, label_of}
 use Rattle.desk_graph.specs.Reaches.{AreAffected, has_node}
 use Rattle.desk_rollup.specs.Plan.{AreDistinct}
 use Rattle.desk_rollup.specs.Values.{OwnValues, own_with}
 use Rattle.desk_model.specs.declared.edit.Edit.{Edit}
-use Rattle.desk_model.specs.Effect.{entered, made}
+use Rattle.desk_model.specs.Effect.{with_edit_entered, with_edit_made}
 use Rattle.desk_model.specs.Lists.{Lists}
 use Rattle.desk_findings.specs.Above.{content, is_above}
 use Rattle.desk_findings.specs.Findings.{Finding, own_findings}
@@ -19,7 +19,7 @@ use Rattle.desk_history.specs.Affected.{is_affected, seeds_of_new}
 use Rattle.desk_history.specs.History.{PassesRows}
 use Rattle.desk_history.specs.Sound.{IsConsistent, Sound}
 use Rattle.desk_history.proofs.SoundSteps.{IsConsistent-entered, KeepsLimits-entered}
-use Rattle.desk_tables.specs.Change.{changed}
+use Rattle.desk_tables.specs.Change.{with_change_made}
 use Rattle.desk_tables.specs.declared.row_change.RowChange.{RowChange}
 use Rattle.desk_tables.proofs.Accepting.{consistent_before_ticket}
 use Rattle.desk_history.proofs.Unaffected.{stays}
@@ -33,30 +33,30 @@ use Rattle.desk_bridge.proofs.SeedNodes.{distinct, seed_inside, swept_affected, 
 use Rattle.desk_bridge.proofs.StaysAssembly.{keeps_own, no_seed}
 
 -- the ticket changes no line, no candidate and nothing of own values
-lines_made : (t : Lists) (edit : Edit) → (made t edit).lines ≡ (entered t edit).lines
-unfolding entered
+lines_made : (t : Lists) (edit : Edit) → (with_edit_made t edit).lines ≡ (with_edit_entered t edit).lines
+unfolding with_edit_entered
 lines_made t edit = refl
 
-names_made : (t : Lists) (edit : Edit) (names : List (List ℕ)) → AreNames (entered t edit) names → AreNames (made t edit) names
-unfolding entered
+names_made : (t : Lists) (edit : Edit) (names : List (List ℕ)) → AreNames (with_edit_entered t edit) names → AreNames (with_edit_made t edit) names
+unfolding with_edit_entered
 names_made t edit names named = record { named = named.named; few = named.few; nameless = named.nameless }
 
-own_entered : (t : Lists) (edit : Edit) (number : Finding → ℕ) (name : ℕ → List ℕ) (code : List ℕ) (own : OwnValues) → IsOwnOf (made t edit) number name code own → IsOwnOf (entered t edit) number name code own
-unfolding entered own_findings share content is_above
+own_entered : (t : Lists) (edit : Edit) (number : Finding → ℕ) (name : ℕ → List ℕ) (code : List ℕ) (own : OwnValues) → IsOwnOf (with_edit_made t edit) number name code own → IsOwnOf (with_edit_entered t edit) number name code own
+unfolding with_edit_entered own_findings share content is_above
 own_entered t edit number name code own e = record { weight = e.weight; marks = λ n. e.marks n; loads = λ n. e.loads n }
 
 -- the lists with the change made
-module _ (t : Lists) (edit : Edit) (s : Sound t) (passes : PassesRows t edit) (change : RowChange) (is_made : changed t change ≡ made t edit) (lists : Lists) (are : lists ≡ changed t change) where
+module _ (t : Lists) (edit : Edit) (s : Sound t) (passes : PassesRows t edit) (change : RowChange) (is_made : with_change_made t change ≡ with_edit_made t edit) (lists : Lists) (are : lists ≡ with_change_made t change) where
   pub consistent_after : IsConsistent lists
   consistent_after = subst IsConsistent (sym are) (consistent_before_ticket t edit s passes change is_made)
 
   pub few_after : length lists.lines ≤ 131072
-  few_after = omega (arith, ap (λ l. length l.lines) (are ∙ is_made), ap length (lines_made t edit), (fit_bill (entered t edit) (KeepsLimits-entered t edit passes).tables_fit).lines)
+  few_after = omega (arith, ap (λ l. length l.lines) (are ∙ is_made), ap length (lines_made t edit), (fit_bill (with_edit_entered t edit) (KeepsLimits-entered t edit passes).tables_fit).lines)
 
-  pub named_after : (names : List (List ℕ)) → AreNames (entered t edit) names → AreNames lists names
+  pub named_after : (names : List (List ℕ)) → AreNames (with_edit_entered t edit) names → AreNames lists names
   named_after names named = subst (λ l. AreNames l names) (sym (are ∙ is_made)) (names_made t edit names named)
 
-  pub own_at_after : (labels names : List (List ℕ)) (nodes : List ℕ) (owns : List OwnValues) → AreOwnAt lists labels names nodes owns → AreOwnAt (entered t edit) labels names nodes owns
+  pub own_at_after : (labels names : List (List ℕ)) (nodes : List ℕ) (owns : List OwnValues) → AreOwnAt lists labels names nodes owns → AreOwnAt (with_edit_entered t edit) labels names nodes owns
   own_at_after labels names nodes owns at = record {
     these = at.these;
     right = λ kept node has.
@@ -103,12 +103,12 @@ distinct_filtered p (first ∷ nodes) d =
     ]
 
 -- the nodes that are swept up from the seeds, and own values of them; the seeds and the nodes are lent as slices of what was made
-module _ (t : Lists) (edit : Edit) (s : Sound t) (passes : PassesRows t edit) (g : Graph) (bill : IsBill g) (of : IsBillOf (entered t edit) g) (codes : List (List ℕ)) (codes_are : codes ≡ seeds_of_new t edit)
+module _ (t : Lists) (edit : Edit) (s : Sound t) (passes : PassesRows t edit) (g : Graph) (bill : IsBillGraph g) (of : IsBillOf (with_edit_entered t edit) g) (codes : List (List ℕ)) (codes_are : codes ≡ seeds_of_new t edit)
     (made_seeds seeds : List ℕ) (lent_seeds : seeds ≡ made_seeds) (are : AreNodesOf g.labels codes made_seeds) where
-  r : IsConsistent (entered t edit)
+  r : IsConsistent (with_edit_entered t edit)
   r = IsConsistent-entered t edit s.consistent passes
 
-  bridge : IsBridge (entered t edit) g
+  bridge : IsBridge (with_edit_entered t edit) g
   bridge = record { bill = bill; of = of }
 
   seeds_are : AreNodesOf g.labels (seeds_of_new t edit) seeds
@@ -177,7 +177,7 @@ module _ (t : Lists) (edit : Edit) (s : Sound t) (passes : PassesRows t edit) (g
       pub renewed_inside : (node : ℕ) → has_node renewed node ≡ true → node < length g.labels
       renewed_inside = renewed_are.inside
 
-      pub own_after : (names : List (List ℕ)) (owns : List OwnValues) → AreOwnAt (entered t edit) g.labels names renewed owns → AreOwnAfter t edit g names owns
+      pub own_after : (names : List (List ℕ)) (owns : List OwnValues) → AreOwnAt (with_edit_entered t edit) g.labels names renewed owns → AreOwnAfter t edit g names owns
       own_after names owns at = record {
         renewed = subst (AreRenewed t edit g) (sym at.these) renewed_are;
         right = λ kept node has. at.right kept node (subst (λ ns. has_node ns node ≡ true) at.these has);

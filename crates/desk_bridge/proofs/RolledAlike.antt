@@ -5,13 +5,13 @@ use Rattle.std.proofs.lemmas.Bool.{both_ways, cases_Bool, eq-eqb, eqb-true, fals
 use Rattle.std.proofs.lemmas.List.Sums.{sum_by-cons}
 use Rattle.desk_text.specs.Code.{same_code}
 use Rattle.desk_graph.specs.declared.line.BillLine.{BillLine}
-use Rattle.desk_graph.specs.Bill.{IsBill as IsGraph}
-use Rattle.desk_graph.specs.Graph.{Graph, label_of, lines_of as node_lines}
-use Rattle.desk_graph.specs.Reaches.{Falls, is_or_reaches as node_is_or_reaches, reaches as node_reaches, reaches_within as node_within}
+use Rattle.desk_graph.specs.Bill.{IsBillGraph as IsGraph}
+use Rattle.desk_graph.specs.Graph.{Graph, label_of, lines_of_node as node_lines}
+use Rattle.desk_graph.specs.Reaches.{Falls, is_node_or_reaches as node_is_or_reaches, node_reaches, node_reaches_within as node_within}
 use Rattle.desk_rollup.proofs.Lists.{any_same, each_as, each_line, sum_same}
 use Rattle.desk_rollup.proofs.Ranked.{by_children, gathered_has, goes_up, rolled-step as node_rolled-step}
 use Rattle.desk_rollup.specs.Numbers.{has, mark_numbers}
-use Rattle.desk_rollup.specs.Rolled.{mark_numbers_below, rolled as node_rolled}
+use Rattle.desk_rollup.specs.Rolled.{mark_numbers_below, node_rolled}
 use Rattle.desk_rollup.specs.Values.{OwnValues}
 use Rattle.desk_model.specs.Lists.{IsOrdered, Lists}
 use Rattle.desk_model.proofs.Elements.{any-map}

@@ -6,14 +6,14 @@ use Rattle.std.proofs.lemmas.Bool.{and_from, and_parts, eq-eqb, eqb-true, false�
 use Rattle.desk_text.specs.Code.{same_code}
 use Rattle.desk_model.specs.declared.edit.Edit.{Edit}
 use Rattle.desk_model.specs.declared.rows.line.LineRow.{LineRow}
-use Rattle.desk_model.specs.Effect.{entered}
+use Rattle.desk_model.specs.Effect.{with_edit_entered}
 use Rattle.desk_model.specs.Lists.{Lists, is_kept}
 use Rattle.desk_model.proofs.Elements.{any_gives, any_map, any_of_all, each, each_filter, each_from_all, each_map}
 use Rattle.desk_model.proofs.Kept.{same_code-from, same_code-true}
 use Rattle.desk_findings.specs.Reaches.{enough, is_or_reaches, lines_of, reaches, reaches_within}
 use Rattle.desk_findings.proofs.Children.{children_kept}
 use Rattle.desk_graph.specs.Graph.{Graph, label_of}
-use Rattle.desk_graph.specs.Reaches.{AreAffected, has_node, is_affected as is_affected_node, is_or_reaches as node_is_or_reaches, reaches as node_reaches}
+use Rattle.desk_graph.specs.Reaches.{AreAffected, has_node, is_node_affected as is_affected_node, is_node_or_reaches as node_is_or_reaches, node_reaches}
 use Rattle.desk_graph.proofs.Reached.{affected-seed, any_node-in, any_node-out, same_test}
 use Rattle.desk_rollup.specs.Plan.{AreDistinct}
 use Rattle.desk_rollup.proofs.Counts.{once_distinct}
@@ -47,33 +47,33 @@ seeds_are : (t : Lists) (edit : Edit) → kept_number t edit ≡ None → seeds 
 seeds_are t edit new = rw new refl
 
 -- nodes among which each seed is: a seed that is reached is kept, and so it has a node
-module _ (t : Lists) (edit : Edit) (r : IsConsistent (entered t edit)) (g : Graph) (bridge : IsBridge (entered t edit) g) (new : kept_number t edit ≡ None) (nodes : List ℕ)
+module _ (t : Lists) (edit : Edit) (r : IsConsistent (with_edit_entered t edit)) (g : Graph) (bridge : IsBridge (with_edit_entered t edit) g) (new : kept_number t edit ≡ None) (nodes : List ℕ)
     (covers : (seed : ℕ) → seed < length g.labels → list_any (same_code (label_of g.labels seed)) (seeds_of_new t edit) ≡ true → has_node nodes seed ≡ true) where
   -- a node whose code is a seed or reaches one is one of the nodes or reaches one
   pub into_nodes : (node : ℕ) → node < length g.labels → is_affected t edit (label_of g.labels node) ≡ true → is_affected_node g.lines nodes node ≡ true
   unfolding is_affected
   into_nodes node inside e =
-      any_gives (λ seed. is_or_reaches (entered t edit) (label_of g.labels node) seed) (seeds_of_new t edit)
-      (each_map (λ code. (p : List ℕ → Bool) → p code ≡ true → list_any p (seeds_of_new t edit) ≡ true) (λ code. is_or_reaches (entered t edit) (label_of g.labels node) code ≡ true → is_affected_node g.lines nodes node ≡ true)
-      (λ code listed way. by_seed code listed (or_cases (same_code (label_of g.labels node) code) (reaches (entered t edit) (label_of g.labels node) code) way)) (seeds_of_new t edit) (any_of_all (seeds_of_new t edit)))
-      (ap (λ codes. list_any (λ seed. is_or_reaches (entered t edit) (label_of g.labels node) seed) codes) (sym (seeds_are t edit new)) ∙ e)
+      any_gives (λ seed. is_or_reaches (with_edit_entered t edit) (label_of g.labels node) seed) (seeds_of_new t edit)
+      (each_map (λ code. (p : List ℕ → Bool) → p code ≡ true → list_any p (seeds_of_new t edit) ≡ true) (λ code. is_or_reaches (with_edit_entered t edit) (label_of g.labels node) code ≡ true → is_affected_node g.lines nodes node ≡ true)
+      (λ code listed way. by_seed code listed (or_cases (same_code (label_of g.labels node) code) (reaches (with_edit_entered t edit) (label_of g.labels node) code) way)) (seeds_of_new t edit) (any_of_all (seeds_of_new t edit)))
+      (ap (λ codes. list_any (λ seed. is_or_reaches (with_edit_entered t edit) (label_of g.labels node) seed) codes) (sym (seeds_are t edit new)) ∙ e)
     where
       at_seed : (seed : ℕ) → seed < length g.labels → (code : List ℕ) → label_of g.labels seed ≡ code → ((p : List ℕ → Bool) → p code ≡ true → list_any p (seeds_of_new t edit) ≡ true) → node_is_or_reaches g.lines node seed ≡ true → is_affected_node g.lines nodes node ≡ true
       at_seed seed there code is listed way =
           any_node-in (λ other. node_is_or_reaches g.lines node other) nodes seed
           (covers seed there (listed (same_code (label_of g.labels seed)) (same_code-from (label_of g.labels seed) code is))) way
 
-      by_seed : (code : List ℕ) → ((p : List ℕ → Bool) → p code ≡ true → list_any p (seeds_of_new t edit) ≡ true) → ((same_code (label_of g.labels node) code ≡ true) ⊎ (reaches (entered t edit) (label_of g.labels node) code ≡ true)) → is_affected_node g.lines nodes node ≡ true
+      by_seed : (code : List ℕ) → ((p : List ℕ → Bool) → p code ≡ true → list_any p (seeds_of_new t edit) ≡ true) → ((same_code (label_of g.labels node) code ≡ true) ⊎ (reaches (with_edit_entered t edit) (label_of g.labels node) code ≡ true)) → is_affected_node g.lines nodes node ≡ true
       by_seed code listed (inl here) =
           at_seed node inside code (same_code-true (label_of g.labels node) code here) listed (or_left (node == node) (node_reaches g.lines node node) (eq-eqb node node refl))
       by_seed code listed (inr far) =
-          let kept = reached_kept (entered t edit) r code (enough (entered t edit)) (label_of g.labels node) far in
+          let kept = reached_kept (with_edit_entered t edit) r code (enough (with_edit_entered t edit)) (label_of g.labels node) far in
           let found = node_of_taken g.labels code (bridge.of.numbered.taken code ∙ kept) in
           at_seed found.0 found.1 code found.2 listed
           (or_right (node == found.0) (node_reaches g.lines node found.0)
-          (reached_agree (entered t edit) (right_tables (entered t edit) r) g bridge found.0 found.1 node inside ∙ subst (λ c. reaches (entered t edit) (label_of g.labels node) c ≡ true) (sym found.2) far))
+          (reached_agree (with_edit_entered t edit) (right_tables (with_edit_entered t edit) r) g bridge found.0 found.1 node inside ∙ subst (λ c. reaches (with_edit_entered t edit) (label_of g.labels node) c ≡ true) (sym found.2) far))
 
-module _ (t : Lists) (edit : Edit) (r : IsConsistent (entered t edit)) (g : Graph) (bridge : IsBridge (entered t edit) g) (new : kept_number t edit ≡ None) (of_seeds : List ℕ) (are : AreNodesOf g.labels (seeds_of_new t edit) of_seeds) where
+module _ (t : Lists) (edit : Edit) (r : IsConsistent (with_edit_entered t edit)) (g : Graph) (bridge : IsBridge (with_edit_entered t edit) g) (new : kept_number t edit ≡ None) (of_seeds : List ℕ) (are : AreNodesOf g.labels (seeds_of_new t edit) of_seeds) where
   seed_is : (seed : ℕ) → has_node of_seeds seed ≡ true → (nat_lt seed (length g.labels) ≡ true) × (list_any (same_code (label_of g.labels seed)) (seeds_of_new t edit) ≡ true)
   seed_is seed has = and_parts (nat_lt seed (length g.labels)) (list_any (same_code (label_of g.labels seed)) (seeds_of_new t edit)) (sym (are seed) ∙ has)
 
@@ -86,17 +86,17 @@ module _ (t : Lists) (edit : Edit) (r : IsConsistent (entered t edit)) (g : Grap
   from_nodes node inside e =
       let found = any_node-out (λ seed. node_is_or_reaches g.lines node seed) of_seeds e in
       let there = seed_inside found.0 found.1 in
-      let way : is_or_reaches (entered t edit) (label_of g.labels node) (label_of g.labels found.0) ≡ true =
+      let way : is_or_reaches (with_edit_entered t edit) (label_of g.labels node) (label_of g.labels found.0) ≡ true =
       elim (or_cases (node == found.0) (node_reaches g.lines node found.0) found.2) [
-        | inl here ↦ or_left (same_code (label_of g.labels node) (label_of g.labels found.0)) (reaches (entered t edit) (label_of g.labels node) (label_of g.labels found.0)) (same_code-from (label_of g.labels node) (label_of g.labels found.0) (ap (label_of g.labels) (eqb-true node found.0 here)))
+        | inl here ↦ or_left (same_code (label_of g.labels node) (label_of g.labels found.0)) (reaches (with_edit_entered t edit) (label_of g.labels node) (label_of g.labels found.0)) (same_code-from (label_of g.labels node) (label_of g.labels found.0) (ap (label_of g.labels) (eqb-true node found.0 here)))
         | inr far ↦
-            or_right (same_code (label_of g.labels node) (label_of g.labels found.0)) (reaches (entered t edit) (label_of g.labels node) (label_of g.labels found.0))
-            (sym (reached_agree (entered t edit) (right_tables (entered t edit) r) g bridge found.0 there node inside) ∙ far)
+            or_right (same_code (label_of g.labels node) (label_of g.labels found.0)) (reaches (with_edit_entered t edit) (label_of g.labels node) (label_of g.labels found.0))
+            (sym (reached_agree (with_edit_entered t edit) (right_tables (with_edit_entered t edit) r) g bridge found.0 there node inside) ∙ far)
       ] in
-      ap (λ codes. list_any (λ seed. is_or_reaches (entered t edit) (label_of g.labels node) seed) codes) (seeds_are t edit new)
-      ∙ any_map (same_code (label_of g.labels found.0)) (λ seed. is_or_reaches (entered t edit) (label_of g.labels node) seed) (seeds_of_new t edit)
-      (each (λ seed. same_code (label_of g.labels found.0) seed ≡ true → is_or_reaches (entered t edit) (label_of g.labels node) seed ≡ true)
-      (λ seed same. subst (λ c. is_or_reaches (entered t edit) (label_of g.labels node) c ≡ true) (same_code-true (label_of g.labels found.0) seed same) way) (seeds_of_new t edit)) (seed_is found.0 found.1).1
+      ap (λ codes. list_any (λ seed. is_or_reaches (with_edit_entered t edit) (label_of g.labels node) seed) codes) (seeds_are t edit new)
+      ∙ any_map (same_code (label_of g.labels found.0)) (λ seed. is_or_reaches (with_edit_entered t edit) (label_of g.labels node) seed) (seeds_of_new t edit)
+      (each (λ seed. same_code (label_of g.labels found.0) seed ≡ true → is_or_reaches (with_edit_entered t edit) (label_of g.labels node) seed ≡ true)
+      (λ seed same. subst (λ c. is_or_reaches (with_edit_entered t edit) (label_of g.labels node) c ≡ true) (same_code-true (label_of g.labels found.0) seed same) way) (seeds_of_new t edit)) (seed_is found.0 found.1).1
 
   -- the seeds are among their nodes
   pub seeds_in : (seed : ℕ) → seed < length g.labels → list_any (same_code (label_of g.labels seed)) (seeds_of_new t edit) ≡ true → has_node of_seeds seed ≡ true

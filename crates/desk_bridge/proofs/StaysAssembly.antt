@@ -17,7 +17,7 @@ use Rattle.desk_model.specs.declared.part_sort.PartSort.TheVariants.{Article, As
 use Rattle.desk_model.specs.declared.rows.line.LineRow.{LineRow}
 use Rattle.desk_model.specs.declared.rows.part.PartRow.{PartRow}
 use Rattle.desk_model.specs.Declaration.{Declared}
-use Rattle.desk_model.specs.Effect.{entered, made}
+use Rattle.desk_model.specs.Effect.{with_edit_entered, with_edit_made}
 use Rattle.desk_model.specs.Lists.{Lists, is_material, is_part, line_key, line_key_cmp, part_row}
 use Rattle.desk_model.proofs.Elements.{any_gives, each, each_filter, each_map, each_of_map, find-none}
 use Rattle.desk_model.proofs.Kept.{code_cmp_total, each_kept, same_code-true}
@@ -68,8 +68,8 @@ is_equal Greater e = absurd (false≢true e)
 other_parent : (a b : LineRow) (code : List ℕ) → same_code b.parent code ≡ false → line_key_cmp (line_key a) (line_key b) ≡ Equal → same_code a.parent code ≡ false
 other_parent a b code other e = subst (λ c. same_code c code ≡ false) (sym (exact_bytes a.parent b.parent (then_equal (code_cmp a.parent b.parent) (code_cmp a.child b.child) e))) other
 
-lines_stay : (t : Lists) (edit : Edit) (code : List ℕ) → changes_lines edit code ≡ false → lines_of (entered t edit).lines code ≡ lines_of t.lines code
-unfolding entered made
+lines_stay : (t : Lists) (edit : Edit) (code : List ℕ) → changes_lines edit code ≡ false → lines_of (with_edit_entered t edit).lines code ≡ lines_of t.lines code
+unfolding with_edit_entered with_edit_made
 lines_stay t (Substance ticket substance name cas) code e = refl
 lines_stay t (Member ticket substance rule factor) code e = ap (λ lines. lines_of lines code) (member_leaves t ticket substance rule factor).lines
 lines_stay t (Declare declaration) code e = refl
@@ -101,14 +101,14 @@ module _ (t : Lists) (ticket code name : List ℕ) (sort : PartSort) (same_kind 
   sort_found None e is = absurd (false≢true is)
   sort_found (Some part) e is = one_sort part.sort sort (same_kind part e) is
 
-  part_stays : (other : List ℕ) → is_assembly t other ≡ true → is_assembly (entered t (Part ticket code sort name)) other ≡ true
-  unfolding entered made
+  part_stays : (other : List ℕ) → is_assembly t other ≡ true → is_assembly (with_edit_entered t (Part ticket code sort name)) other ≡ true
+  unfolding with_edit_entered with_edit_made
   part_stays other is =
       let new : PartRow = record { code = code; sort = sort; name = name } in
       elim (cases_Bool (same_code code other)) [
         | inl same ↦
             let one = same_code-true code other same in
-            subst (λ c. is_assembly (entered t (Part ticket code sort name)) c ≡ true) one
+            subst (λ c. is_assembly (with_edit_entered t (Part ticket code sort name)) c ≡ true) one
             (ap (λ o. option_map_or (λ part. same_sort part.sort Assembly) o false) (row_of-with_row (λ row. row.code) code_cmp code_cmp_total new t.parts)
             ∙ sort_found (part_row t code) refl (subst (λ c. is_assembly t c ≡ true) (sym one) is))
         | inr differs ↦ ap (λ o. option_map_or (λ part. same_sort part.sort Assembly) o false) (row_of-with_row_other (λ row. row.code) code_cmp code_cmp_total new other t.parts differs) ∙ is
@@ -118,10 +118,10 @@ module _ (t : Lists) (ticket code name : List ℕ) (sort : PartSort) (same_kind 
 same_parts : (t u : Lists) (code : List ℕ) → u.parts ≡ t.parts → is_assembly t code ≡ true → is_assembly u code ≡ true
 same_parts t u code e is = ap (λ rows. option_map_or (λ part. same_sort part.sort Assembly) (row_of (λ row. row.code) code_cmp code rows) false) e ∙ is
 
-assembly_stays : (t : Lists) → IsConsistent t → (edit : Edit) → PassesRows t edit → (code : List ℕ) → is_assembly t code ≡ true → is_assembly (entered t edit) code ≡ true
-unfolding entered made
+assembly_stays : (t : Lists) → IsConsistent t → (edit : Edit) → PassesRows t edit → (code : List ℕ) → is_assembly t code ≡ true → is_assembly (with_edit_entered t edit) code ≡ true
+unfolding with_edit_entered with_edit_made
 assembly_stays t s (Substance ticket substance name cas) a code is = is
-assembly_stays t s (Member ticket substance rule factor) a code is = same_parts t (entered t (Member ticket substance rule factor)) code (parts_of_member t ticket substance rule factor) is
+assembly_stays t s (Member ticket substance rule factor) a code is = same_parts t (with_edit_entered t (Member ticket substance rule factor)) code (parts_of_member t ticket substance rule factor) is
 assembly_stays t s (Declare declaration) a code is = is
 assembly_stays t s (Part ticket part sort name) a code is =
     part_stays t ticket part name sort (kind_kept t (good_of t s) ticket part name sort (unrefused t (Part ticket part sort name) a).kind_changed) code is
@@ -131,8 +131,8 @@ assembly_stays t s (Product ticket part kind) a code is = is
 assembly_stays t s (Exemption ticket exemption) a code is = is
 assembly_stays t s (Unexempt ticket row) a code is = is
 assembly_stays t s (Candidate ticket substance day) a code is = is
-assembly_stays t s (Ship ticket product year units) a code is = same_parts t (entered t (Ship ticket product year units)) code (parts_of_ship t ticket product year units) is
-assembly_stays t s (Unship ticket product year units) a code is = same_parts t (entered t (Unship ticket product year units)) code (parts_of_unship t ticket product year units) is
+assembly_stays t s (Ship ticket product year units) a code is = same_parts t (with_edit_entered t (Ship ticket product year units)) code (parts_of_ship t ticket product year units) is
+assembly_stays t s (Unship ticket product year units) a code is = same_parts t (with_edit_entered t (Unship ticket product year units)) code (parts_of_unship t ticket product year units) is
 
 -- seeds are materials, articles, new parts, or parents of the edit's line
 module _ (t : Lists) (s : IsConsistent t) (code : List ℕ) (is : is_assembly t code ≡ true) where
@@ -194,9 +194,9 @@ module _ (t : Lists) (s : IsConsistent t) (code : List ℕ) (is : is_assembly t 
       let is_still = assembly_stays t s edit a code is in
       let r = IsConsistent-entered t edit s a in
       let before = of_other t code (no_material t s code is) (no_article t s code is) in
-      let after = of_other (entered t edit) code (no_material (entered t edit) r code is_still) (no_article (entered t edit) r code is_still) in
+      let after = of_other (with_edit_entered t edit) code (no_material (with_edit_entered t edit) r code is_still) (no_article (with_edit_entered t edit) r code is_still) in
       record {
-        kept = or_right (is_material (entered t edit) code) (is_part (entered t edit) code) (is_part-assembly (entered t edit) code is_still) ∙ sym (or_right (is_material t code) (is_part t code) (is_part-assembly t code is));
+        kept = or_right (is_material (with_edit_entered t edit) code) (is_part (with_edit_entered t edit) code) (is_part-assembly (with_edit_entered t edit) code is_still) ∙ sym (or_right (is_material t code) (is_part t code) (is_part-assembly t code is));
         lines = lines_stay t edit code e;
         masses = after.0 ∙ sym before.0;
         found = after.1 ∙ sym before.1;

@@ -12,7 +12,7 @@ use Rattle.desk_rows.specs.Rows.{IsByKey, row_of, with_row, without_row}
 use Rattle.desk_model.specs.declared.edit.Edit.{Edit}
 use Rattle.desk_model.specs.declared.edit.Edit.TheVariants.{Ship, Unship}
 use Rattle.desk_model.specs.declared.rows.shipment.ShipmentRow.{ShipmentRow}
-use Rattle.desk_model.specs.Effect.{entered, made, units_of, with_units as shipped_units}
+use Rattle.desk_model.specs.Effect.{with_edit_entered, with_edit_made, units_of, with_units as shipped_units}
 use Rattle.desk_model.specs.declared.limits.TheConstants.{UNITS_LIMIT}
 use Rattle.desk_model.specs.Forms.{are_units, is_edit_in_form, is_year}
 use Rattle.desk_model.specs.Values.{is_code}
@@ -31,10 +31,10 @@ use Rattle.desk_history.proofs.Untouched.{same_shipments}
 use Rattle.desk_history.proofs.Years.{found_key, unaffected}
 use Rattle.desk_tonnage.specs.declared.entry.Entry.{Entry}
 use Rattle.desk_tonnage.specs.declared.product_mass.ProductMass.{ProductMass}
-use Rattle.desk_tonnage.specs.Edits.{HasMass, lowered, with_entry, with_units, without_units}
-use Rattle.desk_tonnage.specs.Entries.{entry_key, entry_key_cmp, entry_of, units_of as entry_units}
+use Rattle.desk_tonnage.specs.Edits.{HasMass, lowered, with_entry, with_entry_units, without_entry_units}
+use Rattle.desk_tonnage.specs.Entries.{entry_key, entry_key_cmp, entry_of, entry_units}
 use Rattle.desk_tonnage.specs.Masses.{with_masses}
-use Rattle.desk_tonnage.specs.Years.{too_heavy_year as too_heavy_entries, year_mass as entries_mass}
+use Rattle.desk_tonnage.specs.Years.{too_heavy_entry_year as too_heavy_entries, entries_mass_in as entries_mass}
 use Rattle.desk_bridge.specs.Years.{AreNewMasses, entries_of, shipment_entry}
 
 -- rows that are turned into others of the same keys
@@ -137,8 +137,8 @@ same_entries old new same [] = refl
 same_entries old new same (row ∷ rows) = λ i. of_mass row (same row.product i) ∷ same_entries old new same rows i
 
 module _ (t : Lists) (s : IsConsistent t) where
-  by_old : (edit : Edit) → PassesRows t edit → seeds_of_new t edit ≡ [] → entries_of (entered t edit) ≡ map (shipment_entry (mass t)) (entered t edit).shipments
-  by_old edit passed none = same_entries (mass t) (mass (entered t edit)) (λ product. mass_stays t s edit passed product (unaffected t edit none product)) (entered t edit).shipments
+  by_old : (edit : Edit) → PassesRows t edit → seeds_of_new t edit ≡ [] → entries_of (with_edit_entered t edit) ≡ map (shipment_entry (mass t)) (with_edit_entered t edit).shipments
+  by_old edit passed none = same_entries (mass t) (mass (with_edit_entered t edit)) (λ product. mass_stays t s edit passed product (unaffected t edit none product)) (with_edit_entered t edit).shipments
 
   some_units : (year : ℕ) (product : List ℕ) (units : ℕ) → 1 ≤ units → (shipped_units t year product units).shipments ≡ with_row shipment_key shipment_key_cmp (record { year = year; product = product; units = units }) t.shipments
   some_units year product zero some = absurd (omega arith)
@@ -148,12 +148,12 @@ module _ (t : Lists) (s : IsConsistent t) where
   put : (year : ℕ) (product : List ℕ) (n : ℕ) → map (shipment_entry (mass t)) (with_row shipment_key shipment_key_cmp (record { year = year; product = product; units = n }) t.shipments) ≡ with_entry (record { year = year; product = product; units = n; mass = mass t product }) (entries_of t)
   put year product n = sym (with_row-map shipment_key entry_key shipment_key_cmp (shipment_entry (mass t)) (λ row. refl) (record { year = year; product = product; units = n }) t.shipments)
 
-  shipments_of_ship : (ticket product : List ℕ) (year units : ℕ) → (entered t (Ship ticket product year units)).shipments ≡ (shipped_units t year product (units_of t year product + units)).shipments
-  unfolding entered made
+  shipments_of_ship : (ticket product : List ℕ) (year units : ℕ) → (with_edit_entered t (Ship ticket product year units)).shipments ≡ (shipped_units t year product (units_of t year product + units)).shipments
+  unfolding with_edit_entered with_edit_made
   shipments_of_ship ticket product year units = refl
 
-  shipments_of_unship : (ticket product : List ℕ) (year units : ℕ) → (entered t (Unship ticket product year units)).shipments ≡ (shipped_units t year product (units_of t year product - units)).shipments
-  unfolding entered made
+  shipments_of_unship : (ticket product : List ℕ) (year units : ℕ) → (with_edit_entered t (Unship ticket product year units)).shipments ≡ (shipped_units t year product (units_of t year product - units)).shipments
+  unfolding with_edit_entered with_edit_made
   shipments_of_unship ticket product year units = refl
 
   some_shipped : (ticket product : List ℕ) (year units : ℕ) → is_edit_in_form (Ship ticket product year units) ≡ true → 1 ≤ units
@@ -172,7 +172,7 @@ module _ (t : Lists) (s : IsConsistent t) where
   unfolding seeds_of_new
   no_seeds_of_unship ticket product year units = refl
 
-  pub shipped : (ticket product : List ℕ) (year more : ℕ) → PassesRows t (Ship ticket product year more) → entries_of (entered t (Ship ticket product year more)) ≡ with_units year product more (mass t product) (entries_of t)
+  pub shipped : (ticket product : List ℕ) (year more : ℕ) → PassesRows t (Ship ticket product year more) → entries_of (with_edit_entered t (Ship ticket product year more)) ≡ with_entry_units year product more (mass t product) (entries_of t)
   shipped ticket product year more passed =
       let some = some_shipped ticket product year more passed.in_form in
       by_old (Ship ticket product year more) passed (no_seeds_of_ship ticket product year more)
@@ -211,7 +211,7 @@ module _ (t : Lists) (s : IsConsistent t) where
       left : (a b : ℕ) → b ≤ a → (a ≡ b → ⊥) → 1 ≤ a - b
       left a b le differ = omega (arith, le, differ)
 
-  pub taken_off : (ticket product : List ℕ) (year fewer : ℕ) → PassesRows t (Unship ticket product year fewer) → entries_of (entered t (Unship ticket product year fewer)) ≡ without_units year product fewer (entries_of t)
+  pub taken_off : (ticket product : List ℕ) (year fewer : ℕ) → PassesRows t (Unship ticket product year fewer) → entries_of (with_edit_entered t (Unship ticket product year fewer)) ≡ without_entry_units year product fewer (entries_of t)
   unfolding ship_below_zero
   taken_off ticket product year fewer passed =
       let kept = units_of t year product in
@@ -223,15 +223,15 @@ module _ (t : Lists) (s : IsConsistent t) where
 
   -- an edit that ships nothing gives some products other masses
   new_mass : (edit : Edit) → PassesRows t edit → (weighed : List ProductMass) → AreNewMasses t edit weighed → (product : List ℕ) (o : Option ProductMass) → row_of (λ w. w.product) code_cmp product weighed ≡ o →
-      mass (entered t edit) product ≡ option_map_or (λ w. w.mass) o (mass t product)
+      mass (with_edit_entered t edit) product ≡ option_map_or (λ w. w.mass) o (mass t product)
   new_mass edit passed weighed are product None e = mass_stays t s edit passed product (are.others product e)
   new_mass edit passed weighed are product (Some w) e = sym (are.new product w e)
 
-  weighed_rows : (edit : Edit) → PassesRows t edit → (weighed : List ProductMass) → AreNewMasses t edit weighed → (rows : List ShipmentRow) → map (shipment_entry (mass (entered t edit))) rows ≡ with_masses weighed (map (shipment_entry (mass t)) rows)
+  weighed_rows : (edit : Edit) → PassesRows t edit → (weighed : List ProductMass) → AreNewMasses t edit weighed → (rows : List ShipmentRow) → map (shipment_entry (mass (with_edit_entered t edit))) rows ≡ with_masses weighed (map (shipment_entry (mass t)) rows)
   weighed_rows edit passed weighed are [] = refl
   weighed_rows edit passed weighed are (row ∷ rows) =
       let same = new_mass edit passed weighed are row.product (row_of (λ w. w.product) code_cmp row.product weighed) refl in
       λ i. of_mass row (same i) ∷ weighed_rows edit passed weighed are rows i
 
-  pub reweighed : (edit : Edit) → PassesRows t edit → changes_shipments edit ≡ false → (weighed : List ProductMass) → AreNewMasses t edit weighed → entries_of (entered t edit) ≡ with_masses weighed (entries_of t)
-  reweighed edit passed none weighed are = ap (map (shipment_entry (mass (entered t edit)))) (same_shipments t edit none) ∙ weighed_rows edit passed weighed are t.shipments
+  pub reweighed : (edit : Edit) → PassesRows t edit → changes_shipments edit ≡ false → (weighed : List ProductMass) → AreNewMasses t edit weighed → entries_of (with_edit_entered t edit) ≡ with_masses weighed (entries_of t)
+  reweighed edit passed none weighed are = ap (map (shipment_entry (mass (with_edit_entered t edit)))) (same_shipments t edit none) ∙ weighed_rows edit passed weighed are t.shipments

@@ -4,12 +4,12 @@ use Rattle.std.specs.Prelude.{◌≡◌, ℕ, ◌<◌, ◌≤◌, List, true, fa
 use Rattle.std.specs.List.{list_any}
 use Rattle.desk_text.specs.Code.{same_code}
 use Rattle.desk_graph.specs.Graph.{Graph, label_of}
-use Rattle.desk_graph.specs.Reaches.{has_node, is_affected as is_affected_node}
+use Rattle.desk_graph.specs.Reaches.{has_node, is_node_affected as is_affected_node}
 use Rattle.desk_rollup.specs.Numbers.{has, mark_numbers}
 use Rattle.desk_rollup.specs.Plan.{AreDistinct, AreRolledUp, CanPrepare, nodes_of_owns}
 use Rattle.desk_rollup.specs.Values.{KeptValues, OwnValues, amount_of, own_at, own_with}
 use Rattle.desk_model.specs.declared.edit.Edit.{Edit}
-use Rattle.desk_model.specs.Effect.{entered}
+use Rattle.desk_model.specs.Effect.{with_edit_entered}
 use Rattle.desk_model.specs.Lists.{Lists, is_kept}
 use Rattle.desk_findings.specs.Carried.{own_load}
 use Rattle.desk_findings.specs.Findings.{Finding, own_findings}
@@ -33,11 +33,11 @@ AreOwnOf t g number name own = (node : ℕ) → node < length g.labels → IsOwn
 
 -- the edit leaves the lines of the code and what it has of its own, and the code is kept or not as it was
 pub record KeepsOwn (t : Lists) (edit : Edit) (code : List ℕ) : Type 0 where
-  pub kept : is_kept (entered t edit) code ≡ is_kept t code
-  pub lines : lines_of (entered t edit).lines code ≡ lines_of t.lines code
-  pub masses : own_mass (entered t edit) code ≡ own_mass t code
-  pub found : own_findings (entered t edit) code ≡ own_findings t code
-  pub loads : (substance : List ℕ) → own_load (entered t edit) substance code ≡ own_load t substance code
+  pub kept : is_kept (with_edit_entered t edit) code ≡ is_kept t code
+  pub lines : lines_of (with_edit_entered t edit).lines code ≡ lines_of t.lines code
+  pub masses : own_mass (with_edit_entered t edit) code ≡ own_mass t code
+  pub found : own_findings (with_edit_entered t edit) code ≡ own_findings t code
+  pub loads : (substance : List ℕ) → own_load (with_edit_entered t edit) substance code ≡ own_load t substance code
 
 -- these nodes of the bill after an edit are affected by it, each stands there once, and they are all at which its change begins and all
 -- whose lines or own values don't stay
@@ -48,13 +48,13 @@ pub record AreRenewed (t : Lists) (edit : Edit) (g : Graph) (nodes : List ℕ) :
   pub seeds : (node : ℕ) → node < length g.labels → list_any (same_code (label_of g.labels node)) (seeds_of_new t edit) ≡ true → has_node nodes node ≡ true
   pub others : (node : ℕ) → node < length g.labels → has_node nodes node ≡ false → KeepsOwn t edit (label_of g.labels node)
 
--- an edit that passes the rules 1 to 20; the bills before and after it are those of the tables, and the nodes stay; what is kept is right
+-- an edit that passes the refusals 1 to 20; the bills before and after it are those of the tables, and the nodes stay; what is kept is right
 -- before it; and new own values are given of the nodes that have to have them
 pub record IsEdited (t : Lists) (edit : Edit) (g new : Graph) (kept : KeptValues) (owns : List OwnValues) : Type 0 where
   pub consistent : IsConsistent t
   pub passes : PassesRows t edit
   pub before : IsBridge t g
-  pub after : IsBridge (entered t edit) new
+  pub after : IsBridge (with_edit_entered t edit) new
   pub nodes : length g.labels ≤ length new.labels
   pub labels : (node : ℕ) → node < length g.labels → label_of new.labels node ≡ label_of g.labels node
   pub rolled : AreRolledUp g kept
@@ -67,8 +67,8 @@ pub record EditsArePrepared : Type 0 where
       (node : ℕ) → node < length new.labels → is_affected_node new.lines (nodes_of_owns owns) node ≡ is_affected t edit (label_of new.labels node)
   pub owns : (t : Lists) (edit : Edit) (g new : Graph) (kept : KeptValues) (owns : List OwnValues) → IsEdited t edit g new kept owns →
       (number : Finding → ℕ) (name : ℕ → List ℕ) → AreOwnOf t g number name (own_at kept.owns) →
-      ((node : ℕ) → has_node (nodes_of_owns owns) node ≡ true → IsOwnOf (entered t edit) number name (label_of new.labels node) (own_with owns kept.owns node)) →
-      AreOwnOf (entered t edit) new number name (own_with owns kept.owns)
+      ((node : ℕ) → has_node (nodes_of_owns owns) node ≡ true → IsOwnOf (with_edit_entered t edit) number name (label_of new.labels node) (own_with owns kept.owns node)) →
+      AreOwnOf (with_edit_entered t edit) new number name (own_with owns kept.owns)
   pub prepared : (t : Lists) (edit : Edit) (g new : Graph) (kept : KeptValues) (owns : List OwnValues) → IsEdited t edit g new kept owns →
-      (number : Finding → ℕ) (name : ℕ → List ℕ) → AreOwnOf (entered t edit) new number name (own_with owns kept.owns) →
+      (number : Finding → ℕ) (name : ℕ → List ℕ) → AreOwnOf (with_edit_entered t edit) new number name (own_with owns kept.owns) →
       CanPrepare new owns kept

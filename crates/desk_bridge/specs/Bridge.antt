@@ -8,7 +8,7 @@ use Rattle.desk_model.specs.declared.rows.line.LineRow.{LineRow}
 use Rattle.desk_model.specs.Lists.{Lists, is_kept}
 use Rattle.desk_findings.specs.Reaches.{lines_of}
 use Rattle.desk_graph.specs.declared.line.BillLine.{BillLine}
-use Rattle.desk_graph.specs.Bill.{IsBill}
+use Rattle.desk_graph.specs.Bill.{IsBillGraph}
 use Rattle.desk_graph.specs.Edits.{is_taken, with_line_in, with_node, without_line_in}
 use Rattle.desk_graph.specs.Graph as graph
 use Rattle.desk_graph.specs.Graph.{Graph, label_of}
@@ -24,7 +24,7 @@ line_row_at labels parent line = record { parent = label_of labels parent; child
 
 -- the lines of a node as the tables keep them
 abbrev pub rows_at : Graph → ℕ → List LineRow
-rows_at g node = map (line_row_at g.labels node) (graph.lines_of g.lines node)
+rows_at g node = map (line_row_at g.labels node) (graph.lines_of_node g.lines node)
 
 -- the lines of each node are the tables' lines of its code, child by child
 abbrev pub HasSameLines : Lists → Graph → Type 0
@@ -37,7 +37,7 @@ pub record IsBillOf (t : Lists) (g : Graph) : Type 0 where
 
 -- a bill, which is that of the tables
 pub record IsBridge (t : Lists) (g : Graph) : Type 0 where
-  pub bill : IsBill g
+  pub bill : IsBillGraph g
   pub of : IsBillOf t g
 
 -- the first place of a code in a list, or the length of the list

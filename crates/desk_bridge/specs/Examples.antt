@@ -10,7 +10,7 @@ use Rattle.desk_model.specs.declared.part_sort.PartSort.TheVariants.{Assembly}
 use Rattle.desk_model.specs.declared.rule_fault.RuleFault.TheVariants.{ClosesCycle}
 use Rattle.desk_model.specs.Declaration.{Declared}
 use Rattle.desk_model.specs.EditText.{edit_text}
-use Rattle.desk_model.specs.Effect.{entered}
+use Rattle.desk_model.specs.Effect.{with_edit_entered}
 use Rattle.desk_model.specs.Examples.Desks.{date, holds, material}
 use Rattle.desk_model.specs.Lists.{Lists, line_row, material_row}
 use Rattle.desk_findings.specs.Carried.{carried, own_load}
@@ -27,20 +27,20 @@ use Rattle.desk_history.specs.Refused.{closes_cycle, refused_by_bill}
 use Rattle.desk_history.specs.Step.{kept_number, step}
 use Rattle.desk_graph.specs.declared.fault.LineFault.TheVariants.{Closes}
 use Rattle.desk_graph.specs.Edits.{line_answer}
-use Rattle.desk_graph.specs.Graph.{Graph, count_at, label_of, line_count, lines_of as node_lines}
-use Rattle.desk_graph.specs.Reaches.{chain, is_affected}
+use Rattle.desk_graph.specs.Graph.{Graph, count_at, label_of, line_count, lines_of_node as node_lines}
+use Rattle.desk_graph.specs.Reaches.{chain_of_nodes, is_node_affected}
 use Rattle.desk_rollup.specs.declared.hop.Hop.{Hop}
 use Rattle.desk_rollup.specs.Chain.{hop_chain as node_chain, next_hop}
 use Rattle.desk_rollup.specs.Numbers.{hop_numbers, mark_numbers}
 use Rattle.desk_rollup.specs.Plan.{nodes_of_owns}
 use Rattle.desk_rollup.specs.Rolled.{amount, mark_count, mark_numbers_below, weight}
-use Rattle.desk_rollup.specs.Values.{OwnValues, RolledValues, amount_of, carried_in as node_carried, own_at, own_with, rolled_at}
+use Rattle.desk_rollup.specs.Values.{OwnValues, RolledValues, amount_of, carried_by_node as node_carried, own_at, own_with, rolled_at}
 use Rattle.desk_tonnage.specs.declared.entry.Entry.{Entry}
-use Rattle.desk_tonnage.specs.Edits.{with_units, without_units}
-use Rattle.desk_tonnage.specs.Entries.{units_of}
+use Rattle.desk_tonnage.specs.Edits.{with_entry_units, without_entry_units}
+use Rattle.desk_tonnage.specs.Entries.{entry_units}
 use Rattle.desk_tonnage.specs.Masses.{with_masses}
-use Rattle.desk_tonnage.specs.Years.{too_heavy_year, year_mass as entries_mass}
-use Rattle.desk_tables.specs.Plan.{planned}
+use Rattle.desk_tonnage.specs.Years.{too_heavy_entry_year, entries_mass_in as entries_mass}
+use Rattle.desk_tables.specs.Plan.{tables_planned}
 use Rattle.desk_tables.specs.declared.plan.TablesPlan.{TablesPlan}
 use Rattle.desk_tables.specs.declared.plan.TablesPlan.TheVariants as plan
 use Rattle.desk_tables.specs.declared.row_change.RowChange.TheVariants.{PutShipment}
@@ -70,7 +70,7 @@ pub record BridgeExamples : Type 0 where
   pub part_again : bill_after gateway (Part (codes "t20") (codes "BOARD") Assembly (codes "Board")) ≡ gateway
   pub cycle : cycle_by gateway (Line (codes "t20") (codes "BOARD") (codes "GATEWAY") 1) ≡ Some (6 ∷ 5 ∷ [])
   pub no_cycle : cycle_by gateway (Line (codes "t20") (codes "GATEWAY") (codes "PIN") 1) ≡ None
-  pub brass_chain : chain gateway.lines 6 0 ≡ 6 ∷ 5 ∷ 3 ∷ 0 ∷ []
+  pub brass_chain : chain_of_nodes gateway.lines 6 0 ≡ 6 ∷ 5 ∷ 3 ∷ 0 ∷ []
 
 -- the findings of the gateway, in the order of answers
 abbrev pub gateway_findings : List Finding
@@ -109,10 +109,10 @@ pub record LineExamples : Type 0 where
   pub kept_lines : length desk.lines ≡ 6
   pub bill_lines : line_count gateway.lines ≡ 6
   pub kept_chain : table_chain desk (codes "GATEWAY") (codes "BRASS") ≡ codes "GATEWAY" ∷ codes "BOARD" ∷ codes "PIN" ∷ codes "BRASS" ∷ []
-  pub bill_chain : map (label_of gateway.labels) (chain gateway.lines 6 0) ≡ codes "GATEWAY" ∷ codes "BOARD" ∷ codes "PIN" ∷ codes "BRASS" ∷ []
+  pub bill_chain : map (label_of gateway.labels) (chain_of_nodes gateway.lines 6 0) ≡ codes "GATEWAY" ∷ codes "BOARD" ∷ codes "PIN" ∷ codes "BRASS" ∷ []
   pub kept_count : option_map (λ line. line.count) (line_row desk (codes "CABLE") (codes "COPPER")) ≡ Some 2
   pub bill_count : count_at (node_lines gateway.lines 4) 1 ≡ Some 2
-  pub kept_line_less : lines_of (entered desk (Unline (codes "t20") (codes "CABLE") (codes "PVC"))).lines (codes "CABLE")
+  pub kept_line_less : lines_of (with_edit_entered desk (Unline (codes "t20") (codes "CABLE") (codes "PVC"))).lines (codes "CABLE")
       ≡ record { parent = codes "CABLE"; child = codes "COPPER"; count = 2 } ∷ []
   pub rule_20 : closes_cycle desk loop ≡ Some (ClosesCycle (codes "GATEWAY" ∷ codes "BOARD" ∷ []))
   pub bill_refuses : line_answer 5 6 1 gateway ≡ Err (Closes (6 ∷ 5 ∷ []))
@@ -130,7 +130,7 @@ lighter = record {
 
 -- the tables with the lighter brass and the zinc
 abbrev pub lighter_desk : Lists
-lighter_desk = entered desk (Declare lighter)
+lighter_desk = with_edit_entered desk (Declare lighter)
 
 -- the bill with the lighter brass and the zinc
 abbrev pub lighter_bill : Graph
@@ -146,7 +146,7 @@ pub record EditExamples : Type 0 where
   pub a_line_changes : changes_bill loop ≡ true
   pub none_changes : changes_bill (Ship (codes "t20") (codes "GATEWAY") 2024 100) ≡ false
   pub affected_codes : affected desk (Declare lighter) ≡ codes "BRASS" ∷ codes "ZINC" ∷ codes "BOARD" ∷ codes "GATEWAY" ∷ codes "PIN" ∷ []
-  pub affected_nodes : filter (is_affected lighter_bill.lines (0 ∷ 7 ∷ [])) (range_with_len 0 8) ≡ 0 ∷ 3 ∷ 5 ∷ 6 ∷ 7 ∷ []
+  pub affected_nodes : filter (is_node_affected lighter_bill.lines (0 ∷ 7 ∷ [])) (range_with_len 0 8) ≡ 0 ∷ 3 ∷ 5 ∷ 6 ∷ 7 ∷ []
 
 -- the own values of the gateway's nodes, worked out by hand: of the substances, dehp has number 0 and lead has number 1
 abbrev pub gateway_owns : List OwnValues
@@ -243,14 +243,14 @@ gateway_entry units mass = record { year = 2024; product = codes "GATEWAY"; unit
 
 -- the year's units and mass, and the entries after an edit: those of the tables, and what becomes of the entries from before
 pub record YearExamples : Type 0 where
-  pub units : units_of 2024 (codes "GATEWAY") (entries_of desk) ≡ 500000
+  pub units : entry_units 2024 (codes "GATEWAY") (entries_of desk) ≡ 500000
   pub kept_year : year_mass desk 2024 ≡ 51000000000000
   pub year : entries_mass 2024 (entries_of desk) ≡ 51000000000000
-  pub shipped : entries_of (entered desk more) ≡ gateway_entry 500100 102000000 ∷ []
-  pub units_added : with_units 2024 (codes "GATEWAY") 100 102000000 (entries_of desk) ≡ gateway_entry 500100 102000000 ∷ []
-  pub taken_off : entries_of (entered desk fewer) ≡ gateway_entry 499000 102000000 ∷ []
-  pub units_taken : without_units 2024 (codes "GATEWAY") 1000 (entries_of desk) ≡ gateway_entry 499000 102000000 ∷ []
-  pub heavier : entries_of (entered desk third_cable) ≡ gateway_entry 500000 113000000 ∷ []
+  pub shipped : entries_of (with_edit_entered desk more) ≡ gateway_entry 500100 102000000 ∷ []
+  pub units_added : with_entry_units 2024 (codes "GATEWAY") 100 102000000 (entries_of desk) ≡ gateway_entry 500100 102000000 ∷ []
+  pub taken_off : entries_of (with_edit_entered desk fewer) ≡ gateway_entry 499000 102000000 ∷ []
+  pub units_taken : without_entry_units 2024 (codes "GATEWAY") 1000 (entries_of desk) ≡ gateway_entry 499000 102000000 ∷ []
+  pub heavier : entries_of (with_edit_entered desk third_cable) ≡ gateway_entry 500000 113000000 ∷ []
   pub new_mass : with_masses (record { product = codes "GATEWAY"; mass = 113000000 } ∷ []) (entries_of desk) ≡ gateway_entry 500000 113000000 ∷ []
 
 -- the plan of a hundred gateways more: the year's entry and the ticket that it puts in
@@ -260,16 +260,16 @@ plan_of_more = plan.New
     (record { code = codes "E:t20"; number = 20; text = edit_text more })
     None
 
--- what the rules 20 to 23 say of an edit and what the parts tell of them, and what plans do beside the steps of their edits
+-- what the refusals 20 to 23 say of an edit and what the parts tell of them, and what plans do beside the steps of their edits
 pub record RefusalExamples : Type 0 where
   pub refused : refused_by_bill desk loop ≡ Some (ClosesCycle (codes "GATEWAY" ∷ codes "BOARD" ∷ []))
   pub told : option_map (map (label_of gateway.labels)) (cycle_by gateway loop) ≡ Some (codes "GATEWAY" ∷ codes "BOARD" ∷ [])
   pub unrefused : refused_by_bill desk more ≡ None
-  pub no_heavy_year : too_heavy_year (entries_of (entered desk more)) ≡ None
+  pub no_heavy_year : too_heavy_entry_year (entries_of (with_edit_entered desk more)) ≡ None
   pub no_heavy_part : too_heavy_part desk ≡ None
   pub not_too_many : has_too_many_findings desk ≡ false
   pub kept_findings : finding_count desk ≡ 10
   pub bill_marks : mark_count gateway.lines (own_at gateway_owns) ≡ 10
   pub kept : kept_number desk (Ship (codes "t19") (codes "GATEWAY") 2024 500000) ≡ Some 19
-  pub kept_step : step desk (Ship (codes "t19") (codes "GATEWAY") 2024 500000) ≡ (Ok 19, planned desk (plan.Kept 19))
-  pub new_step : step desk more ≡ (Ok 20, planned desk plan_of_more)
+  pub kept_step : step desk (Ship (codes "t19") (codes "GATEWAY") 2024 500000) ≡ (Ok 19, tables_planned desk (plan.Kept 19))
+  pub new_step : step desk more ≡ (Ok 20, tables_planned desk plan_of_more)

@@ -3,7 +3,7 @@ use Rattle.std.specs.Prelude.{◌≡◌, ℕ, ◌<◌, true, List, None, Ok, Err
 use Rattle.desk_model.specs.declared.edit.Edit.{Edit}
 use Rattle.desk_model.specs.declared.edit.Edit.TheVariants.{Line}
 use Rattle.desk_model.specs.declared.rule_fault.RuleFault.TheVariants.{ClosesCycle}
-use Rattle.desk_model.specs.Effect.{entered}
+use Rattle.desk_model.specs.Effect.{with_edit_entered}
 use Rattle.desk_model.specs.Forms.{is_edit_in_form}
 use Rattle.desk_model.specs.Lists.{Lists, is_kept}
 use Rattle.desk_findings.specs.Bill.{are_parents_kept}
@@ -15,7 +15,7 @@ use Rattle.desk_history.specs.Refused.{closes_cycle, refuse_if, refused_by_rows}
 use Rattle.desk_history.specs.Sound.{IsConsistent}
 use Rattle.desk_history.specs.Step.{kept_number}
 use Rattle.desk_graph.specs.declared.fault.LineFault.TheVariants.{Closes}
-use Rattle.desk_graph.specs.Bill.{IsBill}
+use Rattle.desk_graph.specs.Bill.{IsBillGraph}
 use Rattle.desk_graph.specs.Edits.{line_answer}
 use Rattle.desk_graph.specs.Graph.{Graph, label_of, line_count}
 use Rattle.desk_graph.specs.Reaches as graph
@@ -30,39 +30,39 @@ pub record NodesAreFound (t : Lists) (g : Graph) : Type 0 where
 
 -- what is reached, and by which chain, is the same on both sides
 pub record ReachesTheSame (t : Lists) (g : Graph) : Type 0 where
-  pub reached : (a b : ℕ) → a < length g.labels → b < length g.labels → tables.reaches t (label_of g.labels a) (label_of g.labels b) ≡ graph.reaches g.lines a b
-  pub chains : (a b : ℕ) → a < length g.labels → b < length g.labels → tables_chain.chain t (label_of g.labels a) (label_of g.labels b) ≡ map (label_of g.labels) (graph.chain g.lines a b)
+  pub reached : (a b : ℕ) → a < length g.labels → b < length g.labels → tables.reaches t (label_of g.labels a) (label_of g.labels b) ≡ graph.node_reaches g.lines a b
+  pub chains : (a b : ℕ) → a < length g.labels → b < length g.labels → tables_chain.chain t (label_of g.labels a) (label_of g.labels b) ≡ map (label_of g.labels) (graph.chain_of_nodes g.lines a b)
 
 -- a bill of tables has a node for each of their codes, reaches what they reach, and has as many lines
 pub record BillsAgree : Type 0 where
   pub nodes : (t : Lists) (g : Graph) → IsBillOf t g → NodesAreFound t g
-  pub reached : (t : Lists) → tables_bill.IsBill t → (g : Graph) → IsBill g → IsBillOf t g → ReachesTheSame t g
-  pub lines : (t : Lists) → are_parents_kept t ≡ true → (g : Graph) → IsBill g → IsBillOf t g → line_count g.lines ≡ length t.lines
+  pub reached : (t : Lists) → tables_bill.IsBill t → (g : Graph) → IsBillGraph g → IsBillOf t g → ReachesTheSame t g
+  pub lines : (t : Lists) → are_parents_kept t ≡ true → (g : Graph) → IsBillGraph g → IsBillOf t g → line_count g.lines ≡ length t.lines
 
--- the bill stays that of the tables when an edit that passes the rules 1 to 20 is entered
+-- the bill stays that of the tables when an edit that passes the refusals 1 to 20 is entered
 abbrev pub BillsStay : Type 0
-BillsStay = (t : Lists) → IsConsistent t → (edit : Edit) → PassesRows t edit → (g : Graph) → IsBill g → IsBillOf t g → IsBillOf (entered t edit) (bill_after g edit)
+BillsStay = (t : Lists) → IsConsistent t → (edit : Edit) → PassesRows t edit → (g : Graph) → IsBillGraph g → IsBillOf t g → IsBillOf (with_edit_entered t edit) (bill_after g edit)
 
--- both nodes are there, the bill refuses the line where rule 20 does, with the same chain, and for no other reason
+-- both nodes are there, the bill refuses the line where refusal 20 does, with the same chain, and for no other reason
 pub record IsLineTold (t : Lists) (ticket parent child : List ℕ) (count : ℕ) (g : Graph) : Type 0 where
   pub parent_there : node_of g.labels parent < length g.labels
   pub child_there : node_of g.labels child < length g.labels
   pub rule : closes_cycle t (Line ticket parent child count)
-      ≡ refuse_if (graph.is_or_reaches g.lines (node_of g.labels child) (node_of g.labels parent)) (ClosesCycle (map (label_of g.labels) (graph.chain g.lines (node_of g.labels child) (node_of g.labels parent))))
+      ≡ refuse_if (graph.is_node_or_reaches g.lines (node_of g.labels child) (node_of g.labels parent)) (ClosesCycle (map (label_of g.labels) (graph.chain_of_nodes g.lines (node_of g.labels child) (node_of g.labels parent))))
   pub answer : line_answer (node_of g.labels parent) (node_of g.labels child) count g
-      ≡ (if graph.is_or_reaches g.lines (node_of g.labels child) (node_of g.labels parent) then Err (Closes (graph.chain g.lines (node_of g.labels child) (node_of g.labels parent))) else Ok tt)
+      ≡ (if graph.is_node_or_reaches g.lines (node_of g.labels child) (node_of g.labels parent) then Err (Closes (graph.chain_of_nodes g.lines (node_of g.labels child) (node_of g.labels parent))) else Ok tt)
 
--- a line that passes the rules 1 to 19 is refused by the bill where rule 20 refuses it, with the same chain
+-- a line that passes the refusals 1 to 19 is refused by the bill where refusal 20 refuses it, with the same chain
 abbrev pub CyclesAreTold : Type 0
 CyclesAreTold = (t : Lists) → IsConsistent t → (ticket parent child : List ℕ) (count : ℕ) → is_edit_in_form (Line ticket parent child count) ≡ true → kept_number t (Line ticket parent child count) ≡ None
-    → refused_by_rows t (Line ticket parent child count) ≡ None → (g : Graph) → IsBill g → IsBillOf t g → IsLineTold t ticket parent child count g
+    → refused_by_rows t (Line ticket parent child count) ≡ None → (g : Graph) → IsBillGraph g → IsBillOf t g → IsLineTold t ticket parent child count g
 
--- an edit that passes the rules 1 to 19 can be taken by the bill, and closes a cycle there where rule 20 says so
+-- an edit that passes the refusals 1 to 19 can be taken by the bill, and closes a cycle there where refusal 20 says so
 pub record IsTaken (t : Lists) (edit : Edit) (g : Graph) : Type 0 where
   pub can : CanTake g edit
   pub cycle : closes_cycle t edit ≡ option_map (λ chain. ClosesCycle (map (label_of g.labels) chain)) (cycle_by g edit)
-  pub stays : cycle_by g edit ≡ None → IsBillOf (entered t edit) (bill_after g edit)
+  pub stays : cycle_by g edit ≡ None → IsBillOf (with_edit_entered t edit) (bill_after g edit)
 
--- every edit that passes the rules 1 to 19 can be taken
+-- every edit that passes the refusals 1 to 19 can be taken
 abbrev pub BillsTake : Type 0
-BillsTake = (t : Lists) → IsConsistent t → (edit : Edit) → is_edit_in_form edit ≡ true → kept_number t edit ≡ None → refused_by_rows t edit ≡ None → (g : Graph) → IsBill g → IsBillOf t g → IsTaken t edit g
+BillsTake = (t : Lists) → IsConsistent t → (edit : Edit) → is_edit_in_form edit ≡ true → kept_number t edit ≡ None → refused_by_rows t edit ≡ None → (g : Graph) → IsBillGraph g → IsBillOf t g → IsTaken t edit g

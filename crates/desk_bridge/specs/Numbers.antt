@@ -8,7 +8,7 @@ use Rattle.desk_graph.specs.Reaches.{has_node}
 use Rattle.desk_rollup.specs.Plan.{CanPrepare, nodes_of_owns}
 use Rattle.desk_rollup.specs.Values.{KeptValues, OwnValues, own_at, own_with}
 use Rattle.desk_model.specs.declared.edit.Edit.{Edit}
-use Rattle.desk_model.specs.Effect.{entered}
+use Rattle.desk_model.specs.Effect.{with_edit_entered}
 use Rattle.desk_model.specs.Lists.{Lists}
 use Rattle.desk_findings.specs.Above.{is_candidate}
 use Rattle.desk_findings.specs.Findings.{Finding, above, over}
@@ -40,8 +40,8 @@ pub record NumbersServe : Type 0 where
 -- values are right then
 abbrev pub EditsKeepValues : Type 0
 EditsKeepValues = (t : Lists) (edit : Edit) (g new : Graph) (kept : KeptValues) (owns : List OwnValues) → IsEdited t edit g new kept owns →
-    (more : List (List ℕ)) → new.labels ≡ g.labels ++ more → (names others : List (List ℕ)) → AreNames t names → AreNames (entered t edit) (names ++ others) →
+    (more : List (List ℕ)) → new.labels ≡ g.labels ++ more → (names others : List (List ℕ)) → AreNames t names → AreNames (with_edit_entered t edit) (names ++ others) →
     AllByRecursion (λ substance. is_candidate t substance ≡ false) others →
     AreOwnOf t g (finding_number g.labels names) (label_of names) (own_at kept.owns) →
-    ((node : ℕ) → has_node (nodes_of_owns owns) node ≡ true → IsOwnOf (entered t edit) (finding_number new.labels (names ++ others)) (label_of (names ++ others)) (label_of new.labels node) (own_with owns kept.owns node)) →
-    CanPrepare new owns kept × HasOwnValues (entered t edit) new (finding_number new.labels (names ++ others)) (label_of (names ++ others)) (own_with owns kept.owns)
+    ((node : ℕ) → has_node (nodes_of_owns owns) node ≡ true → IsOwnOf (with_edit_entered t edit) (finding_number new.labels (names ++ others)) (label_of (names ++ others)) (label_of new.labels node) (own_with owns kept.owns node)) →
+    CanPrepare new owns kept × HasOwnValues (with_edit_entered t edit) new (finding_number new.labels (names ++ others)) (label_of (names ++ others)) (own_with owns kept.owns)

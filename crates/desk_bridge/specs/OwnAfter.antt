@@ -7,7 +7,7 @@ use Rattle.desk_rollup.specs.Plan.{nodes_of_owns}
 use Rattle.desk_rollup.specs.Values.{OwnValues, own_with}
 use Rattle.desk_model.specs.declared.edit.Edit.{Edit}
 use Rattle.desk_model.specs.declared.edit.Edit.TheVariants.{Line, Unline}
-use Rattle.desk_model.specs.Effect.{entered}
+use Rattle.desk_model.specs.Effect.{with_edit_entered}
 use Rattle.desk_model.specs.Lists.{Lists}
 use Rattle.desk_findings.specs.Articles.{is_assembly}
 use Rattle.desk_bridge.specs.AfterEdit.{AreRenewed, IsOwnOf}
@@ -33,4 +33,4 @@ stays_assembly t edit code = is_assembly t code && not (changes_lines edit code)
 pub record AreOwnAfter (t : Lists) (edit : Edit) (g : Graph) (names : List (List ℕ)) (owns : List OwnValues) : Type 0 where
   pub renewed : AreRenewed t edit g (nodes_of_owns owns)
   pub right : (kept : List OwnValues) (node : ℕ) → has_node (nodes_of_owns owns) node ≡ true →
-      IsOwnOf (entered t edit) (finding_number g.labels names) (label_of names) (label_of g.labels node) (own_with owns kept node)
+      IsOwnOf (with_edit_entered t edit) (finding_number g.labels names) (label_of names) (label_of g.labels node) (own_with owns kept node)

@@ -2,14 +2,14 @@
 use Rattle.std.specs.Prelude.{List, [], Option, Some, None}
 use Rattle.desk_model.specs.Lists.{Lists}
 use Rattle.desk_model.specs.declared.rows.material.MaterialRow.{MaterialRow}
-use Rattle.desk_tables.specs.Change.{changed}
+use Rattle.desk_tables.specs.Change.{with_change_made}
 use Rattle.desk_tables.specs.declared.row_change.RowChange.{RowChange}
 use Rattle.desk_tables.specs.declared.row_change.RowChange.TheVariants as change
 
 -- the tables with the change made, if there is one
 abbrev pub changed_if : Lists → Option RowChange → Lists
 changed_if t None = t
-changed_if t (Some change) = changed t change
+changed_if t (Some change) = with_change_made t change
 
 -- the materials that the change puts in
 abbrev pub put_materials : RowChange → List MaterialRow

@@ -5,7 +5,7 @@ use Rattle.desk_graph.specs.Reaches.{has_node}
 use Rattle.desk_rollup.specs.Numbers.{has, hop_numbers}
 use Rattle.desk_rollup.specs.Plan.{AllFit, AreDistinct, AreRolledUp, CanPrepare, IsFirstTooLarge, nodes_of_owns}
 use Rattle.desk_rollup.specs.Rolled.{mark_count}
-use Rattle.desk_rollup.specs.Values.{KeptValues, OwnValues, carried_in as node_carried, own_at, own_with, rolled_at}
+use Rattle.desk_rollup.specs.Values.{KeptValues, OwnValues, carried_by_node as node_carried, own_at, own_with, rolled_at}
 use Rattle.desk_model.specs.Lists.{Lists}
 use Rattle.desk_findings.specs.Carried.{carried}
 use Rattle.desk_findings.specs.Findings.{Finding, findings_at}

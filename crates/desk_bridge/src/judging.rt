@@ -1,13 +1,13 @@
 ghost use Rattle.std.specs.Prelude.{◌≡◌, ◌<◌, ℕ, true, None, Ok, IfOk, IfErr, length, map};
 ghost use Rattle.desk_text.specs.Code.{code_of};
-ghost use Rattle.desk_model.specs.Effect.{entered};
+ghost use Rattle.desk_model.specs.Effect.{with_edit_entered};
 ghost use Rattle.desk_history.specs.History.{PassesRows};
 ghost use Rattle.desk_history.specs.Refused.{refused_by_rows};
 ghost use Rattle.desk_history.specs.Sound.{Sound};
 ghost use Rattle.desk_history.specs.Step.{kept_number};
 ghost use Rattle.desk_tables.specs.Judged.{IsRefusal};
 ghost use Rattle.desk_graph.specs.Graph.{label_of};
-ghost use Rattle.desk_graph.specs.Planned.{IsBillPlan, planned};
+ghost use Rattle.desk_graph.specs.Planned.{IsBillPlan, graph_after};
 ghost use Rattle.desk_graph.specs.Reaches.{has_node};
 ghost use Rattle.desk_bridge.specs.Bridge.{IsBillOf};
 ghost use Rattle.desk_bridge.specs.Index.{IsIndex};
@@ -20,7 +20,7 @@ use desk_tables::{EditFault, Tables};
 use desk_text::{Code, OutOfMemory};
 use std::alloc::Global;
 
-/// What an edit does to the bill that is new and breaks none of the rules 1 to 19.
+/// What an edit does to the bill that is new and meets none of the refusals 1 to 19.
 #[tactic(auto, unfolding(desk_tables::specs::Judged::IsRefusal))]
 pub fn plan_bill(
     alloc: Global,
@@ -36,7 +36,7 @@ pub fn plan_bill(
     requires rows { refused_by_rows tables.now.lists edit.now ≡ None }
     ensures plan { IfOk result (λ plan. IsBillPlan bill.now plan) }
     ensures passes { IfOk result (λ plan. PassesRows tables.now.lists edit.now) }
-    ensures of { IfOk result (λ plan. IsBillOf (entered tables.now.lists edit.now) (planned plan bill.now)) }
+    ensures of { IfOk result (λ plan. IsBillOf (with_edit_entered tables.now.lists edit.now) (graph_after plan bill.now)) }
     ensures fault { IfErr result (λ fault. IsRefusal tables.now.lists edit.now fault) }
 {
     // An edit tells that it is in form, and a bill what holds of every bill.

@@ -17,17 +17,17 @@ pub fn bills_agree()
     ensures { BillsAgree }
 {}
 
-/// The bill stays that of the tables when an edit that passes the rules 1 to 20 is entered.
+/// The bill stays that of the tables when an edit that passes the refusals 1 to 20 is entered.
 pub fn bills_stay()
     ensures { BillsStay }
 {}
 
-/// A line that passes the rules 1 to 19 is refused by the bill where rule 20 refuses it, with the same chain.
+/// A line that passes the refusals 1 to 19 is refused by the bill where refusal 20 refuses it, with the same chain.
 pub fn cycles_are_told()
     ensures { CyclesAreTold }
 {}
 
-/// An edit that passes the rules 1 to 19 can be taken by the bill of the tables, which stays theirs, or closes a cycle there as rule 20 says.
+/// An edit that passes the refusals 1 to 19 can be taken by the bill of the tables, which stays theirs, or closes a cycle there as refusal 20 says.
 pub fn bills_take()
     ensures { BillsTake }
 {}
@@ -88,7 +88,7 @@ pub fn entries_stay()
     ensures { EntriesStay }
 {}
 
-/// The rules 20 to 23 say what the parts tell: the chain of a cycle, the first node that is too large, too many marks, or the first year
+/// The refusals 20 to 23 say what the parts tell: the chain of a cycle, the first node that is too large, too many marks, or the first year
 /// that is too heavy.
 pub fn parts_refuse()
     ensures { PartsRefuse }

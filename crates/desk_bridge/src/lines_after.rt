@@ -2,7 +2,7 @@ ghost use Rattle.std.specs.Prelude.{◌≡◌, IfOk, option_map};
 ghost use Rattle.desk_rows.specs.Rows.{IsByKey, with_row, without_row};
 ghost use Rattle.desk_model.specs.Lists.{IsOrdered, line_key, line_key_cmp};
 ghost use Rattle.desk_findings.specs.Reaches.{lines_of};
-ghost use Rattle.desk_tables.specs.Change.{changed};
+ghost use Rattle.desk_tables.specs.Change.{with_change_made};
 ghost use Rattle.desk_bridge.specs.TablesAfter.{changed_if};
 
 use desk_model::LineRow;
@@ -29,7 +29,7 @@ pub(crate) fn lines_of(
 }
 
 /// The lines of a part after the change.
-#[tactic(auto, unfolding(desk_tables::specs::Change::changed))]
+#[tactic(auto, unfolding(desk_tables::specs::Change::with_change_made))]
 fn changed_lines(
     alloc: Global,
     tables: &Tables,
@@ -37,7 +37,7 @@ fn changed_lines(
     code: &Code,
 ) -> Result<Vec<LineRow>, OutOfMemory>
     requires { IsOrdered tables.now.lists }
-    ensures { IfOk result (λ lines. lines.items ≡ lines_of (changed tables.now.lists change.now).lines code.now) }
+    ensures { IfOk result (λ lines. lines.items ≡ lines_of (with_change_made tables.now.lists change.now).lines code.now) }
 {
     match change {
         RowChange::PutLine { row, .. } => lines_with(alloc, tables.lines(), row, code),

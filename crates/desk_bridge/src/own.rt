@@ -1,7 +1,7 @@
 ghost use Rattle.std.specs.Prelude.{◌≡◌, ◌+◌, ◌≤◌, ◌==◌, ℕ, List, [], true, false, IfOk, OnOk, filter, length, map, nat_lt, if◌then◌else◌};
 ghost use Rattle.std.specs.List.{All, list_any};
 ghost use Rattle.desk_text.specs.Code.{same_code};
-ghost use Rattle.desk_law.specs.Rule.{all_rules};
+ghost use Rattle.desk_law.specs.Rule.{restricting_rules};
 ghost use Rattle.desk_graph.specs.Graph.{label_of};
 ghost use Rattle.desk_rollup.specs.Values.{amount_of};
 ghost use Rattle.desk_model.specs.Lists.{is_material};
@@ -57,11 +57,11 @@ fn own_of_material<'a>(
     ensures { IfOk result (λ own. own ≡ record {
       node = node;
       weight = row.now.mass;
-      marks = map (rule_mark node) (filter (λ rule. is_over_limit lists.now rule row.now) all_rules);
+      marks = map (rule_mark node) (filter (λ rule. is_over_limit lists.now rule row.now) restricting_rules);
       loads = [];
     }) }
 {
-    let marks = marks_over(alloc, lists, row, node, &Rule::ALL)?;
+    let marks = marks_over(alloc, lists, row, node, &Rule::RESTRICTING)?;
     Ok(Own {
         node,
         weight: u128::from(row.mass),

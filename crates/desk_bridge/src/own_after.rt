@@ -1,16 +1,16 @@
 ghost use Rattle.std.specs.Prelude.{◌≡◌, ◌≤◌, ◌<◌, ◌++◌, ℕ, List, true, not, Ok, IfOk, filter, length};
 ghost use Rattle.desk_text.specs.Code.{code_of};
-ghost use Rattle.desk_graph.specs.Bill.{IsBill};
+ghost use Rattle.desk_graph.specs.Bill.{IsBillGraph};
 ghost use Rattle.desk_graph.specs.Graph.{label_of};
 ghost use Rattle.desk_graph.specs.Reaches.{AreAffected, has_node};
 ghost use Rattle.desk_bridge.specs.Bridge.{IsBillOf};
 ghost use Rattle.desk_bridge.specs.Index.{IsIndex};
 ghost use Rattle.desk_bridge.specs.Numbers.{AreNames};
 ghost use Rattle.desk_bridge.specs.OwnAfter.{AreOwnAfter, AreOwnAt, changes_lines, stays_assembly};
-ghost use Rattle.desk_model.specs.Effect.{entered, made};
+ghost use Rattle.desk_model.specs.Effect.{with_edit_entered, with_edit_made};
 ghost use Rattle.desk_history.specs.History.{PassesRows};
 ghost use Rattle.desk_history.specs.Sound.{IsConsistent, Sound};
-ghost use Rattle.desk_tables.specs.Change.{changed};
+ghost use Rattle.desk_tables.specs.Change.{with_change_made};
 
 use crate::judging::code_at;
 use crate::new_edit::NewEdit;
@@ -42,11 +42,11 @@ pub fn owns_after<'a, 'b>(
 ) -> Result<Vec<Own>, OutOfMemory>
     requires sound { Sound new.now.tables.now.lists }
     requires passes { PassesRows new.now.tables.now.lists new.now.edit.now }
-    requires made { changed new.now.tables.now.lists new.now.change.now ≡ made new.now.tables.now.lists new.now.edit.now }
+    requires made { with_change_made new.now.tables.now.lists new.now.change.now ≡ with_edit_made new.now.tables.now.lists new.now.edit.now }
     requires index { IsIndex before.now.labels index.now.rows }
     requires grows { (more : List (List ℕ)) × (bill.now.labels ≡ before.now.labels ++ more) }
-    requires of { IsBillOf (entered new.now.tables.now.lists new.now.edit.now) bill.now }
-    requires named { AreNames (entered new.now.tables.now.lists new.now.edit.now) names.now }
+    requires of { IsBillOf (with_edit_entered new.now.tables.now.lists new.now.edit.now) bill.now }
+    requires named { AreNames (with_edit_entered new.now.tables.now.lists new.now.edit.now) names.now }
     ensures { IfOk result (λ owns. AreOwnAfter new.now.tables.now.lists new.now.edit.now bill.now names.now owns.items) }
 {
     // A bill tells what holds of every bill.
@@ -148,7 +148,7 @@ fn owns_at<'a, B: BillView>(
     requires consistent { IsConsistent lists.now }
     requires few { length lists.now.lines ≤ 131072 }
     requires named { AreNames lists.now names.now }
-    requires bill { IsBill (B.graph bill.now) }
+    requires bill { IsBillGraph (B.graph bill.now) }
     requires codes { (node : ℕ) → node < length (B.graph bill.now).labels → code_of (label_of (B.graph bill.now).labels node) ≡ Ok (label_of (B.graph bill.now).labels node) }
     requires inside { (node : ℕ) → has_node nodes.now node ≡ true → node < length (B.graph bill.now).labels }
     ensures { IfOk result (λ owns. AreOwnAt lists.now (B.graph bill.now).labels names.now nodes.now owns.items) }

@@ -1,8 +1,8 @@
 ghost use Rattle.std.specs.Prelude.{◌≡◌, ◌≢◌, ◌≤◌, ◌<◌, true, false, Some, None, Ok, Err, IfOk, IfErr, OnOk, OnErr, length, map};
 ghost use Rattle.desk_graph.specs.Edits.{is_taken, with_line_in, with_node};
 ghost use Rattle.desk_graph.specs.Graph.{line_count};
-ghost use Rattle.desk_graph.specs.Reaches.{chain, is_or_reaches};
-ghost use Rattle.desk_graph.specs.Planned.{IsBillPlan, planned};
+ghost use Rattle.desk_graph.specs.Reaches.{chain_of_nodes, is_node_or_reaches};
+ghost use Rattle.desk_graph.specs.Planned.{IsBillPlan, graph_after};
 ghost use Rattle.desk_bridge.specs.Bridge.{bill_after, node_of, with_code, with_codes};
 ghost use Rattle.desk_bridge.specs.Index.{IsIndex};
 ghost use Rattle.desk_bridge.specs.Planning.{CanTake, chain_told, cycle_by};
@@ -58,8 +58,8 @@ fn plan_code(
 ) -> Result<(), OutOfMemory>
     requires index { IsIndex bill.now.labels index.now.rows }
     requires plan { IsBillPlan bill.now plan.old }
-    requires room { length (with_code code.now (planned plan.old bill.now)).labels ≤ 24576 }
-    ensures bill { OnOk result (planned plan.new bill.now ≡ with_code code.now (planned plan.old bill.now)) }
+    requires room { length (with_code code.now (graph_after plan.old bill.now)).labels ≤ 24576 }
+    ensures bill { OnOk result (graph_after plan.new bill.now ≡ with_code code.now (graph_after plan.old bill.now)) }
     ensures plan { OnOk result (IsBillPlan bill.now plan.new) }
     ensures err { OnErr result (plan.new ≡ plan.old) }
 {
@@ -72,9 +72,9 @@ fn plan_code(
 /// Makes ready a node of a code that is free.
 fn plan_free_code(bill: &Bill, plan: &mut BillPlan, code: &Code) -> Result<(), OutOfMemory>
     requires plan { IsBillPlan bill.now plan.old }
-    requires free { is_taken (planned plan.old bill.now).labels code.now ≡ false }
-    requires room { length (planned plan.old bill.now).labels < 24576 }
-    ensures bill { OnOk result (planned plan.new bill.now ≡ with_node code.now (planned plan.old bill.now)) }
+    requires free { is_taken (graph_after plan.old bill.now).labels code.now ≡ false }
+    requires room { length (graph_after plan.old bill.now).labels < 24576 }
+    ensures bill { OnOk result (graph_after plan.new bill.now ≡ with_node code.now (graph_after plan.old bill.now)) }
     ensures plan { OnOk result (IsBillPlan bill.now plan.new) }
     ensures err { OnErr result (plan.new ≡ plan.old) }
 {
@@ -93,7 +93,7 @@ fn plan_materials(
 ) -> Result<BillPlan, OutOfMemory>
     requires index { IsIndex bill.now.labels index.now.rows }
     requires fits { length (with_codes (map (λ material. material.code) materials.now) bill.now).labels ≤ 24576 }
-    ensures bill { IfOk result (λ plan. planned plan bill.now ≡ with_codes (map (λ material. material.code) materials.now) bill.now) }
+    ensures bill { IfOk result (λ plan. graph_after plan bill.now ≡ with_codes (map (λ material. material.code) materials.now) bill.now) }
     ensures plan { IfOk result (λ plan. IsBillPlan bill.now plan) }
 {
     let mut plan = bill.plan_nothing(alloc);
@@ -112,7 +112,7 @@ fn plan_part(
 ) -> Result<BillPlan, OutOfMemory>
     requires index { IsIndex bill.now.labels index.now.rows }
     requires fits { length (with_code code.now bill.now).labels ≤ 24576 }
-    ensures bill { IfOk result (λ plan. planned plan bill.now ≡ with_code code.now bill.now) }
+    ensures bill { IfOk result (λ plan. graph_after plan bill.now ≡ with_code code.now bill.now) }
     ensures plan { IfOk result (λ plan. IsBillPlan bill.now plan) }
 {
     let mut plan = bill.plan_nothing(alloc);
@@ -131,12 +131,12 @@ fn plan_line(
     requires parent { parent < length bill.now.labels }
     requires child { child < length bill.now.labels }
     requires count { 1 ≤ count }
-    requires room { is_or_reaches bill.now.lines child parent ≡ false → line_count (with_line_in parent child count bill.now).lines ≤ 131072 }
-    ensures bill { IfOk result (λ plan. planned plan bill.now ≡ with_line_in parent child count bill.now) }
+    requires room { is_node_or_reaches bill.now.lines child parent ≡ false → line_count (with_line_in parent child count bill.now).lines ≤ 131072 }
+    ensures bill { IfOk result (λ plan. graph_after plan bill.now ≡ with_line_in parent child count bill.now) }
     ensures plan { IfOk result (λ plan. IsBillPlan bill.now plan) }
-    ensures opens { IfOk result (λ plan. is_or_reaches bill.now.lines child parent ≡ false) }
-    ensures closes { IfErr result (λ fault. fault ≢ BillFault.OutOfMemory → is_or_reaches bill.now.lines child parent ≡ true) }
-    ensures chain { IfErr result (λ fault. fault ≢ BillFault.OutOfMemory → fault ≡ BillFault.Closes (chain bill.now.lines child parent)) }
+    ensures opens { IfOk result (λ plan. is_node_or_reaches bill.now.lines child parent ≡ false) }
+    ensures closes { IfErr result (λ fault. fault ≢ BillFault.OutOfMemory → is_node_or_reaches bill.now.lines child parent ≡ true) }
+    ensures chain { IfErr result (λ fault. fault ≢ BillFault.OutOfMemory → fault ≡ BillFault.Closes (chain_of_nodes bill.now.lines child parent)) }
 {
     match bill.plan_set(alloc, parent, child, count) {
         Ok(plan) => Ok(plan),
@@ -156,7 +156,7 @@ pub fn plan_edit(
 ) -> Result<BillPlan, BillFault>
     requires index { IsIndex bill.now.labels index.now.rows }
     requires can { CanTake bill.now edit.now }
-    ensures bill { IfOk result (λ plan. planned plan bill.now ≡ bill_after bill.now edit.now) }
+    ensures bill { IfOk result (λ plan. graph_after plan bill.now ≡ bill_after bill.now edit.now) }
     ensures plan { IfOk result (λ plan. IsBillPlan bill.now plan) }
     ensures opens { IfOk result (λ plan. cycle_by bill.now edit.now ≡ None) }
     ensures closes { IfErr result (λ fault. fault ≢ BillFault.OutOfMemory → cycle_by bill.now edit.now ≡ chain_told fault) }

@@ -6,7 +6,7 @@ ghost use Rattle.desk_model.specs.declared.limits.TheConstants.{CONTENT_LIMIT};
 ghost use Rattle.desk_findings.specs.Above.{is_candidate};
 ghost use Rattle.desk_findings.specs.Reaches.{lines_of};
 ghost use Rattle.desk_findings.specs.Share.{factor_of, is_over_limit, share};
-ghost use Rattle.desk_tables.specs.Change.{changed};
+ghost use Rattle.desk_tables.specs.Change.{with_change_made};
 ghost use Rattle.desk_bridge.specs.TablesAfter.{changed_if, put_materials, put_materials_if};
 
 use crate::lines_after::lines_of;
@@ -55,7 +55,7 @@ impl<'a> TablesAfter<'a> {
 
     /// The tables as the change would leave them. It takes a pass over the materials that the change puts in.
     pub fn new(tables: &'a Tables, change: &'a RowChange) -> TablesAfter<'a>
-        ensures { result ≡ changed tables.now.lists change.now }
+        ensures { result ≡ with_change_made tables.now.lists change.now }
     {
         let rise = do_materials_rise(change);
         TablesAfter {
@@ -165,7 +165,7 @@ fn material_after<'a>(
 }
 
 /// The material of a code after the change.
-#[tactic(auto, unfolding(desk_tables::specs::Change::changed))]
+#[tactic(auto, unfolding(desk_tables::specs::Change::with_change_made))]
 fn changed_material<'a>(
     tables: &'a Tables,
     change: &'a RowChange,
@@ -174,7 +174,7 @@ fn changed_material<'a>(
 ) -> Option<&'a MaterialRow>
     requires ordered { IsOrdered tables.now.lists }
     requires rise { rise ≡ true → IsByKey (λ row. row.code) code_cmp (put_materials change.now) }
-    ensures { option_copied result ≡ material_row (changed tables.now.lists change.now) code.now }
+    ensures { option_copied result ≡ material_row (with_change_made tables.now.lists change.now) code.now }
 {
     match change {
         RowChange::PutMaterials { rows, .. } => {
@@ -200,10 +200,10 @@ fn part_after<'a>(
 }
 
 /// The part of a code after the change.
-#[tactic(auto, unfolding(desk_tables::specs::Change::changed))]
+#[tactic(auto, unfolding(desk_tables::specs::Change::with_change_made))]
 fn changed_part<'a>(tables: &'a Tables, change: &'a RowChange, code: &Code) -> Option<&'a PartRow>
     requires { IsOrdered tables.now.lists }
-    ensures { option_copied result ≡ part_row (changed tables.now.lists change.now) code.now }
+    ensures { option_copied result ≡ part_row (with_change_made tables.now.lists change.now) code.now }
 {
     match change {
         RowChange::PutPart { row, .. } => row_with(tables.parts(), row, code),
@@ -227,14 +227,14 @@ fn candidate_after<'a>(
 }
 
 /// The candidate of a substance after the change.
-#[tactic(auto, unfolding(desk_tables::specs::Change::changed))]
+#[tactic(auto, unfolding(desk_tables::specs::Change::with_change_made))]
 fn changed_candidate<'a>(
     tables: &'a Tables,
     change: &'a RowChange,
     substance: &Code,
 ) -> Option<&'a CandidateRow>
     requires { IsOrdered tables.now.lists }
-    ensures { option_copied result ≡ candidate_row (changed tables.now.lists change.now) substance.now }
+    ensures { option_copied result ≡ candidate_row (with_change_made tables.now.lists change.now) substance.now }
 {
     match change {
         RowChange::PutCandidate { row, .. } => row_with(tables.candidates(), row, substance),
@@ -258,14 +258,14 @@ fn member_after<'a>(
 }
 
 /// The member of a key after the change.
-#[tactic(auto, unfolding(desk_tables::specs::Change::changed))]
+#[tactic(auto, unfolding(desk_tables::specs::Change::with_change_made))]
 fn changed_member<'a>(
     tables: &'a Tables,
     change: &'a RowChange,
     key: &(Code, u8),
 ) -> Option<&'a MemberRow>
     requires { IsOrdered tables.now.lists }
-    ensures { option_copied result ≡ row_of member_key member_key_cmp key.now (changed tables.now.lists change.now).members }
+    ensures { option_copied result ≡ row_of member_key member_key_cmp key.now (with_change_made tables.now.lists change.now).members }
 {
     match change {
         RowChange::PutMember { row, .. } => row_with(tables.members(), row, key),

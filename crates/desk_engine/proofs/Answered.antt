@@ -1,10 +1,10 @@
 -- What is stored of a code, as answers read it.
 use Rattle.std.proofs.Common.{◌≡◌, ℕ, ◌<◌, true, List, length, sym, ap, ◌∙◌, subst}
 use Rattle.std.proofs.lemmas.Bool.{or_right}
-use Rattle.desk_graph.specs.Bill.{IsBill}
+use Rattle.desk_graph.specs.Bill.{IsBillGraph}
 use Rattle.desk_graph.specs.Graph.{label_of}
 use Rattle.desk_rollup.specs.Numbers.{Rises, has, hop_numbers, load_numbers}
-use Rattle.desk_rollup.specs.Values.{RolledValues, carried_in as node_carried, own_at, rolled_at}
+use Rattle.desk_rollup.specs.Values.{RolledValues, carried_by_node as node_carried, own_at, rolled_at}
 use Rattle.desk_model.specs.Lists.{Lists, is_kept, is_material, is_part}
 use Rattle.desk_findings.specs.Findings.{findings_at}
 use Rattle.desk_findings.specs.Carried.{carried}
@@ -23,7 +23,7 @@ use Rattle.desk_engine.specs.Stored.{IsStoredOf}
 pub part_kept : (t : Lists) (code : List ℕ) → is_part t code ≡ true → is_kept t code ≡ true
 part_kept t code there = or_right (is_material t code) (is_part t code) there
 
-module _ (t : Lists) (s : Sound t) (stored : Stored) (bill : IsBill stored.bill) (is : IsStoredOf t stored) where
+module _ (t : Lists) (s : Sound t) (stored : Stored) (bill : IsBillGraph stored.bill) (is : IsStoredOf t stored) where
   -- no two findings have one number
   pub numbered : AreNumbered t (finding_number stored.bill.labels stored.names)
   numbered = numbers_differ t s.consistent stored.bill.labels stored.names (labels_of t stored.bill (record { bill = bill; of = is.of.bill })) is.of.named.named

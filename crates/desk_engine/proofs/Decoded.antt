@@ -6,8 +6,8 @@ use Rattle.std.specs.Option.{option_map_or}
 use Rattle.std.proofs.lemmas.Bool.{both_ways, eq-eqb, false_from_ne_true, or_left, or_right}
 use Rattle.desk_text.specs.Code.{code_cmp}
 use Rattle.desk_law.specs.declared.rule.Rule.{Rule}
-use Rattle.desk_law.specs.declared.rule.Rule.TheVariants.{Lead, Mercury, Cadmium, ChromiumVi, Pbb, Pbde, Dehp, Bbp, Dbp, Dibp}
 use Rattle.desk_law.specs.Rule.{rule_number}
+use Rattle.desk_law.proofs.Rules.{rule_below, same_rule-true}
 use Rattle.desk_graph.specs.Graph.{label_of}
 use Rattle.desk_model.specs.declared.rows.material.MaterialRow.{MaterialRow}
 use Rattle.desk_model.specs.declared.rows.part.PartRow.{PartRow}
@@ -20,26 +20,13 @@ use Rattle.desk_findings.specs.Findings.{Finding, above, findings_of_article, fi
 use Rattle.desk_findings.specs.Holders.{holder}
 use Rattle.desk_findings.specs.Numbering.{is_found}
 use Rattle.desk_findings.proofs.Children.{is_part-article, not_part}
-use Rattle.desk_findings.proofs.FindingsOnce.{same_finding-true, same_rule-true}
+use Rattle.desk_findings.proofs.FindingsOnce.{same_finding-true}
 use Rattle.desk_history.specs.Sound.{IsConsistent}
 use Rattle.desk_bridge.specs.Bridge.{IsNumbered, place_of}
 use Rattle.desk_bridge.specs.Numbers.{AreNames, finding_number}
 use Rattle.desk_bridge.proofs.Found.{node_of-kept, node_of-taken}
 use Rattle.desk_bridge.proofs.Sorted.{all_both}
 use Rattle.desk_engine.specs.Answers.{HasNumber, IsNumber}
-
-pub rule_below : (rule : Rule) → rule_number rule < 4294967296
-unfolding rule_number
-rule_below Lead = omega arith
-rule_below Mercury = omega arith
-rule_below Cadmium = omega arith
-rule_below ChromiumVi = omega arith
-rule_below Pbb = omega arith
-rule_below Pbde = omega arith
-rule_below Dehp = omega arith
-rule_below Bbp = omega arith
-rule_below Dbp = omega arith
-rule_below Dibp = omega arith
 
 first_part : (a b c d : ℕ) → c < 4294967296 → d < 4294967296 → a * 4294967296 + c ≡ b * 4294967296 + d → a ≡ b
 first_part a b c d low lower e = omega arith

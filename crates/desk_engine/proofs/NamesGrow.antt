@@ -14,7 +14,7 @@ use Rattle.desk_model.specs.declared.edit.Edit.{Edit}
 use Rattle.desk_model.specs.declared.edit.Edit.TheVariants.{Substance, Member, Declare, Part, Line, Unline, Product, Exemption, Unexempt, Candidate, Ship, Unship}
 use Rattle.desk_model.specs.declared.limits.TheConstants.{CANDIDATE_LIMIT}
 use Rattle.desk_model.specs.declared.rows.candidate.CandidateRow.{CandidateRow}
-use Rattle.desk_model.specs.Effect.{entered, made, units_of, with_factor, with_units}
+use Rattle.desk_model.specs.Effect.{with_edit_entered, with_edit_made, units_of, with_factor, with_units}
 use Rattle.desk_model.specs.Forms.{is_candidate_row}
 use Rattle.desk_model.specs.Lists.{Lists}
 use Rattle.desk_model.specs.Values.{is_code}
@@ -54,8 +54,8 @@ units_leave t year product zero = refl
 units_leave t year product (suc fewer) = refl
 
 -- another edit leaves the candidates
-candidates_stay : (t : Lists) (edit : Edit) → new_candidate edit ≡ None → (entered t edit).candidates ≡ t.candidates
-unfolding entered made new_candidate
+candidates_stay : (t : Lists) (edit : Edit) → new_candidate edit ≡ None → (with_edit_entered t edit).candidates ≡ t.candidates
+unfolding with_edit_entered with_edit_made new_candidate
 candidates_stay t (Candidate ticket substance day) e = cc
 candidates_stay t (Substance ticket code name cas) e = refl
 candidates_stay t (Member ticket substance rule factor) e = factor_leaves t substance rule factor
@@ -82,12 +82,12 @@ same_names t u names e few = record {
   few = subst (λ rows. length names ≤ length rows) (sym e) few.few;
 }
 
-pub stay : (t : Lists) (edit : Edit) → new_candidate edit ≡ None → (names : List (List ℕ)) → AreFewNames t names → GrowTo t (entered t edit) names names
+pub stay : (t : Lists) (edit : Edit) → new_candidate edit ≡ None → (names : List (List ℕ)) → AreFewNames t names → GrowTo t (with_edit_entered t edit) names names
 stay t edit e names named = record {
   others = [];
   grown = sym (append_none names);
   fresh = tt;
-  named = same_names t (entered t edit) names (candidates_stay t edit e) named;
+  named = same_names t (with_edit_entered t edit) names (candidates_stay t edit e) named;
 }
 
 listed_append : (names : List (List ℕ)) (substance other : List ℕ) → list_any (λ listed. same_code listed other) (names ++ substance ∷ []) ≡ (list_any (λ listed. same_code listed other) names || same_code substance other)
@@ -136,40 +136,40 @@ few_candidates t e =
     not_over 8 CANDIDATE_LIMIT (length t.candidates) (none_of_both _ _ before9).1
 
 module _ (t : Lists) (s : Sound t) (ticket substance : List ℕ) (day : Date) (passes : PassesRows t (Candidate ticket substance day)) (names : List (List ℕ)) (named : AreFewNames t names) where
-  after_candidate : (other : List ℕ) → is_candidate (entered t (Candidate ticket substance day)) other ≡ true → (is_candidate t other ≡ true) ⊎ (substance ≡ other)
-  unfolding entered made
+  after_candidate : (other : List ℕ) → is_candidate (with_edit_entered t (Candidate ticket substance day)) other ≡ true → (is_candidate t other ≡ true) ⊎ (substance ≡ other)
+  unfolding with_edit_entered with_edit_made
   after_candidate other e =
       elim (cases_Bool (same_code substance other)) [
         | inl here ↦ inr (same_code-true substance other here)
         | inr away ↦ inl (sym (ap is_some (row_of-with_row_other (λ row. row.substance) code_cmp code_cmp_total (record { substance = substance; day = day }) other t.candidates away)) ∙ e)
       ]
 
-  candidates_grow : length t.candidates ≤ length (entered t (Candidate ticket substance day)).candidates
-  unfolding entered made
+  candidates_grow : length t.candidates ≤ length (with_edit_entered t (Candidate ticket substance day)).candidates
+  unfolding with_edit_entered with_edit_made
   candidates_grow = length-with_row-ge (λ row. row.substance) code_cmp (record { substance = substance; day = day }) t.candidates
 
-  one_more : is_candidate t substance ≡ false → length (entered t (Candidate ticket substance day)).candidates ≡ length t.candidates + 1
-  unfolding entered made
+  one_more : is_candidate t substance ≡ false → length (with_edit_entered t (Candidate ticket substance day)).candidates ≡ length t.candidates + 1
+  unfolding with_edit_entered with_edit_made
   one_more none = length-new (λ row. row.substance) code_cmp (record { substance = substance; day = day }) t.candidates (not_some (row_of (λ row. row.substance) code_cmp substance t.candidates) none)
     where
       not_some : {X : Type 0} (o : Option X) → is_some o ≡ false → o ≡ None
       not_some None e = refl
       not_some (Some x) e = absurd (true≢false e)
 
-  names_of : (new : List (List ℕ)) → length new ≤ length t.candidates + 1 → length new ≤ length (entered t (Candidate ticket substance day)).candidates →
-      ((other : List ℕ) → list_any (λ listed. same_code listed other) names ≡ true → list_any (λ listed. same_code listed other) new ≡ true) → list_any (λ listed. same_code listed substance) new ≡ true → AreFewNames (entered t (Candidate ticket substance day)) new
+  names_of : (new : List (List ℕ)) → length new ≤ length t.candidates + 1 → length new ≤ length (with_edit_entered t (Candidate ticket substance day)).candidates →
+      ((other : List ℕ) → list_any (λ listed. same_code listed other) names ≡ true → list_any (λ listed. same_code listed other) new ≡ true) → list_any (λ listed. same_code listed substance) new ≡ true → AreFewNames (with_edit_entered t (Candidate ticket substance day)) new
   names_of new near few more here = record {
     named = record {
       named = λ other there. ⊎_elim (λ before. more other (named.named.named other before)) (λ same. subst (λ c. list_any (λ listed. same_code listed c) new ≡ true) same here) (after_candidate other there);
       few = omega (arith, near, few_candidates t s.limits.tables_fit);
-      nameless = nameless (entered t (Candidate ticket substance day)) (IsConsistent-entered t (Candidate ticket substance day) s.consistent passes);
+      nameless = nameless (with_edit_entered t (Candidate ticket substance day)) (IsConsistent-entered t (Candidate ticket substance day) s.consistent passes);
     };
     few = few;
   }
 
-  grow_by : (listed : Bool) → list_any (λ listed. same_code listed substance) names ≡ listed → (new : List (List ℕ)) → new ≡ (if listed then names else names ++ substance ∷ []) → GrowTo t (entered t (Candidate ticket substance day)) names new
+  grow_by : (listed : Bool) → list_any (λ listed. same_code listed substance) names ≡ listed → (new : List (List ℕ)) → new ≡ (if listed then names else names ++ substance ∷ []) → GrowTo t (with_edit_entered t (Candidate ticket substance day)) names new
   grow_by true there new is =
-      subst (GrowTo t (entered t (Candidate ticket substance day)) names) (sym is)
+      subst (GrowTo t (with_edit_entered t (Candidate ticket substance day)) names) (sym is)
       (record { others = []; grown = sym (append_none names); fresh = tt; named = names_of names (omega (arith, named.few)) (omega (arith, named.few, candidates_grow)) (λ other e. e) there })
   grow_by false absent new is =
       let none : is_candidate t substance ≡ false = false_from_ne_true (is_candidate t substance) (λ kept. false≢true (sym absent ∙ named.named.named substance kept)) in
@@ -184,12 +184,12 @@ module _ (t : Lists) (s : Sound t) (ticket substance : List ℕ) (day : Date) (p
             ∙ or_right (list_any (λ listed. same_code listed substance) names) (same_code substance substance) (same_code-from substance substance refl));
       }
 
-  pub grow : (new : List (List ℕ)) → new ≡ (if list_any (λ listed. same_code listed substance) names then names else names ++ substance ∷ []) → GrowTo t (entered t (Candidate ticket substance day)) names new
+  pub grow : (new : List (List ℕ)) → new ≡ (if list_any (λ listed. same_code listed substance) names then names else names ++ substance ∷ []) → GrowTo t (with_edit_entered t (Candidate ticket substance day)) names new
   grow new is = grow_by (list_any (λ listed. same_code listed substance) names) refl new is
 
 -- by the substance that an edit puts on the list
 grow_with : (t : Lists) → Sound t → (edit : Edit) (substance : List ℕ) → new_candidate edit ≡ Some substance → PassesRows t edit → (names : List (List ℕ)) → AreFewNames t names → (new : List (List ℕ)) →
-    new ≡ (if list_any (λ listed. same_code listed substance) names then names else names ++ substance ∷ []) → GrowTo t (entered t edit) names new
+    new ≡ (if list_any (λ listed. same_code listed substance) names then names else names ++ substance ∷ []) → GrowTo t (with_edit_entered t edit) names new
 unfolding new_candidate
 grow_with t s (Candidate ticket own day) substance e passes names named new is =
     let same : own ≡ substance = some_inside e in
@@ -210,7 +210,7 @@ grow_with t s (Ship ticket product year units) substance e passes names named ne
 grow_with t s (Unship ticket product year units) substance e passes names named new is = cc
 
 pub grow_ok : (t : Lists) → Sound t → (edit : Edit) (substance : List ℕ) → new_candidate edit ≡ Some substance → PassesRows t edit → (names : List (List ℕ)) → AreFewNames t names → {E : Type 0} (r : Result (Option (List (List ℕ))) E) →
-    IfOk r (λ new. unwrap_or new names ≡ (if list_any (λ listed. same_code listed substance) names then names else names ++ substance ∷ [])) → IfOk r (λ new. GrowTo t (entered t edit) names (unwrap_or new names))
+    IfOk r (λ new. unwrap_or new names ≡ (if list_any (λ listed. same_code listed substance) names then names else names ++ substance ∷ [])) → IfOk r (λ new. GrowTo t (with_edit_entered t edit) names (unwrap_or new names))
 grow_ok t s edit substance e passes names named (Ok new) is = grow_with t s edit substance e passes names named (unwrap_or new names) is
 grow_ok t s edit substance e passes names named (Err fault) is = tt
 

@@ -7,7 +7,7 @@ use Rattle.std.proofs.lemmas.List.{take_more}
 use Rattle.desk_text.specs.Code.{code_cmp, same_code}
 use Rattle.desk_rows.specs.Rows.{IsByKey, row_of, with_row}
 use Rattle.desk_rows.proofs.Lookups.{row_of-with_row, row_of-with_row_other}
-use Rattle.desk_graph.specs.Bill.{IsBill}
+use Rattle.desk_graph.specs.Bill.{IsBillGraph}
 use Rattle.desk_graph.specs.Graph.{Graph, label_of}
 use Rattle.desk_graph.specs.Reaches.{AreAffected}
 use Rattle.desk_model.specs.declared.rows.product.ProductRow.{ProductRow}
@@ -118,7 +118,7 @@ module _ (test : List ℕ → Bool) (part : List ℕ) where
             ]
       ]
 
-module _ (t : Lists) (s : IsConsistent t) (g : Graph) (bill : IsBill g) (of : IsBillOf t g) (code : List ℕ) (kept : is_kept t code ≡ true) (nodes : List ℕ) (are : AreAffected g.lines (node_of g.labels code ∷ []) nodes) where
+module _ (t : Lists) (s : IsConsistent t) (g : Graph) (bill : IsBillGraph g) (of : IsBillOf t g) (code : List ℕ) (kept : is_kept t code ≡ true) (nodes : List ℕ) (are : AreAffected g.lines (node_of g.labels code ∷ []) nodes) where
   node : ℕ
   node = node_of g.labels code
 

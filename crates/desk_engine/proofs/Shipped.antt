@@ -5,7 +5,7 @@ use Rattle.std.proofs.lemmas.Bool.{and_parts, leb-true, ltb-false}
 use Rattle.desk_model.specs.declared.edit.Edit.{Edit}
 use Rattle.desk_model.specs.declared.edit.Edit.TheVariants.{Substance, Member, Declare, Part, Line, Unline, Product, Exemption, Unexempt, Candidate, Ship, Unship}
 use Rattle.desk_model.specs.declared.limits.TheConstants.{UNITS_LIMIT}
-use Rattle.desk_model.specs.Effect.{entered}
+use Rattle.desk_model.specs.Effect.{with_edit_entered}
 use Rattle.desk_model.specs.Effect as effect
 use Rattle.desk_model.specs.Forms.{are_units, is_edit_in_form, is_year}
 use Rattle.desk_model.specs.Lists.{Lists, is_kept, is_product}
@@ -18,8 +18,8 @@ use Rattle.desk_history.specs.Sound.{Sound}
 use Rattle.desk_history.proofs.MadeRows.{refuse_if-none, refuse_unless}
 use Rattle.desk_history.proofs.Rules.{unrefused}
 use Rattle.desk_tonnage.specs.declared.entry.Entry.{Entry}
-use Rattle.desk_tonnage.specs.Edits.{HasMass, with_units, without_units}
-use Rattle.desk_tonnage.specs.Entries.{units_of}
+use Rattle.desk_tonnage.specs.Edits.{HasMass, with_entry_units, without_entry_units}
+use Rattle.desk_tonnage.specs.Entries.{entry_units}
 use Rattle.desk_bridge.specs.Years.{entries_of}
 use Rattle.desk_bridge.proofs.Years.{shipped, taken_off, units, weighs}
 use Rattle.desk_engine.specs.declared.shipping.Shipping.TheVariants as shipping
@@ -29,15 +29,15 @@ use Rattle.desk_engine.proofs.Weights.{product_kept}
 -- units of a product that is kept may be added, each of its mass, and then the entries of the shipments are those with them
 pub record IsAdded (t : Lists) (edit : Edit) (year : ℕ) (product : List ℕ) (more : ℕ) (entries : List Entry) : Type 0 where
   pub some : 1 ≤ more
-  pub fits : units_of year product entries + more ≤ 1000000000000
+  pub fits : entry_units year product entries + more ≤ 1000000000000
   pub kept : is_kept t product ≡ true
   pub weighs : HasMass year product (mass t product) entries
-  pub after : entries_of (entered t edit) ≡ with_units year product more (mass t product) entries
+  pub after : entries_of (with_edit_entered t edit) ≡ with_entry_units year product more (mass t product) entries
 
 -- units may be taken off, and then the entries of the shipments are those without them
 pub record IsTaken (t : Lists) (edit : Edit) (year : ℕ) (product : List ℕ) (fewer : ℕ) (entries : List Entry) : Type 0 where
-  pub enough : fewer ≤ units_of year product entries
-  pub after : entries_of (entered t edit) ≡ without_units year product fewer entries
+  pub enough : fewer ≤ entry_units year product entries
+  pub after : entries_of (with_edit_entered t edit) ≡ without_entry_units year product fewer entries
 
 module _ (t : Lists) (s : Sound t) where
   shipped_form : (ticket product : List ℕ) (year more : ℕ) → is_edit_in_form (Ship ticket product year more) ≡ true → 1 ≤ more

@@ -11,6 +11,7 @@ use Rattle.std.proofs.lemmas.List.Sorted.{list_any-IsPermutation, sum_by-IsPermu
 use Rattle.std.proofs.lemmas.List.Sums.{sum_by-cons}
 use Rattle.desk_text.specs.Code.{code_cmp}
 use Rattle.desk_law.specs.Rule.{rule_number}
+use Rattle.desk_law.proofs.Rules.{same_rule-true}
 use Rattle.desk_rollup.specs.declared.hop.Hop.{Hop}
 use Rattle.desk_rollup.specs.Numbers.{Rises, RisesFrom, has, hop_numbers, mark_number}
 use Rattle.desk_model.specs.Lists.{IsOrdered, Lists, is_part}
@@ -20,7 +21,7 @@ use Rattle.desk_findings.specs.Findings.{Finding, above, findings, findings_at, 
 use Rattle.desk_findings.specs.Bill.{IsBill, are_codes_apart}
 use Rattle.desk_findings.specs.Holders.{holder}
 use Rattle.desk_findings.specs.Numbering.{AreNumbered, has_numbered, is_found}
-use Rattle.desk_findings.proofs.FindingsOnce.{of_part, same_finding-true, same_rule-true}
+use Rattle.desk_findings.proofs.FindingsOnce.{of_part, same_finding-true}
 use Rattle.desk_findings.proofs.Numbering.{each_found, same_itself}
 use Rattle.desk_scratch.specs.declared.finding.Finding.{Finding as Told}
 use Rattle.desk_scratch.specs.LookUps.{finding_of}

@@ -3,7 +3,7 @@ use Rattle.std.proofs.Common.{◌≡◌, ℕ, ◌+◌, ◌<◌, ◌≤◌, true,
 use Rattle.std.specs.Prelude.{nat_le, nat_lt}
 use Rattle.std.specs.List.{AllByRecursion}
 use Rattle.std.proofs.lemmas.Bool.{and_parts, eq-eqb, false≢true, le-ltb, leb-true, lt-ltb, ne_eqb, or_parts}
-use Rattle.desk_graph.specs.Bill.{IsBill}
+use Rattle.desk_graph.specs.Bill.{IsBillGraph}
 use Rattle.desk_graph.specs.Graph.{Graph, label_of}
 use Rattle.desk_graph.specs.Reaches.{has_node}
 use Rattle.desk_rollup.specs.declared.fault.RollFault.{RollFault}
@@ -25,7 +25,7 @@ use Rattle.desk_tonnage.specs.declared.entry.Entry.{Entry}
 use Rattle.desk_tonnage.specs.declared.fault.MassFault.{MassFault}
 use Rattle.desk_tonnage.specs.declared.fault.MassFault.TheVariants.{YearTooLarge}
 use Rattle.desk_tonnage.specs.Entries.{entry_key, entry_key_cmp}
-use Rattle.desk_tonnage.specs.Years.{too_heavy_year as too_heavy_entries}
+use Rattle.desk_tonnage.specs.Years.{too_heavy_entry_year as too_heavy_entries}
 use Rattle.desk_bridge.specs.Years.{entries_of, shipment_entry}
 use Rattle.desk_bridge.proofs.Years.{heavy, order}
 use Rattle.desk_bridge.specs.Bridge.{IsBillOf}
@@ -40,7 +40,7 @@ use Rattle.desk_bridge.proofs.Bridges.{labels_of}
 use Rattle.desk_engine.proofs.Listed.{each_at, has_push}
 use Rattle.desk_engine.proofs.Weights.{product_kept}
 
-module _ (t : Lists) (s : Sound t) (g : Graph) (bill : IsBill g) (of : IsBillOf t g) (names : List (List ℕ)) (named : AreNames t names) (nodes : List ℕ) (has : (node : ℕ) → has_node nodes node ≡ nat_lt node (length g.labels)) (distinct : AreDistinct nodes)
+module _ (t : Lists) (s : Sound t) (g : Graph) (bill : IsBillGraph g) (of : IsBillOf t g) (names : List (List ℕ)) (named : AreNames t names) (nodes : List ℕ) (has : (node : ℕ) → has_node nodes node ≡ nat_lt node (length g.labels)) (distinct : AreDistinct nodes)
     (owns : List OwnValues) (at : AreOwnAt t g.labels names nodes owns) where
   all_told : HasOwnValues t g (finding_number g.labels names) (label_of names) (own_with owns [])
   all_told = record {

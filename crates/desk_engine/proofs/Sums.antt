@@ -6,7 +6,7 @@ use Rattle.std.proofs.lemmas.List.{append-nil, drop_all, take_all}
 use Rattle.std.proofs.lemmas.List.Sums.{sum_by-cons}
 use Rattle.desk_rollup.specs.declared.load.Load.{Load}
 use Rattle.desk_rollup.specs.Numbers.{Rises, RisesFrom, has, load_numbers}
-use Rattle.desk_rollup.specs.Values.{amount_of, carried_in}
+use Rattle.desk_rollup.specs.Values.{amount_of, carried_by_node}
 use Rattle.desk_rollup.proofs.Lists.{amount_none}
 
 none_has : (low n : ℕ) (ns : List ℕ) → n < low → RisesFrom low ns → has ns n ≡ false
@@ -14,7 +14,7 @@ none_has low n [] h up = refl
 none_has low n (first ∷ ns) h up = rw (ne_eqb first n (λ e. omega (arith, e, up.0, h))) (none_has (first + 1) n ns (omega (arith, up.0, h)) up.1)
 
 -- where each substance stands once, its load is all there is of it
-once_carried : (low n : ℕ) (loads : List Load) → RisesFrom low (load_numbers loads) → amount_of loads n ≡ carried_in loads n
+once_carried : (low n : ℕ) (loads : List Load) → RisesFrom low (load_numbers loads) → amount_of loads n ≡ carried_by_node loads n
 once_carried low n [] up = refl
 once_carried low n (load ∷ loads) up =
     let sum = sum_by-cons (λ (one : Load). if one.what == n then one.amount else 0) load loads in
@@ -26,7 +26,7 @@ once_carried low n (load ∷ loads) up =
       | inr away ↦ sum ∙ rw away (omega (arith, once_carried (load.what + 1) n loads up.1))
     ]
 
-pub all_carried : (loads : List Load) → Rises (load_numbers loads) → (n : ℕ) → amount_of loads n ≡ carried_in loads n
+pub all_carried : (loads : List Load) → Rises (load_numbers loads) → (n : ℕ) → amount_of loads n ≡ carried_by_node loads n
 all_carried loads up n = once_carried 0 n loads up
 
 twice : (units a b : ℕ) → units * (a + b) ≡ units * a + units * b

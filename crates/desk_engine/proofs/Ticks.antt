@@ -6,9 +6,9 @@ use Rattle.std.proofs.lemmas.Bool.{cases_Bool, cases_lt, eq-eqb, eqb-true, lt-lt
 use Rattle.std.proofs.lemmas.List.Sums.{sum_by-cons}
 use Rattle.desk_text.specs.Code.{same_code}
 use Rattle.desk_text.proofs.CodeLemmas.{same_code_itself}
-use Rattle.desk_graph.specs.Bill.{IsBill}
+use Rattle.desk_graph.specs.Bill.{IsBillGraph}
 use Rattle.desk_graph.specs.Graph.{Graph, label_of}
-use Rattle.desk_graph.specs.Reaches.{enough, has_node, is_affected, is_or_reaches, reaches}
+use Rattle.desk_graph.specs.Reaches.{longest_node_chain, has_node, is_node_affected, is_node_or_reaches, node_reaches}
 use Rattle.desk_graph.proofs.Ends.{has_node_there}
 use Rattle.desk_graph.proofs.Reached.{any_node-out, up}
 use Rattle.desk_model.specs.Lists.{Lists, is_kept, is_material, is_part, nodes_of}
@@ -69,19 +69,19 @@ module _ (p : ℕ → Bool) where
       next a b le away = elim (cases_lt a b) [ inl less ↦ omega (arith, less) | inr more ↦ absurd (true≢false (sym (eq-eqb a b (omega (arith, le, more))) ∙ away)) ]
 
 -- no node beyond those of a bill is affected where the seeds are of it
-pub none_beyond : (g : Graph) → IsBill g → (seeds : List ℕ) → ((node : ℕ) → has_node seeds node ≡ true → node < length g.labels) → (node : ℕ) → length g.labels ≤ node → is_affected g.lines seeds node ≡ false
+pub none_beyond : (g : Graph) → IsBillGraph g → (seeds : List ℕ) → ((node : ℕ) → has_node seeds node ≡ true → node < length g.labels) → (node : ℕ) → length g.labels ≤ node → is_node_affected g.lines seeds node ≡ false
 none_beyond g bill seeds low node past =
-    elim (cases_Bool (is_affected g.lines seeds node)) [
+    elim (cases_Bool (is_node_affected g.lines seeds node)) [
       | inl is ↦
-          let found = any_node-out (λ seed. is_or_reaches g.lines node seed) seeds is in
+          let found = any_node-out (λ seed. is_node_or_reaches g.lines node seed) seeds is in
           let seed_low = low found.0 found.1 in
-          elim (or_cases (node == found.0) (reaches g.lines node found.0) found.2) [
+          elim (or_cases (node == found.0) (node_reaches g.lines node found.0) found.2) [
             | inl here ↦ let same = eqb-true node found.0 here in absurd (omega (arith, same, seed_low, past))
             | inr there ↦
                 let inside = ltb-true node (length g.labels)
                 (up g.lines found.0 (λ n. nat_lt n (length g.labels)) (lt-ltb found.0 (length g.labels) seed_low)
                 (λ child user _ line. lt-ltb user (length g.labels) (omega (arith, has_node_there g.lines user child line, bill.sizes)))
-                (enough g.lines) node there) in
+                (longest_node_chain g.lines) node there) in
                 absurd (omega (arith, inside, past))
           ]
       | inr no_one ↦ no_one

@@ -9,8 +9,8 @@ use Rattle.desk_text.specs.Code.{code_cmp, same_code}
 use Rattle.desk_rows.specs.Rows.{IsByKey, row_of}
 use Rattle.desk_rows.proofs.Order.{by_key, none_by_key}
 use Rattle.desk_graph.specs.declared.line.BillLine.{BillLine}
-use Rattle.desk_graph.specs.Bill.{IsBill}
-use Rattle.desk_graph.specs.Graph.{AreUsers, Graph, IsByLabel, count_at, label_of, lines_of as node_lines}
+use Rattle.desk_graph.specs.Bill.{IsBillGraph}
+use Rattle.desk_graph.specs.Graph.{AreUsers, Graph, IsByLabel, count_at, label_of, lines_of_node as node_lines}
 use Rattle.desk_graph.specs.Reaches as graph
 use Rattle.desk_graph.specs.Reaches.{AreAffected, has_node}
 use Rattle.desk_rollup.proofs.Frame.{affected_had, affected_inside}
@@ -43,22 +43,22 @@ each_node P (node ∷ nodes) h = (
 )
 
 -- the nodes above one
-module _ (g : Graph) (bill : IsBill g) (node : ℕ) (there : node < length g.labels) (nodes : List ℕ) (are : AreAffected g.lines (node ∷ []) nodes) where
+module _ (g : Graph) (bill : IsBillGraph g) (node : ℕ) (there : node < length g.labels) (nodes : List ℕ) (are : AreAffected g.lines (node ∷ []) nodes) where
   seed_inside : (n : ℕ) → has_node (node ∷ []) n ≡ true → n < length g.labels
   seed_inside n h = subst (λ m. m < length g.labels) (eqb-true node n (sym (or_nothing (node == n)) ∙ h)) there
 
   pub all_inside : (count : ℕ) → count ≡ length g.labels → AllByRecursion (λ n. n < count) nodes
   all_inside count is = each_node (λ n. n < count) nodes (λ n has. subst (λ m. n < m) (sym is) (affected_inside g bill (node ∷ []) nodes seed_inside are n has))
 
-  pub reaching : (other : ℕ) → has_node nodes other ≡ graph.is_or_reaches g.lines other node
-  reaching other = affected_had g.lines (node ∷ []) nodes are other ∙ or_nothing (graph.is_or_reaches g.lines other node)
+  pub reaching : (other : ℕ) → has_node nodes other ≡ graph.is_node_or_reaches g.lines other node
+  reaching other = affected_had g.lines (node ∷ []) nodes are other ∙ or_nothing (graph.is_node_or_reaches g.lines other node)
 
   -- their marks
   pub marked : {A E : Type 0} (count : ℕ) → count ≡ length g.labels → (items : A → List Bool) (r : Result A E) → IfOk r (λ marks. length (items marks) ≡ count) → IfOk r (λ marks. (n : ℕ) → slice_index_or (items marks) n false ≡ has_node nodes n) → IfOk r (λ marks. AreMarksOf g node (items marks))
   marked count is items (Ok marks) size tells = record { size = size ∙ is; tells = λ n. tells n ∙ reaching n }
   marked count is items (Err e) size tells = tt
 
-module _ (t : Lists) (s : IsConsistent t) (g : Graph) (bill : IsBill g) (of : IsBillOf t g) where
+module _ (t : Lists) (s : IsConsistent t) (g : Graph) (bill : IsBillGraph g) (of : IsBillOf t g) where
   right : IsRight t
   right = record { children = right_of t s; apart = s.codes_apart; acyclic = s.acyclic }
 
@@ -66,11 +66,11 @@ module _ (t : Lists) (s : IsConsistent t) (g : Graph) (bill : IsBill g) (of : Is
   bridge = record { bill = bill; of = of }
 
   -- whether a kept code reaches another, or is it
-  pub reached_alike : (part code : List ℕ) → is_kept t part ≡ true → is_kept t code ≡ true → graph.is_or_reaches g.lines (node_of g.labels part) (node_of g.labels code) ≡ tables.is_or_reaches t part code
+  pub reached_alike : (part code : List ℕ) → is_kept t part ≡ true → is_kept t code ≡ true → graph.is_node_or_reaches g.lines (node_of g.labels part) (node_of g.labels code) ≡ tables.is_or_reaches t part code
   reached_alike part code kept there =
       let from = node_of-kept t g.labels of.numbered part kept in
       let to = node_of-kept t g.labels of.numbered code there in
-      ap (λ b. b || graph.reaches g.lines (node_of g.labels part) (node_of g.labels code)) (labels_differ g bill (node_of g.labels part) (node_of g.labels code) from.0 to.0)
+      ap (λ b. b || graph.node_reaches g.lines (node_of g.labels part) (node_of g.labels code)) (labels_differ g bill (node_of g.labels part) (node_of g.labels code) from.0 to.0)
       ∙ ap (λ b. same_code (label_of g.labels (node_of g.labels part)) (label_of g.labels (node_of g.labels code)) || b) (reached_agree t right g bridge (node_of g.labels code) to.0 (node_of g.labels part) from.0)
       ∙ ap (λ c. tables.is_or_reaches t c (label_of g.labels (node_of g.labels code))) from.1
       ∙ ap (tables.is_or_reaches t part) to.1
@@ -94,7 +94,7 @@ module _ (P : ℕ → Type 0) where
             | false ↦ there
           ]
 
-module _ (t : Lists) (s : IsConsistent t) (g : Graph) (bill : IsBill g) (of : IsBillOf t g) (code : List ℕ) (node : ℕ) (inside : node < length g.labels) (label : label_of g.labels node ≡ code) (users : List BillLine) (are : AreUsers g.lines node users) where
+module _ (t : Lists) (s : IsConsistent t) (g : Graph) (bill : IsBillGraph g) (of : IsBillOf t g) (code : List ℕ) (node : ℕ) (inside : node < length g.labels) (label : label_of g.labels node ≡ code) (users : List BillLine) (are : AreUsers g.lines node users) where
   user_there : (n : ℕ) → is_some (count_at users n) ≡ true → n < length g.labels
   user_there n there =
       elim (cases_lt n (length g.labels)) [

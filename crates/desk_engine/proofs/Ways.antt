@@ -5,8 +5,8 @@ use Rattle.std.specs.Option.{option_map_or}
 use Rattle.std.specs.List.{AllByRecursion}
 use Rattle.std.proofs.lemmas.Bool.{and_parts}
 use Rattle.desk_graph.specs.declared.line.BillLine.{BillLine}
-use Rattle.desk_graph.specs.Bill.{IsBill}
-use Rattle.desk_graph.specs.Graph.{Graph, label_of, lines_of as node_lines}
+use Rattle.desk_graph.specs.Bill.{IsBillGraph}
+use Rattle.desk_graph.specs.Graph.{Graph, label_of, lines_of_node as node_lines}
 use Rattle.desk_rollup.specs.Chain.{hop_chain as node_chain, next_hop as node_next, way}
 use Rattle.desk_rollup.specs.Numbers.{has, mark_numbers}
 use Rattle.desk_rollup.specs.Plan.{AreRolledUp}
@@ -32,7 +32,7 @@ use Rattle.desk_engine.specs.Stored.{IsStoredOf}
 use Rattle.desk_engine.proofs.Answered.{numbered}
 
 -- the way from a node of the bill stays in the bill
-module _ (g : Graph) (bill : IsBill g) (kept : KeptValues) (rolled : AreRolledUp g kept) (mark : ℕ) where
+module _ (g : Graph) (bill : IsBillGraph g) (kept : KeptValues) (rolled : AreRolledUp g kept) (mark : ℕ) where
   abbrev Inside : ℕ → Type 0
   Inside node = node < length g.labels
 
@@ -74,7 +74,7 @@ module _ (t : Lists) (s : Sound t) (code : List ℕ) (part : is_part t code ≡ 
   pub found_in : is_found t finding ≡ true
   found_in = (and_parts (is_or_reaches t code (holder finding)) (is_found t finding) (sym (held t s.consistent.ordered (bill_of t s.consistent) finding code) ∙ there_at)).1
 
-  module _ (stored : Stored) (bill : IsBill stored.bill) (is : IsStoredOf t stored) where
+  module _ (stored : Stored) (bill : IsBillGraph stored.bill) (is : IsStoredOf t stored) where
     right : IsRight t
     right = record { children = right_of t s.consistent; apart = s.consistent.codes_apart; acyclic = s.consistent.acyclic }
 

@@ -8,16 +8,16 @@ use Rattle.std.proofs.lemmas.List.{get_or_append_left, length-append}
 use Rattle.desk_text.specs.Code.{code_cmp, same_code}
 use Rattle.desk_rows.specs.Rows.{row_of, with_row}
 use Rattle.desk_rows.proofs.Lookups.{kept-with_row, row_of-with_row, row_of-with_row_other}
-use Rattle.desk_graph.specs.Bill.{IsBill}
+use Rattle.desk_graph.specs.Bill.{IsBillGraph}
 use Rattle.desk_graph.specs.Graph.{Graph, label_of}
-use Rattle.desk_graph.specs.Planned.{BillEdit, planned}
+use Rattle.desk_graph.specs.Planned.{BillEdit, graph_after}
 use Rattle.desk_graph.specs.Reaches.{has_node}
 use Rattle.desk_rollup.specs.Plan.{AreRolledUp, PlannedValues}
 use Rattle.desk_rollup.specs.Values.{KeptValues, own_at, own_with, rolled_at}
 use Rattle.desk_model.specs.declared.edit.Edit.{Edit}
 use Rattle.desk_model.specs.declared.rows.product.ProductRow.{ProductRow}
 use Rattle.desk_model.specs.declared.rows.shipment.ShipmentRow.{ShipmentRow}
-use Rattle.desk_model.specs.Effect.{entered}
+use Rattle.desk_model.specs.Effect.{with_edit_entered}
 use Rattle.desk_model.specs.Lists.{Lists, is_kept, is_material, is_part, is_product}
 use Rattle.desk_model.proofs.Elements.{each_from_all}
 use Rattle.desk_model.proofs.Kept.{code_cmp_total, kept_each, same_code-true}
@@ -50,7 +50,7 @@ use Rattle.desk_engine.proofs.Listed.{each_at, has_push}
 use Rattle.desk_engine.proofs.Planned.{planned_labels}
 
 -- the kept weights are masses
-module _ (t : Lists) (s : Sound t) (g : Graph) (bill : IsBill g) (of : IsBillOf t g) (names : List (List ℕ)) (named : AreNames t names) (kept : KeptValues) (owns : AreOwnOf t g (finding_number g.labels names) (label_of names) (own_at kept.owns)) where
+module _ (t : Lists) (s : Sound t) (g : Graph) (bill : IsBillGraph g) (of : IsBillOf t g) (names : List (List ℕ)) (named : AreNames t names) (kept : KeptValues) (owns : AreOwnOf t g (finding_number g.labels names) (label_of names) (own_at kept.owns)) where
   kept_values : HasOwnValues t g (finding_number g.labels names) (label_of names) (own_at kept.owns)
   kept_values = record {
     consistent = s.consistent;
@@ -65,7 +65,7 @@ module _ (t : Lists) (s : Sound t) (g : Graph) (bill : IsBill g) (of : IsBillOf 
     weights = λ node inside. (values_of t g (finding_number g.labels names) (label_of names) kept kept_values rolled node inside).weight;
   }
 
-pub stored_masses : (t : Lists) → Sound t → (stored : Stored) → IsBill stored.bill → IsStoredOf t stored → AreMasses t stored.bill stored.rollups
+pub stored_masses : (t : Lists) → Sound t → (stored : Stored) → IsBillGraph stored.bill → IsStoredOf t stored → AreMasses t stored.bill stored.rollups
 stored_masses t s stored bill is = kept_masses t s stored.bill bill is.of.bill stored.names is.of.named.named stored.rollups is.of.owns is.rolled
 
 -- the weight of the node of a kept code
@@ -133,7 +133,7 @@ module _ (t : Lists) (stored : Stored) (is : IsStoredOf t stored) (labels more :
         ap (λ ls. label_of ls (node_of stored.bill.labels product)) grows ∙ get_or_append_left stored.bill.labels more [] (node_of stored.bill.labels product) node.0 ∙ node.1,
       )
 
-  pub one_node : (g : Graph) → IsBill g → g.labels ≡ labels → (node : ℕ) → node < length labels → label_of labels node ≡ product → node ≡ node_of stored.bill.labels product
+  pub one_node : (g : Graph) → IsBillGraph g → g.labels ≡ labels → (node : ℕ) → node < length labels → label_of labels node ≡ product → node ≡ node_of stored.bill.labels product
   one_node g bill same node inside e =
       bill.unique node (node_of stored.bill.labels product) (subst (λ ls. node < length ls) (sym same) inside) (subst (λ ls. node_of stored.bill.labels product < length ls) (sym same) node_there.0)
       (subst (λ ls. label_of ls node ≡ label_of ls (node_of stored.bill.labels product)) (sym same) (e ∙ sym node_there.1))
@@ -145,18 +145,18 @@ all_products t labels nodes masses rows is a node has there =
 
 -- masses of all products that an edit affects make the entries of the shipments after it
 module _ (t : Lists) (edit : Edit) (s : Sound t) (passes : PassesRows t edit) (stored : Stored) (is : IsStoredOf t stored) (plan : BillEdit) (names : List (List ℕ)) (given : PlannedValues)
-    (rolled : IsRolledFor t edit (planned plan stored.bill) names stored.rollups given) (masses : List ProductMass) (weights : AreWeights (planned plan stored.bill).labels given masses)
-    (all : AreAllWeighed t (planned plan stored.bill).labels given.nodes masses) where
+    (rolled : IsRolledFor t edit (graph_after plan stored.bill) names stored.rollups given) (masses : List ProductMass) (weights : AreWeights (graph_after plan stored.bill).labels given masses)
+    (all : AreAllWeighed t (graph_after plan stored.bill).labels given.nodes masses) where
   -- a planned weight is the mass after the edit
-  planned_mass : (place : ℕ) → place < length given.nodes → (rolled_at given.rolled place).weight ≡ mass (entered t edit) (label_of (planned plan stored.bill).labels (slice_index given.nodes place))
+  planned_mass : (place : ℕ) → place < length given.nodes → (rolled_at given.rolled place).weight ≡ mass (with_edit_entered t edit) (label_of (graph_after plan stored.bill).labels (slice_index given.nodes place))
   planned_mass place low =
       let node = slice_index given.nodes place in
-      let inside : node < length (planned plan stored.bill).labels = subst (λ n. node < n) rolled.rolls.count (rolled.rolls.inside node (has_node-at given.nodes place 0 low)) in
+      let inside : node < length (graph_after plan stored.bill).labels = subst (λ n. node < n) rolled.rolls.count (rolled.rolls.inside node (has_node-at given.nodes place 0 low)) in
       (rolled.rolls.replaced place low).weight
-      ∙ rolled_agree (entered t edit) (right_tables (entered t edit) rolled.values.consistent) (planned plan stored.bill) rolled.values.bridge (λ n. (own_with given.owns stored.rollups.owns n).weight) (own_mass (entered t edit)) (λ n at. (rolled.values.owns n at).weight) node inside
+      ∙ rolled_agree (with_edit_entered t edit) (right_tables (with_edit_entered t edit) rolled.values.consistent) (graph_after plan stored.bill) rolled.values.bridge (λ n. (own_with given.owns stored.rollups.owns n).weight) (own_mass (with_edit_entered t edit)) (λ n at. (rolled.values.owns n at).weight) node inside
 
   -- the node of a product that is kept before the edit
-  node_after : (product : List ℕ) → is_product t product ≡ true → (node_of stored.bill.labels product < length (planned plan stored.bill).labels) × (label_of (planned plan stored.bill).labels (node_of stored.bill.labels product) ≡ product)
+  node_after : (product : List ℕ) → is_product t product ≡ true → (node_of stored.bill.labels product < length (graph_after plan stored.bill).labels) × (label_of (graph_after plan stored.bill).labels (node_of stored.bill.labels product) ≡ product)
   node_after product there =
       let node = node_of-kept t stored.bill.labels is.of.bill.numbered product (product_kept t s.consistent product there) in
       let longer = planned_labels plan stored.bill in (
@@ -173,19 +173,19 @@ module _ (t : Lists) (edit : Edit) (s : Sound t) (passes : PassesRows t edit) (s
       let weighed : IsWeighed masses product = subst (IsWeighed masses) node.1 (all (node_of stored.bill.labels product) has (ap (is_product t) node.1 ∙ there)) in
       false≢true (sym (ap is_some none) ∙ weighed))
 
-  new_mass : (product : List ℕ) → is_product t product ≡ true → (o : Option ProductMass) → row_of (λ one. one.product) code_cmp product masses ≡ o → mass (entered t edit) product ≡ option_map_or (λ one. one.mass) o (mass t product)
+  new_mass : (product : List ℕ) → is_product t product ≡ true → (o : Option ProductMass) → row_of (λ one. one.product) code_cmp product masses ≡ o → mass (with_edit_entered t edit) product ≡ option_map_or (λ one. one.mass) o (mass t product)
   new_mass product there None e = mass_stays t s.consistent edit passes product (unaffected product there e)
   new_mass product there (Some weighed) e =
       let at = weights product weighed e in
-      sym (at.3 ∙ planned_mass at.0 at.1 ∙ ap (mass (entered t edit)) at.2)
+      sym (at.3 ∙ planned_mass at.0 at.1 ∙ ap (mass (with_edit_entered t edit)) at.2)
 
-  weighed_rows : (rows : List ShipmentRow) → AllByRecursion (λ row. is_product t row.product ≡ true) rows → map (shipment_entry (mass (entered t edit))) rows ≡ with_masses masses (map (shipment_entry (mass t)) rows)
+  weighed_rows : (rows : List ShipmentRow) → AllByRecursion (λ row. is_product t row.product ≡ true) rows → map (shipment_entry (mass (with_edit_entered t edit))) rows ≡ with_masses masses (map (shipment_entry (mass t)) rows)
   weighed_rows [] a = refl
   weighed_rows (row ∷ rows) a =
       let same = new_mass row.product a.0 (row_of (λ one. one.product) code_cmp row.product masses) refl in
       λ i. record { year = row.year; product = row.product; units = row.units; mass = same i } ∷ weighed_rows rows a.1 i
 
-  pub reweighed : changes_shipments edit ≡ false → entries_of (entered t edit) ≡ with_masses masses (entries_of t)
+  pub reweighed : changes_shipments edit ≡ false → entries_of (with_edit_entered t edit) ≡ with_masses masses (entries_of t)
   reweighed none =
-      ap (map (shipment_entry (mass (entered t edit)))) (same_shipments t edit none)
+      ap (map (shipment_entry (mass (with_edit_entered t edit)))) (same_shipments t edit none)
       ∙ weighed_rows t.shipments (each_from_all (λ row. is_product t row.product) t.shipments (names_of t s.consistent.names_kept).shipments)

@@ -5,10 +5,10 @@ use Rattle.desk_text.specs.Code.{code_cmp}
 use Rattle.desk_rows.specs.Rows.{with_row}
 use Rattle.desk_graph.specs.declared.line.BillLine.{BillLine}
 use Rattle.desk_graph.specs.Graph.{Graph, label_of}
-use Rattle.desk_graph.specs.Reaches.{is_or_reaches}
+use Rattle.desk_graph.specs.Reaches.{is_node_or_reaches}
 use Rattle.desk_rollup.specs.Numbers.{Rises, has, hop_numbers, mark_number, load_numbers}
 use Rattle.desk_rollup.specs.declared.hop.Hop.{Hop}
-use Rattle.desk_rollup.specs.Values.{RolledValues, carried_in as node_carried}
+use Rattle.desk_rollup.specs.Values.{RolledValues, carried_by_node as node_carried}
 use Rattle.desk_model.specs.declared.rows.line.LineRow.{LineRow}
 use Rattle.desk_model.specs.declared.rows.product.ProductRow.{ProductRow}
 use Rattle.desk_model.specs.Lists.{Lists}
@@ -49,7 +49,7 @@ user_row labels code user = record { parent = label_of labels user.node; child =
 -- of each node of the bill there is a mark, which tells whether it reaches this one, or is it
 pub record AreMarksOf (g : Graph) (node : ℕ) (marks : List Bool) : Type 0 where
   pub size : length marks ≡ length g.labels
-  pub tells : (other : ℕ) → slice_index_or marks other false ≡ is_or_reaches g.lines other node
+  pub tells : (other : ℕ) → slice_index_or marks other false ≡ is_node_or_reaches g.lines other node
 
 -- of each name there is a sum, which is this of it
 abbrev pub AreSumsOf : (List ℕ → ℕ) → List (List ℕ) → List ℕ → Type 0

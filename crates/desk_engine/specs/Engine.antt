@@ -5,7 +5,7 @@ use Rattle.desk_model.specs.Lists.{Lists}
 use Rattle.desk_model.specs.declared.edit.Edit.{Edit}
 use Rattle.desk_history.specs.Sound.{Sound}
 use Rattle.desk_tables.specs.Desk.{Desk}
-use Rattle.desk_tables.specs.Plan.{IsPlan, planned}
+use Rattle.desk_tables.specs.Plan.{IsPlan, tables_planned}
 use Rattle.desk_engine.specs.declared.plan.Plan.{Plan}
 use Rattle.desk_engine.specs.declared.stored.Stored.{Stored}
 use Rattle.desk_engine.specs.Planned.{LeavesStoredOr, ReplacesAffected}
@@ -30,7 +30,7 @@ pub record IsWhole (engine : Engined) : Type 0 where
 -- stored of these is left, and just what the edit affects is replaced
 pub record IsPlanOf (engine : Engined) (edit : Edit) (plan : Plan) : Type 0 where
   pub tables : IsPlan engine.desk edit plan.tables
-  pub stored : LeavesStoredOr engine.stored (lists_of engine) (planned (lists_of engine) plan.tables) plan.stored
+  pub stored : LeavesStoredOr engine.stored (lists_of engine) (tables_planned (lists_of engine) plan.tables) plan.stored
   pub replaced : ReplacesAffected engine.stored (lists_of engine) edit plan.stored
 
 -- the plan was prepared at this engine as it stands, for an edit in form

@@ -12,7 +12,7 @@ ghost use Rattle.desk_history.specs.Sound.{Sound};
 ghost use Rattle.desk_rollup.specs.Chain.{hop_chain as node_chain};
 ghost use Rattle.desk_rollup.specs.Numbers.{mark_number};
 ghost use Rattle.desk_scratch.specs.LookUps.{IsHeldAbove, finding_of, holder_of};
-ghost use Rattle.desk_scratch.specs.Steps.{line_count};
+ghost use Rattle.desk_scratch.specs.Steps.{chain_line_count};
 ghost use Rattle.desk_bridge.specs.Bridge.{place_of};
 ghost use Rattle.desk_bridge.specs.Numbers.{finding_number};
 ghost use Rattle.desk_engine.specs.Stored.{IsStoredOf};
@@ -43,7 +43,7 @@ pub(crate) fn stored_chain<L: Ledger>(
     requires part { is_part tables.now.lists part.now ≡ true }
     requires found { is_in (finding_of finding.now) (findings tables.now.lists part.now) ≡ true }
     ensures codes { IfOk result (λ codes. codes ≡ chain tables.now.lists part.now (holder_of (finding_of finding.now))) }
-    ensures steps { IfOk result (λ codes. steps.new ≡ steps.old + line_count codes) }
+    ensures steps { IfOk result (λ codes. steps.new ≡ steps.old + chain_line_count codes) }
 {
     // A bill tells what holds of every bill.
     stored.bill.node_count();

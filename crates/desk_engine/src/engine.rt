@@ -8,7 +8,7 @@ ghost use Rattle.desk_scratch.specs.Questions.{is_question_in_range};
 ghost use Rattle.desk_scratch.specs.Steps.{HasStepped};
 ghost use Rattle.desk_scratch.specs.declared.ask_fault.AskFault.TheVariants as ask;
 ghost use Rattle.desk_tables.specs.Judged.{IsRefusal, IsRowsPlan};
-ghost use Rattle.desk_tables.specs.Plan.{plan_number, planned};
+ghost use Rattle.desk_tables.specs.Plan.{plan_number, tables_planned};
 ghost use Rattle.desk_tables.specs.Soundness.{NamesBreach};
 
 use crate::commit::commit_stored;
@@ -106,9 +106,9 @@ impl Engine {
         &self.tables
     }
 
-    /// The plan of an edit that is kept, or that breaks no rule. Nothing changes.
+    /// The plan of an edit that is kept, or that meets no refusal. Nothing changes.
     ///
-    /// `Rule`: the first rule that it breaks. `OutOfMemory`: none was left for the plan.
+    /// `Rule`: the first refusal that it meets. `OutOfMemory`: none was left for the plan.
     pub fn prepare<L: Ledger>(
         &self,
         alloc: Global,
@@ -132,7 +132,7 @@ impl Engine {
     pub fn commit(&mut self, plan: Plan) -> u64
         requires { IsPrepared self.old plan }
         ensures number { result ≡ plan_number plan.tables }
-        ensures lists { lists_of self.new ≡ planned (lists_of self.old) plan.tables }
+        ensures lists { lists_of self.new ≡ tables_planned (lists_of self.old) plan.tables }
     {
         let Plan { tables, stored } = plan;
         let number = self.tables.commit(tables);
@@ -166,7 +166,7 @@ impl Engine {
 
 /// What an edit with this plan for the tables does to what is stored of them: nothing, where it is kept already.
 ///
-/// `Rule`: the first of the rules 20 to 23 that it breaks. `OutOfMemory`: none was left for the plan.
+/// `Rule`: the first of the refusals 20 to 23 that it meets. `OutOfMemory`: none was left for the plan.
 #[tactic(auto, unfolding(desk_tables::specs::Judged::IsRowsPlan))]
 fn plan_beside<L: Ledger>(
     alloc: Global,

@@ -1,6 +1,6 @@
 ghost use Rattle.std.specs.Prelude.{◌≡◌, ◌+◌, ◌++◌, ◌<◌, ℕ, List, Ok, true, IfOk, OnOk, length};
 ghost use Rattle.desk_text.specs.Code.{code_of};
-ghost use Rattle.desk_graph.specs.Bill.{IsBill};
+ghost use Rattle.desk_graph.specs.Bill.{IsBillGraph};
 ghost use Rattle.desk_graph.specs.Graph.{label_of};
 ghost use Rattle.desk_graph.specs.Reaches.{has_node};
 ghost use Rattle.desk_model.specs.Lists.{is_kept, is_product};
@@ -102,7 +102,7 @@ fn weigh_product<'a>(
 ) -> Result<(), OutOfMemory>
     requires stored { IsStoredOf _tables.now.lists stored.now }
     requires grows { (more : List (List ℕ)) × (_bill.now.labels ≡ stored.now.bill.labels ++ more) }
-    requires bill { IsBill _bill.now }
+    requires bill { IsBillGraph _bill.now }
     requires inside { (node : ℕ) → has_node plan.now.nodes node ≡ true → node < length _bill.now.labels }
     requires kept { is_kept _tables.now.lists product.now ≡ true }
     ensures weights { OnOk result (AreWeights _bill.now.labels plan.now masses.old.rows → AreWeights _bill.now.labels plan.now masses.new.rows) }

@@ -1,7 +1,7 @@
 ghost use Rattle.std.specs.Prelude.{◌≡◌, ◌++◌, [], ◌∷◌, IfOk, unwrap_or, if◌then◌else◌};
 ghost use Rattle.std.specs.List.{list_any};
 ghost use Rattle.desk_text.specs.Code.{same_code};
-ghost use Rattle.desk_model.specs.Effect.{entered};
+ghost use Rattle.desk_model.specs.Effect.{with_edit_entered};
 ghost use Rattle.desk_model.specs.Lists.{Lists};
 ghost use Rattle.desk_history.specs.History.{PassesRows};
 ghost use Rattle.desk_history.specs.Sound.{Sound};
@@ -18,7 +18,7 @@ pub(crate) fn names_after(
     edit: &Edit,
 ) -> Result<Option<Codes>, OutOfMemory>
     ensures { (t : Lists) → Sound t → PassesRows t edit.now → AreFewNames t names.now →
-        IfOk result (λ new. GrowTo t (entered t edit.now) names.now (unwrap_or new names.now)) }
+        IfOk result (λ new. GrowTo t (with_edit_entered t edit.now) names.now (unwrap_or new names.now)) }
 {
     match new_candidate(edit) {
         Some(substance) => names_with(alloc, names, &substance),

@@ -4,7 +4,7 @@ ghost use Rattle.desk_graph.specs.Graph.{label_of};
 ghost use Rattle.desk_model.specs.Lists.{is_kept, is_part};
 ghost use Rattle.desk_findings.specs.Mass.{mass};
 ghost use Rattle.desk_history.specs.Sound.{Sound};
-ghost use Rattle.desk_rollup.specs.Values.{carried_in};
+ghost use Rattle.desk_rollup.specs.Values.{carried_by_node};
 ghost use Rattle.desk_bridge.specs.Bridge.{node_of};
 ghost use Rattle.desk_engine.specs.Answers.{AreValuesAt};
 ghost use Rattle.desk_engine.specs.Stored.{IsStoredOf};
@@ -91,7 +91,7 @@ pub(crate) fn stored_mass(tables: &Tables, stored: &Stored, part: &Code) -> u128
 
 /// How much of a substance is among these loads. It takes a pass over them.
 pub(crate) fn amount_in(loads: &[Load], what: u32) -> u128
-    ensures { result ≡ carried_in loads.now what }
+    ensures { result ≡ carried_by_node loads.now what }
 {
     match load_in(loads, what) {
         Some(load) => load.amount,

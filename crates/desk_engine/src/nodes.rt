@@ -1,7 +1,7 @@
 ghost use Rattle.std.specs.Prelude.{◌≡◌, ◌<◌, ℕ, Ok, IfOk, length};
 ghost use Rattle.desk_text.specs.Code.{code_of};
 ghost use Rattle.desk_graph.specs.Graph.{label_of};
-ghost use Rattle.desk_graph.specs.Planned.{IsBillPlan, planned};
+ghost use Rattle.desk_graph.specs.Planned.{IsBillPlan, graph_after};
 ghost use Rattle.desk_engine.specs.Planned.{node_rows_from};
 
 use desk_bridge::NodeRow;
@@ -17,7 +17,7 @@ pub(crate) fn new_nodes(
     plan: &BillPlan,
 ) -> Result<ListOf<NodeRow>, OutOfMemory>
     requires plan { IsBillPlan bill.now plan.now }
-    requires codes { (node : ℕ) → node < length (planned plan.now bill.now).labels → code_of (label_of (planned plan.now bill.now).labels node) ≡ Ok (label_of (planned plan.now bill.now).labels node) }
+    requires codes { (node : ℕ) → node < length (graph_after plan.now bill.now).labels → code_of (label_of (graph_after plan.now bill.now).labels node) ≡ Ok (label_of (graph_after plan.now bill.now).labels node) }
     ensures { IfOk result (λ nodes. nodes ≡ node_rows_from (length bill.now.labels) plan.now.labels) }
 {
     let after = PlannedBill::new(bill, plan);

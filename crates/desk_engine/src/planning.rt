@@ -1,13 +1,13 @@
 ghost use Rattle.std.specs.Prelude.{◌≡◌, ◌+◌, ◌≤◌, ℕ, List, IfOk, IfErr, Some, None, length, unwrap_or, if◌then◌else◌};
-ghost use Rattle.desk_graph.specs.Planned.{IsBillPlan, planned};
-ghost use Rattle.desk_model.specs.Effect.{entered, made};
+ghost use Rattle.desk_graph.specs.Planned.{IsBillPlan, graph_after};
+ghost use Rattle.desk_model.specs.Effect.{with_edit_entered, with_edit_made};
 ghost use Rattle.desk_history.specs.Affected.{affected};
 ghost use Rattle.desk_history.specs.Rising.{changes_shipments};
 ghost use Rattle.desk_history.specs.History.{PassesRows};
 ghost use Rattle.desk_history.specs.Refused.{refused_by_bill, refused_by_rows};
 ghost use Rattle.desk_history.specs.Sound.{Sound};
 ghost use Rattle.desk_history.specs.Step.{kept_number};
-ghost use Rattle.desk_tables.specs.Change.{changed};
+ghost use Rattle.desk_tables.specs.Change.{with_change_made};
 ghost use Rattle.desk_tables.specs.Judged.{IsRefusal};
 ghost use Rattle.desk_bridge.specs.Bridge.{IsBillOf};
 ghost use Rattle.desk_bridge.specs.Years.{entries_of};
@@ -31,9 +31,9 @@ use desk_text::Code;
 use std::alloc::Global;
 use std::sync::ledger::Ledger;
 
-/// What a new edit does to what is stored of the tables, where it breaks none of the rules 1 to 19.
+/// What a new edit does to what is stored of the tables, where it meets none of the refusals 1 to 19.
 ///
-/// `Rule`: the first of the rules 20 to 23 that it breaks. `OutOfMemory`: none was left for the plan.
+/// `Rule`: the first of the refusals 20 to 23 that it meets. `OutOfMemory`: none was left for the plan.
 #[tactic(auto, unfolding(desk_tables::specs::Judged::IsRefusal))]
 pub(crate) fn plan_stored<'a, L: Ledger>(
     alloc: Global,
@@ -45,8 +45,8 @@ pub(crate) fn plan_stored<'a, L: Ledger>(
     requires stored { IsStoredOf new.now.tables.now.lists stored.now }
     requires new { kept_number new.now.tables.now.lists new.now.edit.now ≡ None }
     requires rows { refused_by_rows new.now.tables.now.lists new.now.edit.now ≡ None }
-    requires made { changed new.now.tables.now.lists new.now.change.now ≡ made new.now.tables.now.lists new.now.edit.now }
-    ensures plan { IfOk result (λ plan. LeavesStored stored.now (entered new.now.tables.now.lists new.now.edit.now) plan) }
+    requires made { with_change_made new.now.tables.now.lists new.now.change.now ≡ with_edit_made new.now.tables.now.lists new.now.edit.now }
+    ensures plan { IfOk result (λ plan. LeavesStored stored.now (with_edit_entered new.now.tables.now.lists new.now.edit.now) plan) }
     ensures replaced { IfOk result (λ plan. ReplacesAffected stored.now new.now.tables.now.lists new.now.edit.now (Some plan)) }
     ensures unrefused { IfOk result (λ plan. refused_by_bill new.now.tables.now.lists new.now.edit.now ≡ None) }
     ensures fault { IfErr result (λ fault. IsRefusal new.now.tables.now.lists new.now.edit.now fault) }
@@ -57,7 +57,7 @@ pub(crate) fn plan_stored<'a, L: Ledger>(
     plan_values(alloc, new, stored, bill, names, steps)
 }
 
-/// The same for an edit that passes the rules 1 to 20, with what it does to the bill and to the names of substances.
+/// The same for an edit that passes the refusals 1 to 20, with what it does to the bill and to the names of substances.
 #[tactic(auto, unfolding(desk_tables::specs::Judged::IsRefusal))]
 fn plan_values<'a, L: Ledger>(
     alloc: Global,
@@ -70,11 +70,11 @@ fn plan_values<'a, L: Ledger>(
     requires sound { Sound new.now.tables.now.lists }
     requires stored { IsStoredOf new.now.tables.now.lists stored.now }
     requires passes { PassesRows new.now.tables.now.lists new.now.edit.now }
-    requires made { changed new.now.tables.now.lists new.now.change.now ≡ made new.now.tables.now.lists new.now.edit.now }
+    requires made { with_change_made new.now.tables.now.lists new.now.change.now ≡ with_edit_made new.now.tables.now.lists new.now.edit.now }
     requires plan { IsBillPlan stored.now.bill bill }
-    requires of { IsBillOf (entered new.now.tables.now.lists new.now.edit.now) (planned bill stored.now.bill) }
-    requires names { GrowTo new.now.tables.now.lists (entered new.now.tables.now.lists new.now.edit.now) stored.now.names (unwrap_or names stored.now.names) }
-    ensures plan { IfOk result (λ plan. LeavesStored stored.now (entered new.now.tables.now.lists new.now.edit.now) plan) }
+    requires of { IsBillOf (with_edit_entered new.now.tables.now.lists new.now.edit.now) (graph_after bill stored.now.bill) }
+    requires names { GrowTo new.now.tables.now.lists (with_edit_entered new.now.tables.now.lists new.now.edit.now) stored.now.names (unwrap_or names stored.now.names) }
+    ensures plan { IfOk result (λ plan. LeavesStored stored.now (with_edit_entered new.now.tables.now.lists new.now.edit.now) plan) }
     ensures replaced { IfOk result (λ plan. ReplacesAffected stored.now new.now.tables.now.lists new.now.edit.now (Some plan)) }
     ensures unrefused { IfOk result (λ plan. refused_by_bill new.now.tables.now.lists new.now.edit.now ≡ None) }
     ensures fault { IfErr result (λ fault. IsRefusal new.now.tables.now.lists new.now.edit.now fault) }
@@ -95,9 +95,9 @@ fn plan_values<'a, L: Ledger>(
     })
 }
 
-/// What an edit that passes the rules 1 to 20 does to the roll-ups. `names` are those after it.
+/// What an edit that passes the refusals 1 to 20 does to the roll-ups. `names` are those after it.
 ///
-/// `Rule`: the first of the rules 21 and 22 that it breaks. `OutOfMemory`: none was left for the plan.
+/// `Rule`: the first of the refusals 21 and 22 that it meets. `OutOfMemory`: none was left for the plan.
 #[tactic(auto, unfolding(desk_tables::specs::Judged::IsRefusal))]
 fn plan_rollups<'a, L: Ledger>(
     alloc: Global,
@@ -110,11 +110,11 @@ fn plan_rollups<'a, L: Ledger>(
     requires sound { Sound new.now.tables.now.lists }
     requires stored { IsStoredOf new.now.tables.now.lists stored.now }
     requires passes { PassesRows new.now.tables.now.lists new.now.edit.now }
-    requires made { changed new.now.tables.now.lists new.now.change.now ≡ made new.now.tables.now.lists new.now.edit.now }
+    requires made { with_change_made new.now.tables.now.lists new.now.change.now ≡ with_edit_made new.now.tables.now.lists new.now.edit.now }
     requires plan { IsBillPlan stored.now.bill plan.now }
-    requires of { IsBillOf (entered new.now.tables.now.lists new.now.edit.now) (planned plan.now stored.now.bill) }
-    requires names { GrowTo new.now.tables.now.lists (entered new.now.tables.now.lists new.now.edit.now) stored.now.names names.now }
-    ensures rolled { IfOk result (λ rollups. IsRolledFor new.now.tables.now.lists new.now.edit.now (planned plan.now stored.now.bill) names.now stored.now.rollups rollups) }
+    requires of { IsBillOf (with_edit_entered new.now.tables.now.lists new.now.edit.now) (graph_after plan.now stored.now.bill) }
+    requires names { GrowTo new.now.tables.now.lists (with_edit_entered new.now.tables.now.lists new.now.edit.now) stored.now.names names.now }
+    ensures rolled { IfOk result (λ rollups. IsRolledFor new.now.tables.now.lists new.now.edit.now (graph_after plan.now stored.now.bill) names.now stored.now.rollups rollups) }
     ensures fault { IfErr result (λ fault. IsRefusal new.now.tables.now.lists new.now.edit.now fault) }
     ensures steps { steps.new ≤ steps.old + length (affected new.now.tables.now.lists new.now.edit.now) }
 {
@@ -138,9 +138,9 @@ fn plan_rollups<'a, L: Ledger>(
     }
 }
 
-/// What an edit that passes the rules 1 to 22 does to the years.
+/// What an edit that passes the refusals 1 to 22 does to the years.
 ///
-/// `Rule`: the rule 23, which it breaks. `OutOfMemory`: none was left for the plan.
+/// `Rule`: refusal 23, which it meets. `OutOfMemory`: none was left for the plan.
 #[tactic(auto, unfolding(desk_tables::specs::Judged::IsRefusal))]
 fn judge_years<'a, L: Ledger>(
     alloc: Global,
@@ -154,8 +154,8 @@ fn judge_years<'a, L: Ledger>(
     requires stored { IsStoredOf new.now.tables.now.lists stored.now }
     requires passes { PassesRows new.now.tables.now.lists new.now.edit.now }
     requires plan { IsBillPlan stored.now.bill plan.now }
-    requires rolled { (names : List (List ℕ)) × IsRolledFor new.now.tables.now.lists new.now.edit.now (planned plan.now stored.now.bill) names stored.now.rollups rollups.now }
-    ensures years { IfOk result (λ years. LeavesEntries stored.now.years (entries_of (entered new.now.tables.now.lists new.now.edit.now)) years) }
+    requires rolled { (names : List (List ℕ)) × IsRolledFor new.now.tables.now.lists new.now.edit.now (graph_after plan.now stored.now.bill) names stored.now.rollups rollups.now }
+    ensures years { IfOk result (λ years. LeavesEntries stored.now.years (entries_of (with_edit_entered new.now.tables.now.lists new.now.edit.now)) years) }
     ensures unrefused { IfOk result (λ years. refused_by_bill new.now.tables.now.lists new.now.edit.now ≡ None) }
     ensures fault { IfErr result (λ fault. IsRefusal new.now.tables.now.lists new.now.edit.now fault) }
     ensures steps { steps.new ≤ steps.old + (if changes_shipments new.now.edit.now then 1 else 0) }

@@ -1,6 +1,6 @@
 ghost use Rattle.std.specs.Prelude.{◌≡◌, ◌+◌, ◌≤◌, ℕ, List, IfErr, IfOk, if◌then◌else◌};
-ghost use Rattle.desk_graph.specs.Planned.{IsBillPlan, planned};
-ghost use Rattle.desk_model.specs.Effect.{entered};
+ghost use Rattle.desk_graph.specs.Planned.{IsBillPlan, graph_after};
+ghost use Rattle.desk_model.specs.Effect.{with_edit_entered};
 ghost use Rattle.desk_history.specs.Rising.{changes_shipments};
 ghost use Rattle.desk_history.specs.History.{PassesRows};
 ghost use Rattle.desk_history.specs.Sound.{Sound};
@@ -75,7 +75,7 @@ pub(crate) fn shipping_of(edit: &Edit) -> Shipping
     }
 }
 
-/// What an edit that passes the rules 1 to 22 makes of the years. `plan` is what it makes of the bill, and `rollups` what of the roll-ups.
+/// What an edit that passes the refusals 1 to 22 makes of the years. `plan` is what it makes of the bill, and `rollups` what of the roll-ups.
 pub(crate) fn plan_years<'a, L: Ledger>(
     alloc: Global,
     new: &NewEdit<'a>,
@@ -88,9 +88,9 @@ pub(crate) fn plan_years<'a, L: Ledger>(
     requires stored { IsStoredOf new.now.tables.now.lists stored.now }
     requires passes { PassesRows new.now.tables.now.lists new.now.edit.now }
     requires plan { IsBillPlan stored.now.bill plan.now }
-    requires rolled { (names : List (List ℕ)) × IsRolledFor new.now.tables.now.lists new.now.edit.now (planned plan.now stored.now.bill) names stored.now.rollups rollups.now }
-    ensures plan { IfOk result (λ years. LeavesEntries stored.now.years (entries_of (entered new.now.tables.now.lists new.now.edit.now)) years) }
-    ensures fault { IfErr result (λ fault. IsYearsFault (entries_of (entered new.now.tables.now.lists new.now.edit.now)) fault) }
+    requires rolled { (names : List (List ℕ)) × IsRolledFor new.now.tables.now.lists new.now.edit.now (graph_after plan.now stored.now.bill) names stored.now.rollups rollups.now }
+    ensures plan { IfOk result (λ years. LeavesEntries stored.now.years (entries_of (with_edit_entered new.now.tables.now.lists new.now.edit.now)) years) }
+    ensures fault { IfErr result (λ fault. IsYearsFault (entries_of (with_edit_entered new.now.tables.now.lists new.now.edit.now)) fault) }
     ensures steps { steps.new ≤ steps.old + (if changes_shipments new.now.edit.now then 1 else 0) }
 {
     match shipping_of(new.edit) {

@@ -1,7 +1,7 @@
 //! Where a material or a part is used.
 ghost use Rattle.std.specs.Prelude.{◌≡◌, ◌<◌, ◌++◌, ◌∷◌, [], true, if◌then◌else◌, length, map, slice_index_or, false, ℕ, IfOk, OnOk};
 ghost use Rattle.std.specs.List.{AllByRecursion};
-ghost use Rattle.desk_graph.specs.Bill.{IsBill};
+ghost use Rattle.desk_graph.specs.Bill.{IsBillGraph};
 ghost use Rattle.desk_graph.specs.Graph.{AreUsers, IsByLabel, label_of};
 ghost use Rattle.desk_graph.specs.Reaches.{AreAffected, has_node};
 ghost use Rattle.desk_model.specs.Lists.{is_kept, product_row};
@@ -192,7 +192,7 @@ fn push_if_holds(
 fn does_hold(tables: &Tables, stored: &Stored, marks: &[bool], part: &Code, _code: &Code) -> bool
     requires sound { Sound tables.now.lists }
     requires stored { IsStoredOf tables.now.lists stored.now }
-    requires bill { IsBill stored.now.bill }
+    requires bill { IsBillGraph stored.now.bill }
     requires part { is_kept tables.now.lists part.now ≡ true }
     requires code { is_kept tables.now.lists _code.now ≡ true }
     requires marks { AreMarksOf stored.now.bill (node_of stored.now.bill.labels _code.now) marks.now }

@@ -1,7 +1,7 @@
 //! What an edit makes of the years, over these alone.
 ghost use Rattle.std.specs.Prelude.{◌≡◌, ◌+◌, ◌≤◌, IfErr, IfOk};
-ghost use Rattle.desk_tonnage.specs.Edits.{HasMass, with_units, without_units};
-ghost use Rattle.desk_tonnage.specs.Entries.{units_of};
+ghost use Rattle.desk_tonnage.specs.Edits.{HasMass, with_entry_units, without_entry_units};
+ghost use Rattle.desk_tonnage.specs.Entries.{entry_units};
 ghost use Rattle.desk_tonnage.specs.Masses.{AreByProduct, with_masses};
 ghost use Rattle.desk_engine.specs.Years.{CanChange, IsYearsFault, LeavesEntries, years_after};
 
@@ -70,9 +70,9 @@ pub(crate) fn plan_adding(
 ) -> Result<YearsPlan, YearsFault>
     requires some { 1 ≤ units }
     requires mass { HasMass year product.now mass years.now.entries }
-    requires fits { units_of year product.now years.now.entries + units ≤ 1000000000000 }
-    ensures plan { IfOk result (λ plan. LeavesEntries years.now (with_units year product.now units mass years.now.entries) plan) }
-    ensures fault { IfErr result (λ fault. IsYearsFault (with_units year product.now units mass years.now.entries) fault) }
+    requires fits { entry_units year product.now years.now.entries + units ≤ 1000000000000 }
+    ensures plan { IfOk result (λ plan. LeavesEntries years.now (with_entry_units year product.now units mass years.now.entries) plan) }
+    ensures fault { IfErr result (λ fault. IsYearsFault (with_entry_units year product.now units mass years.now.entries) fault) }
 {
     // The call tells what all years keep.
     years.as_slice();
@@ -86,8 +86,8 @@ pub(crate) fn plan_adding(
 
 /// Makes ready to take units of a product off. It takes no memory.
 pub(crate) fn plan_taking(years: &Yearly, year: u16, product: Code, units: u64) -> YearsPlan
-    requires { units ≤ units_of year product years.now.entries }
-    ensures { LeavesEntries years.now (without_units year product units years.now.entries) result }
+    requires { units ≤ entry_units year product years.now.entries }
+    ensures { LeavesEntries years.now (without_entry_units year product units years.now.entries) result }
 {
     // The call tells what all years keep.
     years.as_slice();

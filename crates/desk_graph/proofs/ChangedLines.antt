@@ -4,12 +4,12 @@ use Rattle.std.proofs.lemmas.Bool.{cases_eq, eqb-true, false_from_ne_true, ne_eq
 use Rattle.std.proofs.lemmas.List.{append_assoc, append-nil, length-set, length_push}
 use Rattle.desk_graph.specs.declared.line.BillLine.{BillLine}
 use Rattle.desk_graph.specs.declared.bill_plan.LineChange.{LineChange}
-use Rattle.desk_graph.specs.Graph.{AreUsers, Graph, IsByLabel, count_at, has_line, is_line, line_count, lines_of}
-use Rattle.desk_graph.specs.Edits.{is_taken, with_line, with_node, without_line}
+use Rattle.desk_graph.specs.Graph.{AreUsers, Graph, IsByLabel, count_at, has_line, is_line_between, line_count, lines_of_node}
+use Rattle.desk_graph.specs.Edits.{is_taken, with_line_of_node, with_node, without_line_of_node}
 use Rattle.desk_graph.specs.Order.{AreBothEnds, HasMadeWay, IsInOrder}
 use Rattle.desk_graph.specs.Plan.{IsLinePlan, Planned}
-use Rattle.desk_graph.specs.Planned.{AreFree, BillEdit, HasMadeWayFor, IsBillPlan, IsChange, IsChangeOf, changed_lines, changed_users, planned, with_empty, with_next, with_nodes}
-use Rattle.desk_graph.specs.Reaches.{Falls, enough, is_or_reaches, reaches}
+use Rattle.desk_graph.specs.Planned.{AreFree, BillEdit, HasMadeWayFor, IsBillPlan, IsChange, IsChangeOf, changed_lines, changed_users, graph_after, with_empty, with_next, with_nodes}
+use Rattle.desk_graph.specs.Reaches.{Falls, longest_node_chain, is_node_or_reaches, node_reaches}
 use Rattle.desk_graph.proofs.Ends.{has-count, lines_of-more, lines_of-other, lines_of-same, with-other, without-other}
 use Rattle.desk_graph.proofs.Kept.{bill_falls, child_there, count-set, ends-more, length-without, users-without}
 use Rattle.desk_graph.proofs.Labels.{by_label-without}
@@ -20,25 +20,25 @@ module _ (labels : List (List ℕ)) (lines users : List (List BillLine)) (ends :
   abbrev new_lines : List (List BillLine)
   new_lines = set lines change.parent change.lines
 
-  at_parent : lines_of new_lines change.parent ≡ change.lines
+  at_parent : lines_of_node new_lines change.parent ≡ change.lines
   at_parent = lines_of-same lines change.parent change.lines (omega (arith, good.parent_there, ends.lines_size))
 
-  at_other : (node : ℕ) → (node ≡ change.parent → ⊥) → lines_of new_lines node ≡ lines_of lines node
+  at_other : (node : ℕ) → (node ≡ change.parent → ⊥) → lines_of_node new_lines node ≡ lines_of_node lines node
   at_other node other = lines_of-other lines change.parent node change.lines other
 
-  by_label-changed : (node : ℕ) → IsByLabel labels (lines_of new_lines node)
+  by_label-changed : (node : ℕ) → IsByLabel labels (lines_of_node new_lines node)
   by_label-changed node =
       elim (cases_eq node change.parent) [
-        | inl same ↦ subst (λ n. IsByLabel labels (lines_of new_lines n)) (sym same) (subst (IsByLabel labels) (sym at_parent) good.by_label)
+        | inl same ↦ subst (λ n. IsByLabel labels (lines_of_node new_lines n)) (sym same) (subst (IsByLabel labels) (sym at_parent) good.by_label)
         | inr other ↦ subst (IsByLabel labels) (sym (at_other node other)) (ends.by_label node)
       ]
 
-  other_users : (node : ℕ) → (node ≡ change.child → ⊥) → AreUsers new_lines node (lines_of users node)
+  other_users : (node : ℕ) → (node ≡ change.child → ⊥) → AreUsers new_lines node (lines_of_node users node)
   other_users node other user =
       ends.agree node user
       ∙ elim (cases_eq user change.parent) [
         | inl same ↦
-            subst (λ n. count_at (lines_of lines n) node ≡ count_at (lines_of new_lines n) node) (sym same)
+            subst (λ n. count_at (lines_of_node lines n) node ≡ count_at (lines_of_node new_lines n) node) (sym same)
             (sym (ap (λ l. count_at l node) at_parent ∙ good.only node other))
         | inr away ↦ sym (ap (λ l. count_at l node) (at_other user away))
       ]
@@ -51,13 +51,13 @@ module _ (labels : List (List ℕ)) (lines users : List (List BillLine)) (ends :
         users_size = length-set users change.child change.users ∙ ends.users_size;
         agree = λ node.
             elim (cases_eq node change.child) [
-              | inl same ↦ subst (λ n. AreUsers new_lines n (lines_of (set users change.child change.users) n)) (sym same) (subst (AreUsers new_lines change.child) (sym same_list) good.users)
+              | inl same ↦ subst (λ n. AreUsers new_lines n (lines_of_node (set users change.child change.users) n)) (sym same) (subst (AreUsers new_lines change.child) (sym same_list) good.users)
               | inr other ↦ subst (AreUsers new_lines node) (sym (lines_of-other users change.child node change.users other)) (other_users node other)
             ];
         by_label = by_label-changed;
         by_user = λ node.
             elim (cases_eq node change.child) [
-              | inl same ↦ subst (λ n. IsByLabel labels (lines_of (set users change.child change.users) n)) (sym same) (subst (IsByLabel labels) (sym same_list) good.by_user)
+              | inl same ↦ subst (λ n. IsByLabel labels (lines_of_node (set users change.child change.users) n)) (sym same) (subst (IsByLabel labels) (sym same_list) good.by_user)
               | inr other ↦ subst (IsByLabel labels) (sym (lines_of-other users change.child node change.users other)) (ends.by_user node)
             ];
       }
@@ -71,9 +71,9 @@ module _ (labels : List (List ℕ)) (lines users : List (List BillLine)) (ends :
             elim (cases_eq y change.child) [
               | inl child ↦ inr (sym same, sym child)
               | inr other ↦
-                  let at : has_line change.lines y ≡ true = subst (λ l. has_line l y ≡ true) at_parent (subst (λ n. has_line (lines_of new_lines n) y ≡ true) same e) in
-                  let old : has_line (lines_of lines change.parent) y ≡ true = has-count (lines_of lines change.parent) y ∙ ap (λ c. is_some c) (sym (good.only y other)) ∙ sym (has-count change.lines y) ∙ at in
-                  inl (subst (λ n. is_line lines n y ≡ true) (sym same) old)
+                  let at : has_line change.lines y ≡ true = subst (λ l. has_line l y ≡ true) at_parent (subst (λ n. has_line (lines_of_node new_lines n) y ≡ true) same e) in
+                  let old : has_line (lines_of_node lines change.parent) y ≡ true = has-count (lines_of_node lines change.parent) y ∙ ap (λ c. is_some c) (sym (good.only y other)) ∙ sym (has-count change.lines y) ∙ at in
+                  inl (subst (λ n. is_line_between lines n y ≡ true) (sym same) old)
             ]
         | inr other ↦ inl (subst (λ l. has_line l y ≡ true) (at_other x other) e)
       ]
@@ -109,7 +109,7 @@ with_nodes-is [] g = refl
 with_nodes-is (label ∷ new) g = with_nodes-is new (with_node label g)
 
 -- new nodes have no lines
-pub lines_of-empty : (more : ℕ) (lines : List (List BillLine)) (node : ℕ) → lines_of (with_empty more lines) node ≡ lines_of lines node
+pub lines_of-empty : (more : ℕ) (lines : List (List BillLine)) (node : ℕ) → lines_of_node (with_empty more lines) node ≡ lines_of_node lines node
 lines_of-empty zero lines node = refl
 lines_of-empty (suc more) lines node = lines_of-empty more (lines ++ [] ∷ []) node ∙ lines_of-more lines node
 
@@ -122,16 +122,16 @@ length-labels [] labels = omega arith
 length-labels (label ∷ new) labels = omega (arith, length-labels new (labels ++ label ∷ []), length_push labels label)
 
 -- a plan of a line is a change of it
-pub planned_change : (labels : List (List ℕ)) (lines users : List (List BillLine)) (plan : Planned) → IsLinePlan (record { labels = labels; lines = lines }) plan → ((node : ℕ) → IsByLabel labels (lines_of (set lines plan.parent (with_line labels (record { node = plan.child; count = plan.count }) (lines_of lines plan.parent))) node)) → plan.parent < length lines → IsChange (record { labels = labels; lines = lines }) (record { parent = plan.parent; child = plan.child; lines = plan.lines; users = plan.users })
+pub planned_change : (labels : List (List ℕ)) (lines users : List (List BillLine)) (plan : Planned) → IsLinePlan (record { labels = labels; lines = lines }) plan → ((node : ℕ) → IsByLabel labels (lines_of_node (set lines plan.parent (with_line_of_node labels (record { node = plan.child; count = plan.count }) (lines_of_node lines plan.parent))) node)) → plan.parent < length lines → IsChange (record { labels = labels; lines = lines }) (record { parent = plan.parent; child = plan.child; lines = plan.lines; users = plan.users })
 planned_change labels lines users plan good by_label low =
     let new : BillLine = record { node = plan.child; count = plan.count } in
-    let with_it = with_line labels new (lines_of lines plan.parent) in
+    let with_it = with_line_of_node labels new (lines_of_node lines plan.parent) in
     record {
       parent_there = good.parent_there;
       child_there = good.child_there;
       opens = good.opens;
       fits = subst (λ l. line_count (set lines plan.parent l) ≤ 131072) (sym good.new_lines) good.fits;
-      only = λ node other. ap (λ l. count_at l node) good.new_lines ∙ with-other new labels node (ne_eqb plan.child node (λ e. other (sym e))) (lines_of lines plan.parent);
+      only = λ node other. ap (λ l. count_at l node) good.new_lines ∙ with-other new labels node (ne_eqb plan.child node (λ e. other (sym e))) (lines_of_node lines plan.parent);
       users = subst (λ l. AreUsers (set lines plan.parent l) plan.child plan.users) (sym good.new_lines) good.new_users;
       by_label = subst (IsByLabel labels) (lines_of-same lines plan.parent with_it low ∙ sym good.new_lines) (by_label plan.parent);
       by_user = good.by_user;
@@ -155,55 +155,55 @@ changed-kept labels lines users order new (Some change) ends ordered good way = 
 }
 
 -- the lines of a node after a plan
-pub planned_lines_of : (edit : BillEdit) (g : Graph) (node : ℕ) → lines_of (planned edit g).lines node ≡ lines_of (changed_lines edit.line g.lines) node
+pub planned_lines_of : (edit : BillEdit) (g : Graph) (node : ℕ) → lines_of_node (graph_after edit g).lines node ≡ lines_of_node (changed_lines edit.line g.lines) node
 planned_lines_of edit g node =
-    ap (λ h. lines_of h.lines node) (with_nodes-is edit.labels (record { labels = g.labels; lines = changed_lines edit.line g.lines }))
+    ap (λ h. lines_of_node h.lines node) (with_nodes-is edit.labels (record { labels = g.labels; lines = changed_lines edit.line g.lines }))
     ∙ lines_of-empty (length edit.labels) (changed_lines edit.line g.lines) node
 
 -- they stand in the order of their labels
-pub planned_by_label : (edit : BillEdit) (labels : List (List ℕ)) (lines users : List (List BillLine)) → AreBothEnds labels lines users → IsBillPlan (record { labels = labels; lines = lines }) edit → (node : ℕ) → IsByLabel (planned edit (record { labels = labels; lines = lines })).labels (lines_of (planned edit (record { labels = labels; lines = lines })).lines node)
+pub planned_by_label : (edit : BillEdit) (labels : List (List ℕ)) (lines users : List (List BillLine)) → AreBothEnds labels lines users → IsBillPlan (record { labels = labels; lines = lines }) edit → (node : ℕ) → IsByLabel (graph_after edit (record { labels = labels; lines = lines })).labels (lines_of_node (graph_after edit (record { labels = labels; lines = lines })).lines node)
 planned_by_label edit labels lines users ends good node =
     let after = more-ends edit.labels labels (changed_lines edit.line lines) (changed_users edit.line users) (changed-ends labels lines users edit.line ends good.line) in
-    subst (λ h. IsByLabel h.labels (lines_of h.lines node)) (sym (with_nodes-is edit.labels (record { labels = labels; lines = changed_lines edit.line lines }))) (after.by_label node)
+    subst (λ h. IsByLabel h.labels (lines_of_node h.lines node)) (sym (with_nodes-is edit.labels (record { labels = labels; lines = changed_lines edit.line lines }))) (after.by_label node)
 
 -- a child doesn't reach its parent
-pub line_opens : (lines : List (List BillLine)) (rank : ℕ → ℕ) → Falls lines rank → (parent child : ℕ) → is_line lines parent child ≡ true → is_or_reaches lines child parent ≡ false
+pub line_opens : (lines : List (List BillLine)) (rank : ℕ → ℕ) → Falls lines rank → (parent child : ℕ) → is_line_between lines parent child ≡ true → is_node_or_reaches lines child parent ≡ false
 line_opens lines rank ranked parent child line =
-    false_from_ne_true (is_or_reaches lines child parent) (λ e.
+    false_from_ne_true (is_node_or_reaches lines child parent) (λ e.
     let lower = ranked.falls parent child line in
-    elim (or_cases (child == parent) (reaches lines child parent) e) [
+    elim (or_cases (child == parent) (node_reaches lines child parent) e) [
       | inl same ↦ absurd (omega (arith, ap rank (eqb-true child parent same), lower))
-      | inr reached ↦ absurd (omega (arith, lower_within lines rank ranked parent (enough lines) child reached, lower))
+      | inr reached ↦ absurd (omega (arith, lower_within lines rank ranked parent (longest_node_chain lines) child reached, lower))
     ])
 
 -- a line that is dropped is a change
-pub dropped_change : (labels : List (List ℕ)) (lines users : List (List BillLine)) (rank : ℕ → ℕ) (parent child : ℕ) → AreBothEnds labels lines users → Falls lines rank → line_count lines ≤ 131072 → parent < length labels → child < length labels → is_line lines parent child ≡ true →
-    IsChange (record { labels = labels; lines = lines }) (record { parent = parent; child = child; lines = without_line child (lines_of lines parent); users = without_line parent (lines_of users child) })
+pub dropped_change : (labels : List (List ℕ)) (lines users : List (List BillLine)) (rank : ℕ → ℕ) (parent child : ℕ) → AreBothEnds labels lines users → Falls lines rank → line_count lines ≤ 131072 → parent < length labels → child < length labels → is_line_between lines parent child ≡ true →
+    IsChange (record { labels = labels; lines = lines }) (record { parent = parent; child = child; lines = without_line_of_node child (lines_of_node lines parent); users = without_line_of_node parent (lines_of_node users child) })
 dropped_change labels lines users rank parent child ends ranked fit low there line = record {
   parent_there = low;
   child_there = there;
   opens = line_opens lines rank ranked parent child line;
-  fits = omega (arith, count-set lines parent (without_line child (lines_of lines parent)) (omega (arith, low, ends.lines_size)), length-without child (lines_of lines parent), fit);
-  only = λ node other. without-other child node (ne_eqb child node (λ e. other (sym e))) (lines_of lines parent);
+  fits = omega (arith, count-set lines parent (without_line_of_node child (lines_of_node lines parent)) (omega (arith, low, ends.lines_size)), length-without child (lines_of_node lines parent), fit);
+  only = λ node other. without-other child node (ne_eqb child node (λ e. other (sym e))) (lines_of_node lines parent);
   users = users-without labels lines users ends parent child low there;
-  by_label = by_label-without labels child (lines_of lines parent) (ends.by_label parent);
-  by_user = by_label-without labels parent (lines_of users child) (ends.by_user child);
+  by_label = by_label-without labels child (lines_of_node lines parent) (ends.by_label parent);
+  by_user = by_label-without labels parent (lines_of_node users child) (ends.by_user child);
 }
 
 -- a line that isn't there changes nothing where it is dropped
-none_dropped : (child : ℕ) (of_node : List BillLine) → has_line of_node child ≡ false → without_line child of_node ≡ of_node
+none_dropped : (child : ℕ) (of_node : List BillLine) → has_line of_node child ≡ false → without_line_of_node child of_node ≡ of_node
 none_dropped child [] e = refl
 none_dropped child (line ∷ of_node) e =
     let parts = or_parts (line.node == child) (has_line of_node child) e in
     rw parts.0 (ap (λ rest. line ∷ rest) (none_dropped child of_node parts.1))
 
-set_same : (lines : List (List BillLine)) (node : ℕ) → set lines node (lines_of lines node) ≡ lines
+set_same : (lines : List (List BillLine)) (node : ℕ) → set lines node (lines_of_node lines node) ≡ lines
 set_same [] node = refl
 set_same (first ∷ lines) zero = refl
 set_same (first ∷ lines) (suc node) = ap (λ rest. first ∷ rest) (set_same lines node)
 
-pub nothing_dropped : (lines : List (List BillLine)) (parent child : ℕ) → is_line lines parent child ≡ false → lines ≡ set lines parent (without_line child (lines_of lines parent))
-nothing_dropped lines parent child e = sym (ap (λ l. set lines parent l) (none_dropped child (lines_of lines parent) e) ∙ set_same lines parent)
+pub nothing_dropped : (lines : List (List BillLine)) (parent child : ℕ) → is_line_between lines parent child ≡ false → lines ≡ set lines parent (without_line_of_node child (lines_of_node lines parent))
+nothing_dropped lines parent child e = sym (ap (λ l. set lines parent l) (none_dropped child (lines_of_node lines parent) e) ∙ set_same lines parent)
 
 -- the labels with new ones are the old ones and then the new ones
 pub with_labels-is : (new labels : List (List ℕ)) → with_labels new labels ≡ labels ++ new

@@ -8,7 +8,7 @@ use Rattle.std.proofs.lemmas.Cmp.{nat_list_cmp_total}
 use Rattle.std.proofs.lemmas.List.{get_or_append_left}
 use Rattle.desk_graph.specs.declared.line.BillLine.{BillLine}
 use Rattle.desk_graph.specs.Graph.{IsByLabel, has_line, label_cmp, label_of}
-use Rattle.desk_graph.specs.Edits.{entered, with_line, without_line}
+use Rattle.desk_graph.specs.Edits.{inserted_by_label, with_line_of_node, without_line_of_node}
 use Rattle.desk_graph.proofs.Ends.{entered_no, entered_yes, goes_here, replaced, replaced_node, with_no, with_yes}
 
 total : IsTotalOrder label_cmp
@@ -37,7 +37,7 @@ less_back labels node other e apart =
     total.antisymm (label_of labels other) (label_of labels node) ∙ ap ordering_reverse (greater (label_cmp (label_of labels node) (label_of labels other)) e apart)
 
 module _ (labels : List (List ℕ)) where
-  above-filter : (node away : ℕ) (lines : List BillLine) → AllAbove labels node lines → AllAbove labels node (without_line away lines)
+  above-filter : (node away : ℕ) (lines : List BillLine) → AllAbove labels node lines → AllAbove labels node (without_line_of_node away lines)
   above-filter node away [] a = tt
   above-filter node away (line ∷ lines) a =
       elim (cases_Bool (line.node == away)) [
@@ -46,7 +46,7 @@ module _ (labels : List (List ℕ)) where
       ]
 
   -- a line less
-  pub by_label-without : (away : ℕ) (lines : List BillLine) → IsByLabel labels lines → IsByLabel labels (without_line away lines)
+  pub by_label-without : (away : ℕ) (lines : List BillLine) → IsByLabel labels lines → IsByLabel labels (without_line_of_node away lines)
   by_label-without away [] h = tt
   by_label-without away (line ∷ lines) h =
       elim (cases_Bool (line.node == away)) [
@@ -69,7 +69,7 @@ module _ (labels : List (List ℕ)) where
       by_label-replaced lines h.1,
     )
 
-    above-entered : (node : ℕ) (lines : List BillLine) → label_cmp (label_of labels node) (label_of labels new.node) ≡ Less → AllAbove labels node lines → AllAbove labels node (entered labels new lines)
+    above-entered : (node : ℕ) (lines : List BillLine) → label_cmp (label_of labels node) (label_of labels new.node) ≡ Less → AllAbove labels node lines → AllAbove labels node (inserted_by_label labels new lines)
     above-entered node [] e a = (e, tt)
     above-entered node (line ∷ lines) e a =
         elim (cases_Bool (goes_here new labels line)) [
@@ -77,7 +77,7 @@ module _ (labels : List (List ℕ)) where
           | inr fails ↦ subst (AllAbove labels node) (sym (entered_no new labels line lines fails)) (a.0, above-entered node lines e a.1)
         ]
 
-    by_label-entered : (lines : List BillLine) → IsByLabel labels lines → ((node : ℕ) → has_line lines node ≡ true → label_cmp (label_of labels new.node) (label_of labels node) ≡ Equal → ⊥) → IsByLabel labels (entered labels new lines)
+    by_label-entered : (lines : List BillLine) → IsByLabel labels lines → ((node : ℕ) → has_line lines node ≡ true → label_cmp (label_of labels new.node) (label_of labels node) ≡ Equal → ⊥) → IsByLabel labels (inserted_by_label labels new lines)
     by_label-entered [] h apart = (tt, tt)
     by_label-entered (line ∷ lines) h apart =
         elim (cases_Bool (goes_here new labels line)) [
@@ -91,7 +91,7 @@ module _ (labels : List (List ℕ)) where
         ]
 
     -- a new line, where no other node has its label
-    pub by_label-with : (lines : List BillLine) → IsByLabel labels lines → ((node : ℕ) → has_line lines node ≡ true → label_cmp (label_of labels new.node) (label_of labels node) ≡ Equal → new.node ≡ node) → IsByLabel labels (with_line labels new lines)
+    pub by_label-with : (lines : List BillLine) → IsByLabel labels lines → ((node : ℕ) → has_line lines node ≡ true → label_cmp (label_of labels new.node) (label_of labels node) ≡ Equal → new.node ≡ node) → IsByLabel labels (with_line_of_node labels new lines)
     by_label-with lines h unique =
         elim (cases_Bool (has_line lines new.node)) [
           | inl holds ↦ subst (IsByLabel labels) (sym (with_yes new labels lines holds)) (by_label-replaced lines h)

@@ -6,7 +6,7 @@ use Rattle.std.proofs.lemmas.List.Sums.{count_by-le-length, count_by_more_yes, s
 use Rattle.std.proofs.lemmas.List.Elements.{filter_more}
 use Rattle.std.proofs.lemmas.List.Folds.{list_any_at, list_any_more}
 use Rattle.desk_graph.specs.declared.line.BillLine.{BillLine}
-use Rattle.desk_graph.specs.Graph.{has_line, lines_of}
+use Rattle.desk_graph.specs.Graph.{has_line, lines_of_node}
 use Rattle.desk_graph.specs.Order.{AreMarkedUp, AreUnmarked, AreUnmarkedFrom, HasNoneTwice, HasOnce, HoldsBelow, IsSwept, MarksAtMost, has_mark, mark_of}
 use Rattle.desk_graph.specs.Reaches.{has_node}
 
@@ -51,12 +51,12 @@ marked_below marks node e =
     elim (cases_lt node (length marks)) [ inl below ↦ below | inr above ↦ absurd (false≢true (sym (get_or_past marks node false above) ∙ e)) ]
 
 -- at the end of a sweep each marked node was met
-pub closed_at_end : (users : List (List BillLine)) (order : List ℕ) (marks : List Bool) → length marks ≡ length users → IsSwept users order → ((place user : ℕ) → place < length order → mark_of marks (slice_index order place) ≡ true → has_line (lines_of users (slice_index order place)) user ≡ true → mark_of marks user ≡ true) → (node user : ℕ) → mark_of marks node ≡ true → has_line (lines_of users node) user ≡ true → mark_of marks user ≡ true
+pub closed_at_end : (users : List (List BillLine)) (order : List ℕ) (marks : List Bool) → length marks ≡ length users → IsSwept users order → ((place user : ℕ) → place < length order → mark_of marks (slice_index order place) ≡ true → has_line (lines_of_node users (slice_index order place)) user ≡ true → mark_of marks user ≡ true) → (node user : ℕ) → mark_of marks node ≡ true → has_line (lines_of_node users node) user ≡ true → mark_of marks user ≡ true
 closed_at_end users order marks size swept met node user marked used =
     let below = marked_below marks node marked in
     let found = swept.covers node (omega arith) in
     let same : slice_index order found.0 ≡ node = get_or_default order found.0 0 node found.1 ∙ found.2 in
-    met found.0 user found.1 (subst (λ n. mark_of marks n ≡ true) (sym same) marked) (subst (λ n. has_line (lines_of users n) user ≡ true) (sym same) used)
+    met found.0 user found.1 (subst (λ n. mark_of marks n ≡ true) (sym same) marked) (subst (λ n. has_line (lines_of_node users n) user ≡ true) (sym same) used)
 
 -- a node of a list is in it
 pub has_node-at : (nodes : List ℕ) (i d : ℕ) → i < length nodes → has_node nodes (get_or nodes i d) ≡ true
@@ -81,7 +81,7 @@ mark_of-none n node =
 pub marked_up : (users : List (List BillLine)) (seeds : List ℕ) (clear seeded marks : List Bool) → clear ≡ replicate (length users) false → length marks ≡ length users →
     ((node : ℕ) → mark_of seeded node ≡ (mark_of clear node || has_node seeds node)) →
     ((node : ℕ) → mark_of seeded node ≡ true → mark_of marks node ≡ true) →
-    ((node user : ℕ) → mark_of marks node ≡ true → has_line (lines_of users node) user ≡ true → mark_of marks user ≡ true) →
+    ((node user : ℕ) → mark_of marks node ≡ true → has_line (lines_of_node users node) user ≡ true → mark_of marks user ≡ true) →
     ((holds : ℕ → Bool) → HoldsBelow holds seeded users → (node : ℕ) → mark_of marks node ≡ true → holds node ≡ true) →
     AreMarkedUp users seeds marks
 marked_up users seeds clear seeded marks cleared size is kept closed least =
@@ -214,19 +214,19 @@ and_false false b e = refl
 
 -- what one step of a sweep leaves: the users of the node at this place are marked where it is
 module _ (users : List (List BillLine)) (order : List ℕ) (marks after : List Bool) (place : ℕ) (swept : IsSwept users order) (h : place < length order)
-    (is : (other : ℕ) → mark_of after other ≡ (mark_of marks other || (mark_of marks (slice_index order place) && has_line (lines_of users (slice_index order place)) other))) where
+    (is : (other : ℕ) → mark_of after other ≡ (mark_of marks other || (mark_of marks (slice_index order place) && has_line (lines_of_node users (slice_index order place)) other))) where
   pub step-kept : (other : ℕ) → mark_of marks other ≡ true → mark_of after other ≡ true
-  step-kept other e = is other ∙ ap (λ b. b || (mark_of marks (slice_index order place) && has_line (lines_of users (slice_index order place)) other)) e
+  step-kept other e = is other ∙ ap (λ b. b || (mark_of marks (slice_index order place) && has_line (lines_of_node users (slice_index order place)) other)) e
 
-  step-front : (i : ℕ) → i ≤ place → (mark_of marks (slice_index order place) && has_line (lines_of users (slice_index order place)) (slice_index order i)) ≡ false
-  step-front i le = and_false (mark_of marks (slice_index order place)) (has_line (lines_of users (slice_index order place)) (slice_index order i)) (swept.behind i place le h)
+  step-front : (i : ℕ) → i ≤ place → (mark_of marks (slice_index order place) && has_line (lines_of_node users (slice_index order place)) (slice_index order i)) ≡ false
+  step-front i le = and_false (mark_of marks (slice_index order place)) (has_line (lines_of_node users (slice_index order place)) (slice_index order i)) (swept.behind i place le h)
 
   step-was : (i : ℕ) → i ≤ place → mark_of after (slice_index order i) ≡ true → mark_of marks (slice_index order i) ≡ true
   step-was i le e =
-      or_false-left (mark_of marks (slice_index order i)) (mark_of marks (slice_index order place) && has_line (lines_of users (slice_index order place)) (slice_index order i)) (step-front i le) (sym (is (slice_index order i)) ∙ e)
+      or_false-left (mark_of marks (slice_index order i)) (mark_of marks (slice_index order place) && has_line (lines_of_node users (slice_index order place)) (slice_index order i)) (step-front i le) (sym (is (slice_index order i)) ∙ e)
 
-  pub step-closed : ((i user : ℕ) → i < place → mark_of marks (slice_index order i) ≡ true → has_line (lines_of users (slice_index order i)) user ≡ true → mark_of marks user ≡ true) →
-      (i user : ℕ) → i < place + 1 → mark_of after (slice_index order i) ≡ true → has_line (lines_of users (slice_index order i)) user ≡ true → mark_of after user ≡ true
+  pub step-closed : ((i user : ℕ) → i < place → mark_of marks (slice_index order i) ≡ true → has_line (lines_of_node users (slice_index order i)) user ≡ true → mark_of marks user ≡ true) →
+      (i user : ℕ) → i < place + 1 → mark_of after (slice_index order i) ≡ true → has_line (lines_of_node users (slice_index order i)) user ≡ true → mark_of after user ≡ true
   step-closed closed i user l marked used =
       let was = step-was i (omega arith) marked in
       elim (cases_lt i place) [
@@ -234,25 +234,25 @@ module _ (users : List (List BillLine)) (order : List ℕ) (marks after : List B
         | inr past ↦
             let here : i ≡ place = omega arith in
             let at = subst (λ k. mark_of marks (slice_index order k) ≡ true) here was in
-            let line = subst (λ k. has_line (lines_of users (slice_index order k)) user ≡ true) here used in
-            is user ∙ ap (λ b. mark_of marks user || (b && has_line (lines_of users (slice_index order place)) user)) at ∙ ap (λ b. mark_of marks user || b) line ∙ or-true (mark_of marks user)
+            let line = subst (λ k. has_line (lines_of_node users (slice_index order k)) user ≡ true) here used in
+            is user ∙ ap (λ b. mark_of marks user || (b && has_line (lines_of_node users (slice_index order place)) user)) at ∙ ap (λ b. mark_of marks user || b) line ∙ or-true (mark_of marks user)
       ]
 
-  pub step-least : (holds : ℕ → Bool) → ((node user : ℕ) → holds node ≡ true → has_line (lines_of users node) user ≡ true → holds user ≡ true) → ((node : ℕ) → mark_of marks node ≡ true → holds node ≡ true) → (node : ℕ) → mark_of after node ≡ true → holds node ≡ true
+  pub step-least : (holds : ℕ → Bool) → ((node user : ℕ) → holds node ≡ true → has_line (lines_of_node users node) user ≡ true → holds user ≡ true) → ((node : ℕ) → mark_of marks node ≡ true → holds node ≡ true) → (node : ℕ) → mark_of after node ≡ true → holds node ≡ true
   step-least holds used least node e =
-      elim (or_cases (mark_of marks node) (mark_of marks (slice_index order place) && has_line (lines_of users (slice_index order place)) node) (sym (is node) ∙ e)) [
+      elim (or_cases (mark_of marks node) (mark_of marks (slice_index order place) && has_line (lines_of_node users (slice_index order place)) node) (sym (is node) ∙ e)) [
         | inl was ↦ least node was
         | inr new ↦
-            let both = and_both (mark_of marks (slice_index order place)) (has_line (lines_of users (slice_index order place)) node) new in
+            let both = and_both (mark_of marks (slice_index order place)) (has_line (lines_of_node users (slice_index order place)) node) new in
             used (slice_index order place) node (least (slice_index order place) both.0) both.1
       ]
 
   pub step-early : (from : ℕ) → from ≤ place → AreUnmarked from order marks → AreUnmarked from order after
-  step-early from le early i l = is (slice_index order i) ∙ ap (λ b. b || (mark_of marks (slice_index order place) && has_line (lines_of users (slice_index order place)) (slice_index order i))) (early i l) ∙ step-front i (omega arith)
+  step-early from le early i l = is (slice_index order i) ∙ ap (λ b. b || (mark_of marks (slice_index order place) && has_line (lines_of_node users (slice_index order place)) (slice_index order i))) (early i l) ∙ step-front i (omega arith)
 
 -- at the end of a sweep each marked node was met, or there is none
-pub closed_before : (users : List (List BillLine)) (order : List ℕ) (marks : List Bool) (end : ℕ) → AreUnmarkedFrom end order marks → ((place user : ℕ) → place < end → mark_of marks (slice_index order place) ≡ true → has_line (lines_of users (slice_index order place)) user ≡ true → mark_of marks user ≡ true) →
-    (place user : ℕ) → place < length order → mark_of marks (slice_index order place) ≡ true → has_line (lines_of users (slice_index order place)) user ≡ true → mark_of marks user ≡ true
+pub closed_before : (users : List (List BillLine)) (order : List ℕ) (marks : List Bool) (end : ℕ) → AreUnmarkedFrom end order marks → ((place user : ℕ) → place < end → mark_of marks (slice_index order place) ≡ true → has_line (lines_of_node users (slice_index order place)) user ≡ true → mark_of marks user ≡ true) →
+    (place user : ℕ) → place < length order → mark_of marks (slice_index order place) ≡ true → has_line (lines_of_node users (slice_index order place)) user ≡ true → mark_of marks user ≡ true
 closed_before users order marks end late met place user h marked used =
     elim (cases_lt place end) [ inl below ↦ met place user below marked used | inr past ↦ absurd (false≢true (sym (late place past h) ∙ marked)) ]
 

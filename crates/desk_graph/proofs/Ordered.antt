@@ -9,9 +9,9 @@ use Rattle.std.proofs.lemmas.List.Kept.{AllPairs-cons, AllPairs-filter}
 use Rattle.std.proofs.lemmas.List.Sorted.{IsPermutation-filter_both, length_permutation, sum_by-IsPermutation}
 use Rattle.std.proofs.lemmas.List.Sums.{get_or-le-sum_by, passes_at_first, sum_by-cons, sum_by_more_le, sum_by_push}
 use Rattle.desk_graph.specs.declared.line.BillLine.{BillLine}
-use Rattle.desk_graph.specs.Graph.{AreUsers, has_line, is_line, lines_of}
+use Rattle.desk_graph.specs.Graph.{AreUsers, has_line, is_line_between, lines_of_node}
 use Rattle.desk_graph.specs.Order.{AreMarkedUp, HasMadeWay, HasOnce, IsInOrder, IsSwept, StandsBefore, has_mark, mark_of}
-use Rattle.desk_graph.specs.Reaches.{Falls, enough, is_or_reaches, reaches}
+use Rattle.desk_graph.specs.Reaches.{Falls, longest_node_chain, is_node_or_reaches, node_reaches}
 use Rattle.desk_graph.proofs.Ends.{has_node_there, lines_of-more, user_is}
 use Rattle.desk_graph.proofs.Marks.{marked_below}
 use Rattle.desk_graph.proofs.Reached.{affected-one, lower_within, marks_are}
@@ -79,7 +79,7 @@ module _ (order : List ℕ) (once : HasOnce order) where
   order_covers node h = (rank order node, rank_below node h, get_or_default order (rank order node) node 0 (rank_below node h) ∙ at_rank node h)
 
 -- the places fall along the lines of a bill that is in order
-pub order_falls : (lines : List (List BillLine)) (order : List ℕ) → IsInOrder lines order → ((parent child : ℕ) → is_line lines parent child ≡ true → child < length lines) → Falls lines (rank order)
+pub order_falls : (lines : List (List BillLine)) (order : List ℕ) → IsInOrder lines order → ((parent child : ℕ) → is_line_between lines parent child ≡ true → child < length lines) → Falls lines (rank order)
 order_falls lines order ordered children = record {
   falls = λ parent child line.
       let low : parent < length order = omega (arith, has_node_there lines parent child line, ordered.size) in
@@ -88,29 +88,29 @@ order_falls lines order ordered children = record {
         | inl below ↦ below
         | inr past ↦
             let none = ordered.children_first (rank order parent) (rank order child) past (rank_below order ordered.once child there) in
-            let same = ap (λ p. is_line lines p (slice_index order (rank order child))) (at_rank order ordered.once parent low) ∙ ap (λ c. is_line lines parent c) (at_rank order ordered.once child there) in
-            absurd (both_ways (is_line lines parent child) (sym same ∙ none) line)
+            let same = ap (λ p. is_line_between lines p (slice_index order (rank order child))) (at_rank order ordered.once parent low) ∙ ap (λ c. is_line_between lines parent c) (at_rank order ordered.once child there) in
+            absurd (both_ways (is_line_between lines parent child) (sym same ∙ none) line)
       ];
   within = λ parent child line. omega (arith, rank_below order ordered.once parent (omega (arith, has_node_there lines parent child line, ordered.size)), ordered.size);
 }
 
 -- a node that stands before another doesn't reach it
-pub apart_before : (lines : List (List BillLine)) (order : List ℕ) → IsInOrder lines order → Falls lines (rank order) → (parent child : ℕ) → parent < length order → child < length order → StandsBefore order child parent → is_or_reaches lines child parent ≡ false
+pub apart_before : (lines : List (List BillLine)) (order : List ℕ) → IsInOrder lines order → Falls lines (rank order) → (parent child : ℕ) → parent < length order → child < length order → StandsBefore order child parent → is_node_or_reaches lines child parent ≡ false
 apart_before lines order ordered falls parent child low there before =
-    false_from_ne_true (is_or_reaches lines child parent) (λ e.
-    elim (Rattle.std.proofs.lemmas.Bool.or_cases (child == parent) (reaches lines child parent) e) [
+    false_from_ne_true (is_node_or_reaches lines child parent) (λ e.
+    elim (Rattle.std.proofs.lemmas.Bool.or_cases (child == parent) (node_reaches lines child parent) e) [
       | inl same ↦
           let at = at_rank order ordered.once child there in
           before (rank order child) (rank order child) (omega arith) (rank_below order ordered.once child there) (at ∙ eqb-true child parent same) at
       | inr reached ↦
-          let lower = lower_within lines (rank order) falls parent (enough lines) child reached in
+          let lower = lower_within lines (rank order) falls parent (longest_node_chain lines) child reached in
           before (rank order parent) (rank order child) (omega arith) (rank_below order ordered.once child there) (at_rank order ordered.once parent low) (at_rank order ordered.once child there)
     ])
 
 -- of two places of an order the earlier has no line to the later
-pub order_pairs : (lines : List (List BillLine)) (order : List ℕ) → IsInOrder lines order → AllPairs (λ x y. is_line lines x y ≡ false) order
+pub order_pairs : (lines : List (List BillLine)) (order : List ℕ) → IsInOrder lines order → AllPairs (λ x y. is_line_between lines x y ≡ false) order
 order_pairs lines order ordered i j d h l =
-    ap (λ x. is_line lines x (get_or order j d)) (get_or_default order i d 0 (omega arith)) ∙ ap (λ y. is_line lines (slice_index order i) y) (get_or_default order j d 0 l)
+    ap (λ x. is_line_between lines x (get_or order j d)) (get_or_default order i d 0 (omega arith)) ∙ ap (λ y. is_line_between lines (slice_index order i) y) (get_or_default order j d 0 l)
     ∙ ordered.children_first i j (omega arith) l
 
 count_cons : (p : ℕ → Bool) (x : ℕ) (xs : List ℕ) → count_by p (x ∷ xs) ≡ cond (p x) 1 0 + count_by p xs
@@ -159,13 +159,13 @@ marked_once marks order once size node =
     ]
 
 -- the order serves for a sweep towards the users
-pub order_swept : (lines users : List (List BillLine)) (order : List ℕ) → IsInOrder lines order → length users ≡ length lines → ((child : ℕ) → AreUsers lines child (lines_of users child)) → IsSwept users order
+pub order_swept : (lines users : List (List BillLine)) (order : List ℕ) → IsInOrder lines order → length users ≡ length lines → ((child : ℕ) → AreUsers lines child (lines_of_node users child)) → IsSwept users order
 order_swept lines users order ordered size agree = record {
   size = ordered.size ∙ sym size;
-  inside = λ node user used. omega (arith, has_node_there lines user node (sym (user_is lines node (lines_of users node) (agree node) user) ∙ used), size);
+  inside = λ node user used. omega (arith, has_node_there lines user node (sym (user_is lines node (lines_of_node users node) (agree node) user) ∙ used), size);
   nodes = λ place h. omega (arith, order_inside order ordered.once place h, ordered.size, size);
   covers = λ node h. order_covers order ordered.once node (omega (arith, ordered.size, size));
-  behind = λ i j h l. user_is lines (slice_index order j) (lines_of users (slice_index order j)) (agree (slice_index order j)) (slice_index order i) ∙ ordered.children_first i j h l;
+  behind = λ i j h l. user_is lines (slice_index order j) (lines_of_node users (slice_index order j)) (agree (slice_index order j)) (slice_index order i) ∙ ordered.children_first i j h l;
 }
 
 -- pairs of a list that is joined of two
@@ -195,17 +195,17 @@ length-moved marks order = length_permutation order (filter (has_mark false mark
 
 -- what a new line adds to the lines
 unfoldable pub AddsLine : (lines new_lines : List (List BillLine)) (parent child : ℕ) → Type 0
-AddsLine lines new_lines parent child = (x y : ℕ) → is_line new_lines x y ≡ true → (is_line lines x y ≡ true) ⊎ ((parent ≡ x) × (child ≡ y))
+AddsLine lines new_lines parent child = (x y : ℕ) → is_line_between new_lines x y ≡ true → (is_line_between lines x y ≡ true) ⊎ ((parent ≡ x) × (child ≡ y))
 
 module _ (lines new_lines users : List (List BillLine)) (order : List ℕ) (parent child : ℕ) (ordered : IsInOrder lines order)
-    (agree : (node : ℕ) → AreUsers lines node (lines_of users node)) (falls : Falls lines (rank order)) (adds : AddsLine lines new_lines parent child) where
+    (agree : (node : ℕ) → AreUsers lines node (lines_of_node users node)) (falls : Falls lines (rank order)) (adds : AddsLine lines new_lines parent child) where
   -- where the child stands before the parent the order stays
-  stands_first : StandsBefore order child parent → (i j : ℕ) → i ≤ j → j < length order → is_line new_lines (slice_index order i) (slice_index order j) ≡ false
+  stands_first : StandsBefore order child parent → (i j : ℕ) → i ≤ j → j < length order → is_line_between new_lines (slice_index order i) (slice_index order j) ≡ false
   unfolding AddsLine
   stands_first before i j h l =
-      false_from_ne_true (is_line new_lines (slice_index order i) (slice_index order j)) (λ e.
+      false_from_ne_true (is_line_between new_lines (slice_index order i) (slice_index order j)) (λ e.
       elim (adds (slice_index order i) (slice_index order j) e) [
-        | inl old ↦ both_ways (is_line lines (slice_index order i) (slice_index order j)) (ordered.children_first i j h l) old
+        | inl old ↦ both_ways (is_line_between lines (slice_index order i) (slice_index order j)) (ordered.children_first i j h l) old
         | inr new ↦ before i j h l (sym new.0) (sym new.1)
       ])
 
@@ -214,43 +214,43 @@ module _ (lines new_lines users : List (List BillLine)) (order : List ℕ) (pare
     parent_marked = up.seeded parent (Rattle.std.proofs.lemmas.Bool.or_left (parent == parent) false (eq-eqb parent parent refl))
 
     -- a line leads from no unmarked node to a marked one
-    goes_up : (x y : ℕ) → is_line new_lines x y ≡ true → mark_of marks y ≡ true → mark_of marks x ≡ true
+    goes_up : (x y : ℕ) → is_line_between new_lines x y ≡ true → mark_of marks y ≡ true → mark_of marks x ≡ true
     unfolding AddsLine
     goes_up x y line marked =
         elim (adds x y line) [
-          | inl old ↦ up.closed y x marked (user_is lines y (lines_of users y) (agree y) x ∙ old)
+          | inl old ↦ up.closed y x marked (user_is lines y (lines_of_node users y) (agree y) x ∙ old)
           | inr new ↦ subst (λ n. mark_of marks n ≡ true) new.0 parent_marked
         ]
 
-    no_self : (x : ℕ) → is_line new_lines x x ≡ false
+    no_self : (x : ℕ) → is_line_between new_lines x x ≡ false
     unfolding AddsLine
     no_self x =
-        false_from_ne_true (is_line new_lines x x) (λ e.
+        false_from_ne_true (is_line_between new_lines x x) (λ e.
         elim (adds x x e) [
           | inl old ↦ let lower = falls.falls x x old in omega arith
           | inr new ↦ both_ways (mark_of marks child) opens (subst (λ n. mark_of marks n ≡ true) (new.0 ∙ sym new.1) parent_marked)
         ])
 
-    old_pairs : AllPairs (λ x y. is_line lines x y ≡ false) order
+    old_pairs : AllPairs (λ x y. is_line_between lines x y ≡ false) order
     old_pairs i j d h l =
-        ap (λ x. is_line lines x (get_or order j d)) (get_or_default order i d 0 (omega arith)) ∙ ap (λ y. is_line lines (slice_index order i) y) (get_or_default order j d 0 l)
+        ap (λ x. is_line_between lines x (get_or order j d)) (get_or_default order i d 0 (omega arith)) ∙ ap (λ y. is_line_between lines (slice_index order i) y) (get_or_default order j d 0 l)
         ∙ ordered.children_first i j (omega arith) l
 
     -- of two nodes with one mark the earlier has no line to the later
-    alike : (wanted : Bool) → ((x y : ℕ) → has_mark wanted marks x ≡ true → has_mark wanted marks y ≡ true → (parent ≡ x) × (child ≡ y) → ⊥) → AllPairs (λ x y. is_line new_lines x y ≡ false) (filter (has_mark wanted marks) order)
+    alike : (wanted : Bool) → ((x y : ℕ) → has_mark wanted marks x ≡ true → has_mark wanted marks y ≡ true → (parent ≡ x) × (child ≡ y) → ⊥) → AllPairs (λ x y. is_line_between new_lines x y ≡ false) (filter (has_mark wanted marks) order)
     unfolding AddsLine
     alike wanted apart i j d h l =
         let kept = filter (has_mark wanted marks) order in
         let passes = filter_passes (has_mark wanted marks) order in
-        false_from_ne_true (is_line new_lines (get_or kept i d) (get_or kept j d)) (λ e.
+        false_from_ne_true (is_line_between new_lines (get_or kept i d) (get_or kept j d)) (λ e.
         elim (adds (get_or kept i d) (get_or kept j d) e) [
-          | inl old ↦ both_ways (is_line lines (get_or kept i d) (get_or kept j d)) (AllPairs-filter (λ x y. is_line lines x y ≡ false) (has_mark wanted marks) order old_pairs i j d h l) old
+          | inl old ↦ both_ways (is_line_between lines (get_or kept i d) (get_or kept j d)) (AllPairs-filter (λ x y. is_line_between lines x y ≡ false) (has_mark wanted marks) order old_pairs i j d h l) old
           | inr new ↦ apart (get_or kept i d) (get_or kept j d) (passes i d (omega arith)) (passes j d l) new
         ])
 
-    moved_pairs : AllPairs (λ x y. is_line new_lines x y ≡ false) (filter (has_mark false marks) order ++ filter (has_mark true marks) order)
+    moved_pairs : AllPairs (λ x y. is_line_between new_lines x y ≡ false) (filter (has_mark false marks) order ++ filter (has_mark true marks) order)
     moved_pairs =
-        pairs-append (λ x y. is_line new_lines x y ≡ false) (filter (has_mark false marks) order) (filter (has_mark true marks) order)
+        pairs-append (λ x y. is_line_between new_lines x y ≡ false) (filter (has_mark false marks) order) (filter (has_mark true marks) order)
         (alike false (λ x y m n new. both_ways (mark_of marks x) (not-true (mark_of marks x) m) (subst (λ k. mark_of marks k ≡ true) new.0 parent_marked)))
         (alike true (λ x y m n new. both_ways (mark_of marks y) (subst (λ k. mark_of marks k ≡ false) new.1 opens) n))
         (λ i d h j e l.
@@ -258,20 +258,20 @@ module _ (lines new_lines users : List (List BillLine)) (order : List ℕ) (pare
         let y = get_or (filter (has_mark true marks) order) j e in
         let unmarked : mark_of marks x ≡ false = not-true (mark_of marks x) (filter_passes (has_mark false marks) order i d h) in
         let marked : mark_of marks y ≡ true = filter_passes (has_mark true marks) order j e l in
-        false_from_ne_true (is_line new_lines x y) (λ line. both_ways (mark_of marks x) unmarked (goes_up x y line marked)))
+        false_from_ne_true (is_line_between new_lines x y) (λ line. both_ways (mark_of marks x) unmarked (goes_up x y line marked)))
 
-    moved_first : (i j : ℕ) → i ≤ j → j < length (filter (has_mark false marks) order ++ filter (has_mark true marks) order) → is_line new_lines (slice_index (filter (has_mark false marks) order ++ filter (has_mark true marks) order) i) (slice_index (filter (has_mark false marks) order ++ filter (has_mark true marks) order) j) ≡ false
+    moved_first : (i j : ℕ) → i ≤ j → j < length (filter (has_mark false marks) order ++ filter (has_mark true marks) order) → is_line_between new_lines (slice_index (filter (has_mark false marks) order ++ filter (has_mark true marks) order) i) (slice_index (filter (has_mark false marks) order ++ filter (has_mark true marks) order) j) ≡ false
     moved_first i j h l =
         elim (cases_lt i j) [
           | inl below ↦ moved_pairs i j 0 below l
           | inr past ↦
               let same : i ≡ j = omega arith in
-              subst (λ k. is_line new_lines (slice_index (filter (has_mark false marks) order ++ filter (has_mark true marks) order) k) (slice_index (filter (has_mark false marks) order ++ filter (has_mark true marks) order) j) ≡ false) (sym same)
+              subst (λ k. is_line_between new_lines (slice_index (filter (has_mark false marks) order ++ filter (has_mark true marks) order) k) (slice_index (filter (has_mark false marks) order ++ filter (has_mark true marks) order) j) ≡ false) (sym same)
               (no_self (slice_index (filter (has_mark false marks) order ++ filter (has_mark true marks) order) j))
         ]
 
   -- after way was made the order is right with the new line too
-  pub in_order-with : (new_order : List ℕ) → length new_lines ≡ length lines → is_or_reaches lines child parent ≡ false → HasMadeWay users parent child order new_order → IsInOrder new_lines new_order
+  pub in_order-with : (new_order : List ℕ) → length new_lines ≡ length lines → is_node_or_reaches lines child parent ≡ false → HasMadeWay users parent child order new_order → IsInOrder new_lines new_order
   in_order-with new_order size opens (inl stays) =
       subst (IsInOrder new_lines) (sym stays.0) (record { size = ordered.size ∙ sym size; once = ordered.once; children_first = stands_first stays.1 })
   in_order-with new_order size opens (inr moved) =
@@ -284,11 +284,11 @@ module _ (lines new_lines users : List (List BillLine)) (order : List ℕ) (pare
       })
 
 -- an order with fewer lines
-pub in_order-without : (lines new_lines : List (List BillLine)) (order : List ℕ) → IsInOrder lines order → length new_lines ≡ length lines → ((x y : ℕ) → is_line new_lines x y ≡ true → is_line lines x y ≡ true) → IsInOrder new_lines order
+pub in_order-without : (lines new_lines : List (List BillLine)) (order : List ℕ) → IsInOrder lines order → length new_lines ≡ length lines → ((x y : ℕ) → is_line_between new_lines x y ≡ true → is_line_between lines x y ≡ true) → IsInOrder new_lines order
 in_order-without lines new_lines order ordered size fewer = record {
   size = ordered.size ∙ sym size;
   once = ordered.once;
-  children_first = λ i j h l. false_from_ne_true (is_line new_lines (slice_index order i) (slice_index order j)) (λ e. both_ways (is_line lines (slice_index order i) (slice_index order j)) (ordered.children_first i j h l) (fewer (slice_index order i) (slice_index order j) e));
+  children_first = λ i j h l. false_from_ne_true (is_line_between new_lines (slice_index order i) (slice_index order j)) (λ e. both_ways (is_line_between lines (slice_index order i) (slice_index order j)) (ordered.children_first i j h l) (fewer (slice_index order i) (slice_index order j) e));
 }
 
 once-more : (n node : ℕ) → cond (nat_lt node n) 1 0 + cond (n == node) 1 0 ≡ cond (nat_lt node (n + 1)) 1 0
@@ -300,7 +300,7 @@ once_pushed order once node =
     sum_by_push (λ other. cond (other == node) 1 0) order (length order) ∙ ap (λ n. n + cond (length order == node) 1 0) (once node) ∙ once-more (length order) node
     ∙ ap (λ n. cond (nat_lt node n) 1 0) (sym (length_push order (length order)))
 
-pub in_order-more : (lines : List (List BillLine)) (order : List ℕ) → IsInOrder lines order → ((parent child : ℕ) → is_line lines parent child ≡ true → child < length lines) → IsInOrder (lines ++ [] ∷ []) (order ++ length order ∷ [])
+pub in_order-more : (lines : List (List BillLine)) (order : List ℕ) → IsInOrder lines order → ((parent child : ℕ) → is_line_between lines parent child ≡ true → child < length lines) → IsInOrder (lines ++ [] ∷ []) (order ++ length order ∷ [])
 in_order-more lines order ordered children = record {
   size = length_push order (length order) ∙ ap (λ n. n + 1) ordered.size ∙ sym (length_push lines []);
   once = once_pushed order ordered.once;
@@ -310,12 +310,12 @@ in_order-more lines order ordered children = record {
       let bound : j < length order + 1 = omega (arith, length_push order (length order)) in
       elim (cases_lt j (length order)) [
         | inl below ↦
-            same ∙ ap (λ x. is_line lines x (slice_index more j)) (get_or_append_left order (length order ∷ []) 0 i (omega arith)) ∙ ap (λ y. is_line lines (slice_index order i) y) (get_or_append_left order (length order ∷ []) 0 j below)
+            same ∙ ap (λ x. is_line_between lines x (slice_index more j)) (get_or_append_left order (length order ∷ []) 0 i (omega arith)) ∙ ap (λ y. is_line_between lines (slice_index order i) y) (get_or_append_left order (length order ∷ []) 0 j below)
             ∙ ordered.children_first i j h below
         | inr past ↦
             let last : slice_index more j ≡ length order = ap (λ k. slice_index more k) (omega arith) ∙ Rattle.std.proofs.lemmas.List.get_or_at order (length order) [] 0 (length order) refl in
-            same ∙ ap (λ y. is_line lines (slice_index more i) y) last
-            ∙ false_from_ne_true (is_line lines (slice_index more i) (length order)) (λ e. let there = children (slice_index more i) (length order) e in let size = ordered.size in omega arith)
+            same ∙ ap (λ y. is_line_between lines (slice_index more i) y) last
+            ∙ false_from_ne_true (is_line_between lines (slice_index more i) (length order)) (λ e. let there = children (slice_index more i) (length order) e in let size = ordered.size in omega arith)
       ];
 }
 

@@ -4,11 +4,11 @@ use Rattle.std.proofs.lemmas.Bool.{cases_lt, eq-eqb, eqb-true, false≢true, or_
 use Rattle.std.proofs.lemmas.List.{get_or_append_left, get_or_at, length_push}
 use Rattle.desk_graph.specs.declared.line.BillLine.{BillLine}
 use Rattle.desk_graph.specs.declared.bill_plan.LineChange.{LineChange}
-use Rattle.desk_graph.specs.Bill.{IsBill}
-use Rattle.desk_graph.specs.Graph.{is_line, line_count, lines_of}
+use Rattle.desk_graph.specs.Bill.{IsBillGraph}
+use Rattle.desk_graph.specs.Graph.{is_line_between, line_count, lines_of_node}
 use Rattle.desk_graph.specs.Order.{AreBothEnds, AreMarkedUp, IsInOrder, has_mark, mark_of}
-use Rattle.desk_graph.specs.Planned.{AreFree, BillEdit, HasMadeWayFor, IsBillPlan, IsChangeOf, changed_lines, changed_users, planned, with_empty, with_next}
-use Rattle.desk_graph.specs.Reaches.{Falls, enough, has_node, is_affected, is_or_reaches, reaches}
+use Rattle.desk_graph.specs.Planned.{AreFree, BillEdit, HasMadeWayFor, IsBillPlan, IsChangeOf, changed_lines, changed_users, graph_after, with_empty, with_next}
+use Rattle.desk_graph.specs.Reaches.{Falls, longest_node_chain, has_node, is_node_affected, is_node_or_reaches, node_reaches}
 use Rattle.desk_graph.proofs.ChangedLines.{changed-kept, length-labels, more-kept, with_labels, with_nodes-is}
 use Rattle.desk_graph.proofs.Ends.{user_is}
 use Rattle.desk_graph.proofs.Kept.{AreUnique, bill_falls, count-more, is_bill, unique-more, user_there}
@@ -43,15 +43,15 @@ module _ (labels : List (List ℕ)) (lines users : List (List BillLine)) (order 
   -- the marks of a node and of what reaches it
   module _ (seed : ℕ) (there : seed < length labels) where
     marks : List Bool
-    marks = marks_of (is_affected lines (seed ∷ [])) (length labels)
+    marks = marks_of (is_node_affected lines (seed ∷ [])) (length labels)
 
     below : (node : ℕ) → mark_of marks node ≡ true → node < length labels
     unfolding marks
-    below node e = omega (arith, marked_below marks node e, length-marks (is_affected lines (seed ∷ [])) (length labels))
+    below node e = omega (arith, marked_below marks node e, length-marks (is_node_affected lines (seed ∷ [])) (length labels))
 
-    is_marked : (node : ℕ) → node < length labels → mark_of marks node ≡ is_affected lines (seed ∷ []) node
+    is_marked : (node : ℕ) → node < length labels → mark_of marks node ≡ is_node_affected lines (seed ∷ []) node
     unfolding marks
-    is_marked node h = mark-is (is_affected lines (seed ∷ [])) (length labels) node h
+    is_marked node h = mark-is (is_node_affected lines (seed ∷ [])) (length labels) node h
 
     one_seed : (node : ℕ) → has_node (seed ∷ []) node ≡ true → seed ≡ node
     one_seed node e = elim (or_cases (seed == node) false e) [ inl same ↦ eqb-true seed node same | inr none ↦ absurd (false≢true none) ]
@@ -59,19 +59,19 @@ module _ (labels : List (List ℕ)) (lines users : List (List BillLine)) (order 
     marked_up : AreMarkedUp users (seed ∷ []) marks
     unfolding marks
     marked_up = record {
-      size = length-marks (is_affected lines (seed ∷ [])) (length labels) ∙ sym ends.users_size;
+      size = length-marks (is_node_affected lines (seed ∷ [])) (length labels) ∙ sym ends.users_size;
       seeded = λ node e.
           let same = one_seed node e in
           is_marked node (omega (arith, same, there)) ∙ affected-seed lines (rank order) falls (seed ∷ []) node e;
       closed = λ node user e used.
-          let line : is_line lines user node ≡ true = sym (user_is lines node (lines_of users node) (ends.agree node) user) ∙ used in
+          let line : is_line_between lines user node ≡ true = sym (user_is lines node (lines_of_node users node) (ends.agree node) user) ∙ used in
           is_marked user (user_there labels lines users ends node user used) ∙ affected-up lines (rank order) falls (seed ∷ []) user node line (sym (is_marked node (below node e)) ∙ e);
       least = λ holds seeds step node e.
           let at : holds seed ≡ true = seeds seed (Rattle.std.proofs.lemmas.Bool.or_left (seed == seed) false (eq-eqb seed seed refl)) in
-          let affected : is_or_reaches lines node seed ≡ true = sym (affected-one lines seed node) ∙ sym (is_marked node (below node e)) ∙ e in
-          elim (or_cases (node == seed) (reaches lines node seed) affected) [
+          let affected : is_node_or_reaches lines node seed ≡ true = sym (affected-one lines seed node) ∙ sym (is_marked node (below node e)) ∙ e in
+          elim (or_cases (node == seed) (node_reaches lines node seed) affected) [
             | inl same ↦ subst (λ n. holds n ≡ true) (sym (eqb-true node seed same)) at
-            | inr reached ↦ up lines seed holds at (λ child user h line. step child user h (user_is lines child (lines_of users child) (ends.agree child) user ∙ line)) (enough lines) node reached
+            | inr reached ↦ up lines seed holds at (λ child user h line. step child user h (user_is lines child (lines_of_node users child) (ends.agree child) user ∙ line)) (longest_node_chain lines) node reached
           ];
     }
 
@@ -96,13 +96,13 @@ fits-changed labels lines None good fit = fit
 fits-changed labels lines (Some change) good fit = good.fits
 
 -- what holds of every bill holds of the bill after a plan
-pub bill_after : (labels : List (List ℕ)) (lines users : List (List BillLine)) (order : List ℕ) (edit : BillEdit) → AreBothEnds labels lines users → AreUnique labels → IsInOrder lines order → line_count lines ≤ 131072 → IsBillPlan (record { labels = labels; lines = lines }) edit → IsBill (planned edit (record { labels = labels; lines = lines }))
+pub bill_after : (labels : List (List ℕ)) (lines users : List (List BillLine)) (order : List ℕ) (edit : BillEdit) → AreBothEnds labels lines users → AreUnique labels → IsInOrder lines order → line_count lines ≤ 131072 → IsBillPlan (record { labels = labels; lines = lines }) edit → IsBillGraph (graph_after edit (record { labels = labels; lines = lines }))
 bill_after labels lines users order edit ends unique ordered fit good =
     let way = way-for labels lines users order ends ordered edit.line good.line in
     let made = changed-kept labels lines users order way.0 edit.line ends ordered good.line way.1 in
     let kept = more-kept edit.labels labels (changed_lines edit.line lines) (changed_users edit.line users) way.0 made in
     let apart = unique-all edit.labels labels unique good.free in
     let count = count-empty (length edit.labels) (changed_lines edit.line lines) in
-    subst IsBill (sym (with_nodes-is edit.labels (record { labels = labels; lines = changed_lines edit.line lines })))
+    subst IsBillGraph (sym (with_nodes-is edit.labels (record { labels = labels; lines = changed_lines edit.line lines })))
     (is_bill (with_labels edit.labels labels) (with_empty (length edit.labels) (changed_lines edit.line lines)) (with_empty (length edit.labels) (changed_users edit.line users)) (with_next (length edit.labels) way.0) kept.ends apart kept.in_order
     (omega (arith, length-labels edit.labels labels, good.nodes_fit)) (omega (arith, count, fits-changed labels lines edit.line good.line fit)))

@@ -21,8 +21,8 @@ abbrev pub label_of : List (List ℕ) → ℕ → List ℕ
 label_of labels node = slice_index_or labels node []
 
 -- the lines of a node, none where there is no such node
-abbrev pub lines_of : List (List BillLine) → ℕ → List BillLine
-lines_of lines node = slice_index_or lines node []
+abbrev pub lines_of_node : List (List BillLine) → ℕ → List BillLine
+lines_of_node lines node = slice_index_or lines node []
 
 -- one of the lines has this node at its other end
 abbrev pub has_line : List BillLine → ℕ → Bool
@@ -34,8 +34,8 @@ count_at [] node = None
 count_at (line ∷ lines) node = if line.node == node then Some line.count else count_at lines node
 
 -- the parent has a line to the child
-abbrev pub is_line : List (List BillLine) → ℕ → ℕ → Bool
-is_line lines parent child = has_line (lines_of lines parent) child
+abbrev pub is_line_between : List (List BillLine) → ℕ → ℕ → Bool
+is_line_between lines parent child = has_line (lines_of_node lines parent) child
 
 -- how many lines the bill has
 abbrev pub line_count : List (List BillLine) → ℕ
@@ -49,4 +49,4 @@ IsByLabel labels (line ∷ lines) =
 
 -- the users of a node: a line from each parent of it with that line's count, and from no other
 abbrev pub AreUsers : List (List BillLine) → ℕ → List BillLine → Type 0
-AreUsers lines child users = (parent : ℕ) → count_at users parent ≡ count_at (lines_of lines parent) child
+AreUsers lines child users = (parent : ℕ) → count_at users parent ≡ count_at (lines_of_node lines parent) child

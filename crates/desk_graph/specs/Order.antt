@@ -4,8 +4,8 @@ use Rattle.std.specs.Prelude.{slice_index_or, if◌then◌else◌, nat_lt, count
 use Rattle.std.specs.List.{Contains}
 use Rattle.std.specs.Option.{option_map_or}
 use Rattle.desk_graph.specs.declared.line.BillLine.{BillLine}
-use Rattle.desk_graph.specs.Graph.{AreUsers, IsByLabel, has_line, is_line, lines_of}
-use Rattle.desk_graph.specs.Reaches.{chain, has_node, next_to}
+use Rattle.desk_graph.specs.Graph.{AreUsers, IsByLabel, has_line, is_line_between, lines_of_node}
+use Rattle.desk_graph.specs.Reaches.{chain_of_nodes, has_node, next_node_to}
 
 -- the mark of a node, none where there is no such node
 abbrev pub mark_of : List Bool → ℕ → Bool
@@ -19,23 +19,23 @@ has_mark false marks node = not (mark_of marks node)
 -- every node stands in the order, and each behind the nodes that it uses
 pub record IsSwept (users : List (List BillLine)) (order : List ℕ) : Type 0 where
   pub size : length order ≡ length users
-  pub inside : (node user : ℕ) → has_line (lines_of users node) user ≡ true → user < length users
+  pub inside : (node user : ℕ) → has_line (lines_of_node users node) user ≡ true → user < length users
   pub nodes : (place : ℕ) → place < length order → slice_index order place < length users
   pub covers : (node : ℕ) → node < length users → Contains order node
-  pub behind : (i j : ℕ) → i ≤ j → j < length order → has_line (lines_of users (slice_index order j)) (slice_index order i) ≡ false
+  pub behind : (i j : ℕ) → i ≤ j → j < length order → has_line (lines_of_node users (slice_index order j)) (slice_index order i) ≡ false
 
 -- a test that holds of the marked nodes, and of each user of a node of which it holds
 pub record HoldsBelow (holds : ℕ → Bool) (marks : List Bool) (users : List (List BillLine)) : Type 0 where
   pub marked : (node : ℕ) → mark_of marks node ≡ true → holds node ≡ true
-  pub used : (node user : ℕ) → holds node ≡ true → has_line (lines_of users node) user ≡ true → holds user ≡ true
+  pub used : (node user : ℕ) → holds node ≡ true → has_line (lines_of_node users node) user ≡ true → holds user ≡ true
 
 -- the seeds are marked, the users of a marked node are, and no node is that doesn't have to be
 pub record AreMarkedUp (users : List (List BillLine)) (seeds : List ℕ) (marks : List Bool) : Type 0 where
   pub size : length marks ≡ length users
   pub seeded : (node : ℕ) → has_node seeds node ≡ true → mark_of marks node ≡ true
-  pub closed : (node user : ℕ) → mark_of marks node ≡ true → has_line (lines_of users node) user ≡ true → mark_of marks user ≡ true
+  pub closed : (node user : ℕ) → mark_of marks node ≡ true → has_line (lines_of_node users node) user ≡ true → mark_of marks user ≡ true
   pub least : (holds : ℕ → Bool) → ((node : ℕ) → has_node seeds node ≡ true → holds node ≡ true) →
-      ((node user : ℕ) → holds node ≡ true → has_line (lines_of users node) user ≡ true → holds user ≡ true) →
+      ((node user : ℕ) → holds node ≡ true → has_line (lines_of_node users node) user ≡ true → holds user ≡ true) →
       (node : ℕ) → mark_of marks node ≡ true → holds node ≡ true
 
 -- none of the first so many nodes of the order is marked
@@ -67,9 +67,9 @@ AreSweptUp users order seeds nodes =
 pub record AreBothEnds (labels : List (List ℕ)) (lines users : List (List BillLine)) : Type 0 where
   pub lines_size : length lines ≡ length labels
   pub users_size : length users ≡ length labels
-  pub agree : (child : ℕ) → AreUsers lines child (lines_of users child)
-  pub by_label : (node : ℕ) → IsByLabel labels (lines_of lines node)
-  pub by_user : (node : ℕ) → IsByLabel labels (lines_of users node)
+  pub agree : (child : ℕ) → AreUsers lines child (lines_of_node users child)
+  pub by_label : (node : ℕ) → IsByLabel labels (lines_of_node lines node)
+  pub by_user : (node : ℕ) → IsByLabel labels (lines_of_node users node)
 
 -- the list has each number below its length once, and no other
 abbrev pub HasOnce : List ℕ → Type 0
@@ -79,7 +79,7 @@ HasOnce nodes = (node : ℕ) → count_by (λ other. other == node) nodes ≡ (i
 pub record IsInOrder (lines : List (List BillLine)) (order : List ℕ) : Type 0 where
   pub size : length order ≡ length lines
   pub once : HasOnce order
-  pub children_first : (i j : ℕ) → i ≤ j → j < length order → is_line lines (slice_index order i) (slice_index order j) ≡ false
+  pub children_first : (i j : ℕ) → i ≤ j → j < length order → is_line_between lines (slice_index order i) (slice_index order j) ≡ false
 
 -- the second node stands nowhere at or before the first
 abbrev pub StandsBefore : List ℕ → ℕ → ℕ → Type 0
@@ -97,4 +97,4 @@ HasMadeWay users parent child old new = ((new ≡ old) × StandsBefore old child
 -- the chain to the target goes from each node to the next, and ends at the target
 abbrev pub GoesByNext : List (List BillLine) → ℕ → Type 0
 GoesByNext lines target = (node : ℕ) →
-    chain lines node target ≡ node ∷ option_map_or (λ child. chain lines child target) (if node == target then None else next_to lines node target) []
+    chain_of_nodes lines node target ≡ node ∷ option_map_or (λ child. chain_of_nodes lines child target) (if node == target then None else next_node_to lines node target) []

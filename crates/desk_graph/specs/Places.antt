@@ -3,8 +3,8 @@ use Rattle.std.specs.Prelude.{◌≡◌, ℕ, ◌<◌, ◌≤◌, List, length, 
 use Rattle.desk_graph.specs.declared.node_order.NodeOrder.TheInside.{Inside}
 
 -- the nodes in their order
-abbrev pub nodes_of : Inside → List ℕ
-nodes_of order = order.nodes.items
+abbrev pub nodes_in_order : Inside → List ℕ
+nodes_in_order order = order.nodes.items
 
 -- the places are those of the nodes, and there is room for all nodes that a bill may have
 pub record IsPlaced (order : Inside) : Type 0 where

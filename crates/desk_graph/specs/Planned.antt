@@ -2,13 +2,13 @@
 use Rattle.std.specs.Prelude.{◌≡◌, ℕ, zero, suc, ◌+◌, ◌<◌, ◌≤◌, false, List, [], ◌∷◌, ◌++◌, Option, Some, None, Result, Ok, Err, length, slice_set}
 use Rattle.desk_graph.specs.declared.line.BillLine.{BillLine}
 use Rattle.desk_graph.specs.declared.bill_plan.LineChange.{LineChange}
-use Rattle.desk_graph.specs.Graph.{AreUsers, Graph, IsByLabel, count_at, line_count, lines_of}
+use Rattle.desk_graph.specs.Graph.{AreUsers, Graph, IsByLabel, count_at, line_count, lines_of_node}
 use Rattle.desk_graph.specs.Edits.{is_taken, node_answer, with_node}
 use Rattle.desk_graph.specs.declared.fault.NodeFault.{NodeFault}
 use Rattle.desk_graph.specs.declared.fault.PlanFault.{PlanFault}
 use Rattle.desk_graph.specs.declared.fault.PlanFault.TheVariants.{Node}
 use Rattle.desk_graph.specs.Order.{HasMadeWay}
-use Rattle.desk_graph.specs.Reaches.{is_or_reaches}
+use Rattle.desk_graph.specs.Reaches.{is_node_or_reaches}
 
 -- the labels of new nodes, and the change of a line, if there is one
 pub record BillEdit : Type 0 where
@@ -31,8 +31,8 @@ with_nodes [] g = g
 with_nodes (label ∷ labels) g = with_nodes labels (with_node label g)
 
 -- the bill after the edit
-abbrev pub planned : BillEdit → Graph → Graph
-planned edit g = with_nodes edit.labels (record { labels = g.labels; lines = changed_lines edit.line g.lines })
+abbrev pub graph_after : BillEdit → Graph → Graph
+graph_after edit g = with_nodes edit.labels (record { labels = g.labels; lines = changed_lines edit.line g.lines })
 
 -- the lists with so many empty ones more
 abbrev pub with_empty : ℕ → List (List BillLine) → List (List BillLine)
@@ -73,9 +73,9 @@ plan_answer label g = as_planned (node_answer label g)
 pub record IsChange (g : Graph) (change : LineChange) : Type 0 where
   pub parent_there : change.parent < length g.labels
   pub child_there : change.child < length g.labels
-  pub opens : is_or_reaches g.lines change.child change.parent ≡ false
+  pub opens : is_node_or_reaches g.lines change.child change.parent ≡ false
   pub fits : line_count (slice_set g.lines change.parent change.lines) ≤ 131072
-  pub only : (node : ℕ) → (node ≡ change.child → ⊥) → count_at change.lines node ≡ count_at (lines_of g.lines change.parent) node
+  pub only : (node : ℕ) → (node ≡ change.child → ⊥) → count_at change.lines node ≡ count_at (lines_of_node g.lines change.parent) node
   pub users : AreUsers (slice_set g.lines change.parent change.lines) change.child change.users
   pub by_label : IsByLabel g.labels change.lines
   pub by_user : IsByLabel g.labels change.users

@@ -1,10 +1,10 @@
 ghost use Rattle.std.specs.Prelude.{◌≡◌, ◌≢◌, ◌+◌, ◌<◌, ◌≤◌, ℕ, true, false, [], length, vec_capacity, Ok, Err, IfOk, IfErr, OnOk, OnErr};
-ghost use Rattle.desk_graph.specs.Bill.{IsBill};
-ghost use Rattle.desk_graph.specs.Graph.{AreUsers, IsByLabel, is_line, label_of, lines_of};
+ghost use Rattle.desk_graph.specs.Bill.{IsBillGraph};
+ghost use Rattle.desk_graph.specs.Graph.{AreUsers, IsByLabel, is_line_between, label_of, lines_of_node};
 ghost use Rattle.desk_graph.specs.Edits.{is_taken, line_answer, node_answer, with_line_in, with_node, without_line_in};
 ghost use Rattle.desk_graph.specs.Order.{HasMadeWay, HasOnce, IsSwept, mark_of};
 ghost use Rattle.desk_graph.specs.Plan.{IsLinePlan};
-ghost use Rattle.desk_graph.specs.Reaches.{AreAffected, AreChildrenFirst, chain, has_node, is_affected, is_or_reaches};
+ghost use Rattle.desk_graph.specs.Reaches.{AreAffected, AreChildrenFirst, chain_of_nodes, has_node, is_node_affected, is_node_or_reaches};
 
 use crate::chain::chain_to;
 use crate::fault::{LineFault, NodeFault};
@@ -79,7 +79,7 @@ impl Bill {
     /// How many nodes the bill has. Their numbers are those below this.
     pub fn node_count(&self) -> usize
         ensures count { result ≡ length self.now.labels }
-        ensures bill { IsBill self.now }
+        ensures bill { IsBillGraph self.now }
     {
         self.labels.len()
     }
@@ -95,7 +95,7 @@ impl Bill {
     /// How many lines lead from a node to its children.
     pub fn line_count(&self, id: NodeId) -> usize
         requires { id < length self.now.labels }
-        ensures { result ≡ length (lines_of self.now.lines id) }
+        ensures { result ≡ length (lines_of_node self.now.lines id) }
     {
         self.lines[id as usize].as_slice().len()
     }
@@ -211,9 +211,9 @@ impl Bill {
     fn refuse_cycle(&self, alloc: Global, parent: NodeId, child: NodeId) -> Result<(), LineFault>
         requires parent { parent < length self.now.labels }
         requires child { child < length self.now.labels }
-        ensures ok { OnOk result (is_or_reaches self.now.lines child parent ≡ false) }
-        ensures closes { IfErr result (λ fault. fault ≢ LineFault.OutOfMemory → is_or_reaches self.now.lines child parent ≡ true) }
-        ensures chain { IfErr result (λ fault. fault ≢ LineFault.OutOfMemory → fault ≡ LineFault.Closes (chain self.now.lines child parent)) }
+        ensures ok { OnOk result (is_node_or_reaches self.now.lines child parent ≡ false) }
+        ensures closes { IfErr result (λ fault. fault ≢ LineFault.OutOfMemory → is_node_or_reaches self.now.lines child parent ≡ true) }
+        ensures chain_of_nodes { IfErr result (λ fault. fault ≢ LineFault.OutOfMemory → fault ≡ LineFault.Closes (chain_of_nodes self.now.lines child parent)) }
     {
         if self.order.stands_before(child, parent) {
             return Ok(());
@@ -238,7 +238,7 @@ impl Bill {
     pub fn drop_line(&mut self, parent: NodeId, child: NodeId) -> bool
         requires parent { parent < length self.old.labels }
         requires child { child < length self.old.labels }
-        ensures there { result ≡ is_line self.old.lines parent child }
+        ensures there { result ≡ is_line_between self.old.lines parent child }
         ensures lines { self.new ≡ without_line_in parent child self.old }
     {
         let lines = &mut self.lines[parent as usize];
@@ -254,7 +254,7 @@ impl Bill {
     /// The lines of a node to its children, in the order of their labels. It takes one step.
     pub fn lines<L: Ledger>(&self, id: NodeId, steps: &mut Steps<L>) -> &[BillLine]
         requires { id < length self.now.labels }
-        ensures lines { result.now ≡ lines_of self.now.lines id }
+        ensures lines { result.now ≡ lines_of_node self.now.lines id }
         ensures by_label { IsByLabel self.now.labels result.now }
         ensures steps { steps.new ≡ steps.old + 1 }
     {
@@ -292,7 +292,7 @@ impl Bill {
     ) -> Result<Vec<bool>, OutOfMemory>
         requires { (node : ℕ) → has_node seeds.now node ≡ true → node < length self.now.labels }
         ensures size { IfOk result (λ marks. length marks.items ≡ length self.now.labels) }
-        ensures marks { IfOk result (λ marks. (node : ℕ) → mark_of marks.items node ≡ is_affected self.now.lines seeds.now node) }
+        ensures marks { IfOk result (λ marks. (node : ℕ) → mark_of marks.items node ≡ is_node_affected self.now.lines seeds.now node) }
     {
         let mut marks = Vec::from_elem(alloc, false, self.labels.len())?;
         mark_from(

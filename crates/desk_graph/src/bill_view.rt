@@ -1,6 +1,6 @@
 ghost use Rattle.std.specs.Prelude.{◌≡◌, ◌+◌, ◌<◌, ℕ, true, length, IfOk};
-ghost use Rattle.desk_graph.specs.Bill.{IsBill};
-ghost use Rattle.desk_graph.specs.Graph.{Graph, IsByLabel, label_of, lines_of};
+ghost use Rattle.desk_graph.specs.Bill.{IsBillGraph};
+ghost use Rattle.desk_graph.specs.Graph.{Graph, IsByLabel, label_of, lines_of_node};
 ghost use Rattle.desk_graph.specs.Reaches.{AreAffected, AreChildrenFirst, has_node};
 
 use crate::bill::Bill;
@@ -19,7 +19,7 @@ pub trait BillView {
     /// How many nodes the bill has. Their numbers are those below this.
     fn node_count(&self) -> usize
         ensures count { result ≡ length (graph self.now).labels }
-        ensures bill { IsBill (graph self.now) };
+        ensures bill { IsBillGraph (graph self.now) };
 
     /// The label of a node.
     fn label(&self, id: NodeId) -> &[u8]
@@ -29,12 +29,12 @@ pub trait BillView {
     /// How many lines lead from a node to its children.
     fn line_count(&self, id: NodeId) -> usize
         requires { id < length (graph self.now).labels }
-        ensures { result ≡ length (lines_of (graph self.now).lines id) };
+        ensures { result ≡ length (lines_of_node (graph self.now).lines id) };
 
     /// The lines of a node to its children, in the order of their labels. It takes one step.
     fn lines<L: Ledger>(&self, id: NodeId, steps: &mut Steps<L>) -> &[BillLine]
         requires { id < length (graph self.now).labels }
-        ensures lines { result.now ≡ lines_of (graph self.now).lines id }
+        ensures lines { result.now ≡ lines_of_node (graph self.now).lines id }
         ensures by_label { IsByLabel (graph self.now).labels result.now }
         ensures steps { steps.new ≡ steps.old + 1 };
 

@@ -1,7 +1,7 @@
 ghost use Rattle.std.specs.Prelude.{◌≡◌, ◌==◌, ℕ, ◌<◌, true, length, find, option_map, if◌then◌else◌, IfOk, IfSome};
-ghost use Rattle.desk_graph.specs.Graph.{has_line, is_line};
+ghost use Rattle.desk_graph.specs.Graph.{has_line, is_line_between};
 ghost use Rattle.desk_graph.specs.Order.{GoesByNext, mark_of};
-ghost use Rattle.desk_graph.specs.Reaches.{chain, is_or_reaches, next_to};
+ghost use Rattle.desk_graph.specs.Reaches.{chain_of_nodes, is_node_or_reaches, next_node_to};
 
 use crate::line::{BillLine, NodeId};
 use crate::line_list::LineList;
@@ -17,11 +17,11 @@ pub fn chain_to(
     target: NodeId,
 ) -> Result<Vec<NodeId>, OutOfMemory>
     requires from { from < length lines.now }
-    requires children { (parent child : ℕ) → is_line lines.now parent child ≡ true → child < length lines.now }
+    requires children { (parent child : ℕ) → is_line_between lines.now parent child ≡ true → child < length lines.now }
     requires size { length marks.now ≡ length lines.now }
-    requires marks { (node : ℕ) → mark_of marks.now node ≡ is_or_reaches lines.now node target }
+    requires marks { (node : ℕ) → mark_of marks.now node ≡ is_node_or_reaches lines.now node target }
     requires steps { GoesByNext lines.now target }
-    ensures { IfOk result (λ nodes. nodes.items ≡ chain lines.now from target) }
+    ensures { IfOk result (λ nodes. nodes.items ≡ chain_of_nodes lines.now from target) }
 {
     let mut nodes = Vec::new(alloc);
     let mut at = Some(from);
@@ -35,10 +35,10 @@ pub fn chain_to(
 /// The next node of the chain to the target, none at the target itself.
 fn next_in_chain(lines: &[LineList], marks: &[bool], node: NodeId, target: NodeId) -> Option<NodeId>
     requires node { node < length lines.now }
-    requires children { (parent child : ℕ) → is_line lines.now parent child ≡ true → child < length lines.now }
+    requires children { (parent child : ℕ) → is_line_between lines.now parent child ≡ true → child < length lines.now }
     requires size { length marks.now ≡ length lines.now }
-    requires marks { (other : ℕ) → mark_of marks.now other ≡ is_or_reaches lines.now other target }
-    ensures next { result ≡ (if node == target then None else next_to lines.now node target) }
+    requires marks { (other : ℕ) → mark_of marks.now other ≡ is_node_or_reaches lines.now other target }
+    ensures next { result ≡ (if node == target then None else next_node_to lines.now node target) }
     ensures there { IfSome result (λ child. child < length lines.now) }
 {
     if node == target {

@@ -1,7 +1,7 @@
 ghost use Rattle.std.specs.Prelude.{◌≡◌, ◌==◌, ℕ, ◌<◌, ◌≤◌, true, [], length, map, insert, if◌then◌else◌, IfOk};
 ghost use Rattle.std.specs.Ordering.{is_lt};
 ghost use Rattle.desk_graph.specs.Graph.{has_line, label_cmp, label_of};
-ghost use Rattle.desk_graph.specs.Edits.{entered, with_line, without_line};
+ghost use Rattle.desk_graph.specs.Edits.{inserted_by_label, with_line_of_node, without_line_of_node};
 
 use crate::label::Label;
 use crate::line::{BillLine, NodeId};
@@ -43,14 +43,14 @@ impl LineList {
 
     /// Takes the line to the node out.
     pub fn remove(&mut self, node: NodeId)
-        ensures { self.new ≡ without_line node self.old }
+        ensures { self.new ≡ without_line_of_node node self.old }
     {
         self.lines.retain(|line| line.node != node);
     }
 
     /// The list without the line to the node.
     pub fn without(&self, alloc: Global, node: NodeId) -> Result<LineList, OutOfMemory>
-        ensures { IfOk result (λ list. list ≡ without_line node self.now) }
+        ensures { IfOk result (λ list. list ≡ without_line_of_node node self.now) }
     {
         let mut list = self.copied(alloc)?;
         list.remove(node);
@@ -75,7 +75,7 @@ impl LineList {
     ) -> Result<LineList, OutOfMemory>
         requires new { new.node < length labels.now }
         requires kept { (node : ℕ) → has_line self.now node ≡ true → node < length labels.now }
-        ensures { IfOk result (λ list. list ≡ with_line labels.now new self.now) }
+        ensures { IfOk result (λ list. list ≡ with_line_of_node labels.now new self.now) }
     {
         let lines = if has_line_to(self.lines.as_slice(), new.node) {
             replaced(alloc, self.lines.as_slice(), new)?
@@ -113,7 +113,7 @@ fn entered(
 ) -> Result<Vec<BillLine>, OutOfMemory>
     requires new { new.node < length labels.now }
     requires kept { (node : ℕ) → has_line lines.now node ≡ true → node < length labels.now }
-    ensures { IfOk result (λ list. list.items ≡ entered labels.now new lines.now) }
+    ensures { IfOk result (λ list. list.items ≡ inserted_by_label labels.now new lines.now) }
 {
     let place = place_of_new(labels, lines, new.node);
     let mut list = Vec::with_capacity(alloc, lines.len().saturating_add(1))?;
@@ -128,7 +128,7 @@ fn place_of_new(labels: &[Label], lines: &[BillLine], node: NodeId) -> usize
     requires new { node < length labels.now }
     requires kept { (other : ℕ) → has_line lines.now other ≡ true → other < length labels.now }
     ensures within { result ≤ length lines.now }
-    ensures place { (count : ℕ) → entered labels.now (record { node = node; count = count }) lines.now ≡ insert lines.now result (record { node = node; count = count }) }
+    ensures place { (count : ℕ) → inserted_by_label labels.now (record { node = node; count = count }) lines.now ≡ insert lines.now result (record { node = node; count = count }) }
 {
     for (place, line) in lines.iter().enumerate() {
         if stands_before(labels, node, line.node) {

@@ -41,9 +41,9 @@ impl Model for NodeOrder {
 
     ghost Value = { List ℕ };
 
-    ghost use Rattle.desk_graph.specs.Places.{IsPlaced, nodes_of};
+    ghost use Rattle.desk_graph.specs.Places.{IsPlaced, nodes_in_order};
 
-    ghost view = { nodes_of };
+    ghost view = { nodes_in_order };
 
     ghost invariant = { IsPlaced };
 }

@@ -1,7 +1,7 @@
 ghost use Rattle.std.specs.Prelude.{◌≡◌, ◌+◌, ◌<◌, ℕ, true, length, IfOk};
-ghost use Rattle.desk_graph.specs.Bill.{IsBill};
-ghost use Rattle.desk_graph.specs.Graph.{IsByLabel, label_of, lines_of};
-ghost use Rattle.desk_graph.specs.Planned.{IsBillPlan, planned};
+ghost use Rattle.desk_graph.specs.Bill.{IsBillGraph};
+ghost use Rattle.desk_graph.specs.Graph.{IsByLabel, label_of, lines_of_node};
+ghost use Rattle.desk_graph.specs.Planned.{IsBillPlan, graph_after};
 ghost use Rattle.desk_graph.specs.Reaches.{AreAffected, AreChildrenFirst, has_node};
 
 use crate::bill::Bill;
@@ -25,9 +25,9 @@ impl<'a> Model for PlannedBill<'a> {
 
     ghost Value = { Graph };
 
-    ghost use Rattle.desk_graph.specs.Planned.{IsBillPlan, planned};
+    ghost use Rattle.desk_graph.specs.Planned.{IsBillPlan, graph_after};
 
-    ghost view = { λ after. planned after.plan.now after.bill.now };
+    ghost view = { λ after. graph_after after.plan.now after.bill.now };
 
     ghost invariant = { λ after. IsBillPlan after.bill.now after.plan.now };
 }
@@ -36,7 +36,7 @@ impl<'a> PlannedBill<'a> {
     /// The bill after the plan.
     pub fn new(bill: &'a Bill, plan: &'a BillPlan) -> PlannedBill<'a>
         requires { IsBillPlan bill.now plan.now }
-        ensures { result ≡ planned plan.now bill.now }
+        ensures { result ≡ graph_after plan.now bill.now }
     {
         PlannedBill { bill, plan }
     }
@@ -44,7 +44,7 @@ impl<'a> PlannedBill<'a> {
     /// How many nodes the bill has then. Their numbers are those below this.
     pub fn node_count(&self) -> usize
         ensures count { result ≡ length self.now.labels }
-        ensures bill { IsBill self.now }
+        ensures bill { IsBillGraph self.now }
     {
         self.bill.node_count_after(self.plan)
     }
@@ -60,7 +60,7 @@ impl<'a> PlannedBill<'a> {
     /// How many lines lead from a node to its children then.
     pub fn line_count(&self, id: NodeId) -> usize
         requires { id < length self.now.labels }
-        ensures { result ≡ length (lines_of self.now.lines id) }
+        ensures { result ≡ length (lines_of_node self.now.lines id) }
     {
         self.bill.lines_after(self.plan, id).len()
     }
@@ -68,7 +68,7 @@ impl<'a> PlannedBill<'a> {
     /// The lines of a node to its children, in the order of their labels. It takes one step.
     pub fn lines<L: Ledger>(&self, id: NodeId, steps: &mut Steps<L>) -> &[BillLine]
         requires { id < length self.now.labels }
-        ensures lines { result.now ≡ lines_of self.now.lines id }
+        ensures lines { result.now ≡ lines_of_node self.now.lines id }
         ensures by_label { IsByLabel self.now.labels result.now }
         ensures steps { steps.new ≡ steps.old + 1 }
     {

@@ -1,8 +1,8 @@
 ghost use Rattle.std.specs.Prelude.{◌≡◌, ◌≢◌, ◌+◌, ◌<◌, ◌≤◌, ℕ, true, false, [], None, length, slice_set, Ok, Err, IfOk, IfErr, OnOk, OnErr};
-ghost use Rattle.desk_graph.specs.Bill.{IsBill};
+ghost use Rattle.desk_graph.specs.Bill.{IsBillGraph};
 ghost use Rattle.desk_graph.specs.Edits.{is_taken, line_answer, with_line_in, with_node, without_line_in};
-ghost use Rattle.desk_graph.specs.Graph.{IsByLabel, label_of, lines_of};
-ghost use Rattle.desk_graph.specs.Planned.{IsBillPlan, IsChangeOf, changed_lines, plan_answer, planned};
+ghost use Rattle.desk_graph.specs.Graph.{IsByLabel, label_of, lines_of_node};
+ghost use Rattle.desk_graph.specs.Planned.{IsBillPlan, IsChangeOf, changed_lines, plan_answer, graph_after};
 ghost use Rattle.desk_graph.specs.Reaches.{AreAffected, AreChildrenFirst, has_node};
 
 use crate::bill::{Bill, is_taken, make_way};
@@ -23,7 +23,7 @@ impl Bill {
     /// Makes ready for no change. It takes no memory.
     pub fn plan_nothing(&self, alloc: Global) -> BillPlan
         ensures nothing { result ≡ record { labels = []; line = None } }
-        ensures bill { planned result self.now ≡ self.now }
+        ensures bill { graph_after result self.now ≡ self.now }
         ensures plan { IsBillPlan self.now result }
     {
         // A look at a field tells the proof what every bill keeps.
@@ -44,7 +44,7 @@ impl Bill {
         requires count { 1 ≤ count }
         ensures ready { IfOk result (λ plan. line_answer parent child count self.now ≡ Ok tt) }
         ensures refused { IfErr result (λ fault. fault ≢ LineFault.OutOfMemory → line_answer parent child count self.now ≡ Err fault) }
-        ensures bill { IfOk result (λ plan. planned plan self.now ≡ with_line_in parent child count self.now) }
+        ensures bill { IfOk result (λ plan. graph_after plan self.now ≡ with_line_in parent child count self.now) }
         ensures plan { IfOk result (λ plan. IsBillPlan self.now plan) }
     {
         // A look at a field tells the proof what every bill keeps.
@@ -74,7 +74,7 @@ impl Bill {
     ) -> Result<BillPlan, OutOfMemory>
         requires parent { parent < length self.now.labels }
         requires child { child < length self.now.labels }
-        ensures bill { IfOk result (λ plan. planned plan self.now ≡ without_line_in parent child self.now) }
+        ensures bill { IfOk result (λ plan. graph_after plan self.now ≡ without_line_in parent child self.now) }
         ensures plan { IfOk result (λ plan. IsBillPlan self.now plan) }
     {
         let lines = &self.lines[parent as usize];
@@ -95,8 +95,8 @@ impl Bill {
         requires plan { IsBillPlan self.now plan.old }
         requires some { 1 ≤ length label.now }
         requires fits { length label.now ≤ 40 }
-        ensures answer { result ≢ Err PlanFault.OutOfMemory → result ≡ plan_answer label.now (planned plan.old self.now) }
-        ensures bill { OnOk result (planned plan.new self.now ≡ with_node label.now (planned plan.old self.now)) }
+        ensures answer { result ≢ Err PlanFault.OutOfMemory → result ≡ plan_answer label.now (graph_after plan.old self.now) }
+        ensures bill { OnOk result (graph_after plan.new self.now ≡ with_node label.now (graph_after plan.old self.now)) }
         ensures plan { OnOk result (IsBillPlan self.now plan.new) }
         ensures err { OnErr result (plan.new ≡ plan.old) }
     {
@@ -123,10 +123,10 @@ impl Bill {
         requires plan { IsBillPlan self.now plan.old }
         requires some { 1 ≤ length label.now }
         requires fits { length label.now ≤ 40 }
-        requires free { is_taken (planned plan.old self.now).labels label.now ≡ false }
-        requires room { length (planned plan.old self.now).labels < 24576 }
-        ensures answer { IfOk result (λ id. id ≡ length (planned plan.old self.now).labels) }
-        ensures bill { OnOk result (planned plan.new self.now ≡ with_node label.now (planned plan.old self.now)) }
+        requires free { is_taken (graph_after plan.old self.now).labels label.now ≡ false }
+        requires room { length (graph_after plan.old self.now).labels < 24576 }
+        ensures answer { IfOk result (λ id. id ≡ length (graph_after plan.old self.now).labels) }
+        ensures bill { OnOk result (graph_after plan.new self.now ≡ with_node label.now (graph_after plan.old self.now)) }
         ensures plan { OnOk result (IsBillPlan self.now plan.new) }
         ensures err { OnErr result (plan.new ≡ plan.old) }
     {
@@ -138,7 +138,7 @@ impl Bill {
     /// Does what was planned. It isn't refused, and takes no memory.
     pub fn commit(&mut self, plan: BillPlan)
         requires { IsBillPlan self.old plan }
-        ensures { self.new ≡ planned plan self.old }
+        ensures { self.new ≡ graph_after plan self.old }
     {
         let BillPlan {
             alloc,
@@ -180,9 +180,9 @@ impl Bill {
         seeds: &[NodeId],
     ) -> Result<Vec<NodeId>, OutOfMemory>
         requires plan { IsBillPlan self.now plan.now }
-        requires seeds { (node : ℕ) → has_node seeds.now node ≡ true → node < length (planned plan.now self.now).labels }
-        ensures nodes { IfOk result (λ nodes. AreAffected (planned plan.now self.now).lines seeds.now nodes.items) }
-        ensures children_first { IfOk result (λ nodes. AreChildrenFirst (planned plan.now self.now).lines nodes.items) }
+        requires seeds { (node : ℕ) → has_node seeds.now node ≡ true → node < length (graph_after plan.now self.now).labels }
+        ensures nodes { IfOk result (λ nodes. AreAffected (graph_after plan.now self.now).lines seeds.now nodes.items) }
+        ensures children_first { IfOk result (λ nodes. AreChildrenFirst (graph_after plan.now self.now).lines nodes.items) }
     {
         let more = plan.labels.len();
         let line = plan.line.as_ref();
@@ -199,8 +199,8 @@ impl Bill {
     /// How many nodes the bill has after the plan.
     pub(crate) fn node_count_after(&self, plan: &BillPlan) -> usize
         requires plan { IsBillPlan self.now plan.now }
-        ensures count { result ≡ length (planned plan.now self.now).labels }
-        ensures bill { IsBill (planned plan.now self.now) }
+        ensures count { result ≡ length (graph_after plan.now self.now).labels }
+        ensures bill { IsBillGraph (graph_after plan.now self.now) }
     {
         self.labels.len() + plan.labels.len()
     }
@@ -208,8 +208,8 @@ impl Bill {
     /// The label of a node after the plan.
     pub(crate) fn label_after<'a>(&'a self, plan: &'a BillPlan, id: NodeId) -> &'a [u8]
         requires plan { IsBillPlan self.now plan.now }
-        requires there { id < length (planned plan.now self.now).labels }
-        ensures { result.now ≡ label_of (planned plan.now self.now).labels id }
+        requires there { id < length (graph_after plan.now self.now).labels }
+        ensures { result.now ≡ label_of (graph_after plan.now self.now).labels id }
     {
         let kept = self.labels.len();
         if (id as usize) < kept {
@@ -221,8 +221,8 @@ impl Bill {
     /// The lines of a node after the plan, and none of a new node.
     pub(crate) fn lines_after<'a>(&'a self, plan: &'a BillPlan, id: NodeId) -> &'a [BillLine]
         requires plan { IsBillPlan self.now plan.now }
-        ensures lines { result.now ≡ lines_of (planned plan.now self.now).lines id }
-        ensures by_label { IsByLabel (planned plan.now self.now).labels result.now }
+        ensures lines { result.now ≡ lines_of_node (graph_after plan.now self.now).lines id }
+        ensures by_label { IsByLabel (graph_after plan.now self.now).labels result.now }
     {
         match &plan.line {
             Some(change) => changed_or(self.lines.as_slice(), change, &plan.none, id),
@@ -240,7 +240,7 @@ fn changed_or<'a>(
 ) -> &'a [BillLine]
     requires none { none.now ≡ [] }
     requires parent { change.now.parent < length lists.now }
-    ensures { result.now ≡ lines_of (slice_set lists.now change.now.parent change.now.lines) node }
+    ensures { result.now ≡ lines_of_node (slice_set lists.now change.now.parent change.now.lines) node }
 {
     if change.parent == node {
         return change.lines.as_slice();
@@ -251,7 +251,7 @@ fn changed_or<'a>(
 /// The lines of a node, or those of `none` where it has no list.
 fn list_or<'a>(lists: &'a [LineList], none: &'a LineList, node: NodeId) -> &'a [BillLine]
     requires { none.now ≡ [] }
-    ensures { result.now ≡ lines_of lists.now node }
+    ensures { result.now ≡ lines_of_node lists.now node }
 {
     if node as usize >= lists.len() {
         return none.as_slice();

@@ -1,6 +1,6 @@
 ghost use Rattle.std.specs.Prelude.{◌≡◌, ◌==◌, ℕ, Bool, ◌+◌, ◌<◌, ◌≤◌, ◌||◌, ◌&&◌, true, [], ◌∷◌, ◌++◌, filter, count_by, length, slice_index_or, vec_len, vec_capacity, if◌then◌else◌, option_copied, IfOk};
 ghost use Rattle.std.specs.Option.{option_map_or};
-ghost use Rattle.desk_graph.specs.Graph.{has_line, lines_of};
+ghost use Rattle.desk_graph.specs.Graph.{has_line, lines_of_node};
 ghost use Rattle.desk_graph.specs.Order.{AreBehind, AreMarkedUp, AreSweptUp, AreUnmarked, AreUnmarkedFrom, HasOnce, HoldsBelow, IsSwept, MarksAtMost, has_mark, mark_of};
 ghost use Rattle.desk_graph.specs.Reaches.{has_node};
 
@@ -35,7 +35,7 @@ pub fn mark_all_users(
     requires seeded { count_by (has_mark true marks.old) order.now ≤ seeded }
     ensures size { length marks.new ≡ length marks.old }
     ensures kept { (node : ℕ) → mark_of marks.old node ≡ true → mark_of marks.new node ≡ true }
-    ensures closed { (node user : ℕ) → mark_of marks.new node ≡ true → has_line (lines_of users.now node) user ≡ true → mark_of marks.new user ≡ true }
+    ensures closed { (node user : ℕ) → mark_of marks.new node ≡ true → has_line (lines_of_node users.now node) user ≡ true → mark_of marks.new user ≡ true }
     ensures least { (holds : ℕ → Bool) → HoldsBelow holds marks.old users.now → (node : ℕ) → mark_of marks.new node ≡ true → holds node ≡ true }
     ensures early { AreUnmarked from order.now marks.new }
     ensures behind { from ≤ result.end }
@@ -72,9 +72,9 @@ fn count_at(marks: &[bool], node: NodeId) -> usize
 fn mark_users(node: NodeId, users: &Users, marks: &mut [bool]) -> usize
     requires node { node < length users.now }
     requires size { length marks.old ≡ length users.now }
-    requires users { (user : ℕ) → has_line (lines_of users.now node) user ≡ true → user < length users.now }
+    requires users { (user : ℕ) → has_line (lines_of_node users.now node) user ≡ true → user < length users.now }
     ensures size { length marks.new ≡ length marks.old }
-    ensures marks { (other : ℕ) → mark_of marks.new other ≡ (mark_of marks.old other || (mark_of marks.old node && has_line (lines_of users.now node) other)) }
+    ensures marks { (other : ℕ) → mark_of marks.new other ≡ (mark_of marks.old other || (mark_of marks.old node && has_line (lines_of_node users.now node) other)) }
     ensures more { MarksAtMost result marks.old marks.new }
 {
     if marks[node as usize] {

@@ -1,6 +1,6 @@
 ghost use Rattle.std.specs.Prelude.{◌≡◌, ◌<◌, [], length, option_copied, slice_set};
 ghost use Rattle.std.specs.Option.{option_map_or};
-ghost use Rattle.desk_graph.specs.Graph.{lines_of};
+ghost use Rattle.desk_graph.specs.Graph.{lines_of_node};
 ghost use Rattle.desk_graph.specs.Planned.{HasChild, changed_users, with_empty};
 
 use crate::bill_plan::LineChange;
@@ -59,7 +59,7 @@ impl<'a> Users<'a> {
 
     /// The users of a node, none where it has no list of them.
     pub fn of(&self, node: NodeId) -> Option<&[BillLine]>
-        ensures { option_map_or (λ lines. lines) (option_copied result) [] ≡ lines_of self.now node }
+        ensures { option_map_or (λ lines. lines) (option_copied result) [] ≡ lines_of_node self.now node }
     {
         match self.change {
             Some(change) => changed_at(self.lists, change, node),
@@ -75,7 +75,7 @@ fn changed_at<'a>(
     node: NodeId,
 ) -> Option<&'a [BillLine]>
     requires { change.now.child < length lists.now }
-    ensures { option_map_or (λ lines. lines) (option_copied result) [] ≡ lines_of (slice_set lists.now change.now.child change.now.users) node }
+    ensures { option_map_or (λ lines. lines) (option_copied result) [] ≡ lines_of_node (slice_set lists.now change.now.child change.now.users) node }
 {
     if change.child == node {
         return Some(change.users.as_slice());
@@ -85,7 +85,7 @@ fn changed_at<'a>(
 
 /// The lines of a node, none where it has no list of them.
 fn list_at(lists: &[LineList], node: NodeId) -> Option<&[BillLine]>
-    ensures { option_map_or (λ lines. lines) (option_copied result) [] ≡ lines_of lists.now node }
+    ensures { option_map_or (λ lines. lines) (option_copied result) [] ≡ lines_of_node lists.now node }
 {
     if node as usize >= lists.len() {
         return None;

@@ -1,10 +1,10 @@
 -- The examples hold by computation.
 use Rattle.std.proofs.Common.{refl}
 use Rattle.desk_rollup.specs.Examples.{DiamondExamples}
-use Rattle.desk_rollup.specs.Rolled.{gathered_within, rolled_within}
+use Rattle.desk_rollup.specs.Rolled.{gathered_within, node_rolled_within}
 
 pub diamond_examples : DiamondExamples
-unfolding rolled_within gathered_within
+unfolding node_rolled_within gathered_within
 diamond_examples = record {
   weighs = refl;
   has_marks = refl;

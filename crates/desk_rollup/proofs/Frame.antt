@@ -7,9 +7,9 @@ use Rattle.std.proofs.Math.Nat.{suc-mul}
 use Rattle.std.proofs.Math.Seq.{split_at}
 use Rattle.std.proofs.lemmas.List.Sums.{fold-append, sum_by-cons}
 use Rattle.desk_graph.specs.declared.line.BillLine.{BillLine}
-use Rattle.desk_graph.specs.Bill.{IsBill}
-use Rattle.desk_graph.specs.Graph.{Graph, is_line, lines_of}
-use Rattle.desk_graph.specs.Reaches.{AreAffected, enough, has_node, is_affected, is_or_reaches, reaches}
+use Rattle.desk_graph.specs.Bill.{IsBillGraph}
+use Rattle.desk_graph.specs.Graph.{Graph, is_line_between, lines_of_node}
+use Rattle.desk_graph.specs.Reaches.{AreAffected, longest_node_chain, has_node, is_node_affected, is_node_or_reaches, node_reaches}
 use Rattle.desk_graph.proofs.Reached.{affected-seed, affected-up, any_node-out, up}
 use Rattle.desk_graph.proofs.Ends.{has_node_there}
 use Rattle.desk_rollup.specs.declared.hop.Hop.{Hop}
@@ -21,7 +21,7 @@ use Rattle.desk_rollup.specs.Plan.{AreDistinct, nodes_of_owns}
 use Rattle.desk_rollup.specs.Rolled.{IsRolled, amount, hop, weight}
 use Rattle.desk_rollup.specs.Step.{IsStepOver, step_hop}
 use Rattle.desk_rollup.specs.Sweep.{IsSweep}
-use Rattle.desk_rollup.specs.Values.{KeptValues, OwnValues, RolledValues, amount_of, carried_in, hop_of, load_in, own_at, own_with, rolled_at}
+use Rattle.desk_rollup.specs.Values.{KeptValues, OwnValues, RolledValues, amount_of, carried_by_node, hop_of, load_in, own_at, own_with, rolled_at}
 use Rattle.desk_rollup.specs.Weights.{IsKnownWeight, fitting, known_weight, weighed, with_child}
 use Rattle.desk_rollup.proofs.Counts.{has_at, none_times, one_if, some_times}
 use Rattle.desk_rollup.proofs.Gathers.{gathered_step}
@@ -30,33 +30,33 @@ use Rattle.desk_rollup.proofs.Ranked.{goes_up, rolled-step}
 use Rattle.desk_rollup.proofs.Rolls.{carried_is, hop_by, same_hop, step_rolled}
 
 -- the list has just the affected nodes
-pub affected_had : (lines : List (List BillLine)) (seeds nodes : List ℕ) → AreAffected lines seeds nodes → (node : ℕ) → has_node nodes node ≡ is_affected lines seeds node
+pub affected_had : (lines : List (List BillLine)) (seeds nodes : List ℕ) → AreAffected lines seeds nodes → (node : ℕ) → has_node nodes node ≡ is_node_affected lines seeds node
 affected_had lines seeds nodes affected node =
     elim (cases_Bool (has_node nodes node)) [
       | inl there ↦
-          elim (cases_Bool (is_affected lines seeds node)) [
+          elim (cases_Bool (is_node_affected lines seeds node)) [
             | inl is ↦ there ∙ sym is
             | inr no_one ↦ let none = affected node ∙ ap one_if no_one in absurd (omega (arith, none, some_times node nodes there))
           ]
       | inr away ↦
-          elim (cases_Bool (is_affected lines seeds node)) [
+          elim (cases_Bool (is_node_affected lines seeds node)) [
             | inl is ↦ let one = affected node ∙ ap one_if is in absurd (omega (arith, one, none_times node nodes away))
             | inr no_one ↦ away ∙ sym no_one
           ]
     ]
 
 -- an affected node is one of the bill
-pub affected_inside : (g : Graph) → IsBill g → (seeds nodes : List ℕ) → ((node : ℕ) → has_node seeds node ≡ true → node < length g.labels) → AreAffected g.lines seeds nodes → (node : ℕ) → has_node nodes node ≡ true → node < length g.labels
+pub affected_inside : (g : Graph) → IsBillGraph g → (seeds nodes : List ℕ) → ((node : ℕ) → has_node seeds node ≡ true → node < length g.labels) → AreAffected g.lines seeds nodes → (node : ℕ) → has_node nodes node ≡ true → node < length g.labels
 affected_inside g bill seeds nodes low affected node e =
-    let found = any_node-out (λ seed. is_or_reaches g.lines node seed) seeds (sym (affected_had g.lines seeds nodes affected node) ∙ e) in
+    let found = any_node-out (λ seed. is_node_or_reaches g.lines node seed) seeds (sym (affected_had g.lines seeds nodes affected node) ∙ e) in
     let seed_low = low found.0 found.1 in
-    elim (or_cases (node == found.0) (reaches g.lines node found.0) found.2) [
+    elim (or_cases (node == found.0) (node_reaches g.lines node found.0) found.2) [
       | inl here ↦ let same = eqb-true node found.0 here in omega (arith, same, seed_low)
       | inr there ↦
           ltb-true node (length g.labels)
           (up g.lines found.0 (λ n. nat_lt n (length g.labels)) (lt-ltb found.0 (length g.labels) seed_low)
           (λ child user _ line. lt-ltb user (length g.labels) (omega (arith, has_node_there g.lines user child line, bill.sizes)))
-          (enough g.lines) node there)
+          (longest_node_chain g.lines) node there)
     ]
 
 -- a node without new own values has those that are kept
@@ -167,14 +167,14 @@ module _ (g : Graph) (owns : List OwnValues) (kept : KeptValues) (of_owns placed
   abbrev seeds : List ℕ
   seeds = nodes_of_owns owns
 
-  had : (node : ℕ) → has_node placed.nodes node ≡ is_affected g.lines seeds node
+  had : (node : ℕ) → has_node placed.nodes node ≡ is_node_affected g.lines seeds node
   had node = affected_had g.lines seeds placed.nodes sweep.affected node
 
   -- the lines at a place are those of the node there
-  pub list_at : {X : Type 0} (xs : List X) (f : X → List BillLine) (place : ℕ) (none : X) → lists ≡ map f xs → place < length placed.nodes → f (slice_index_or xs place none) ≡ lines_of g.lines (slice_index placed.nodes place)
+  pub list_at : {X : Type 0} (xs : List X) (f : X → List BillLine) (place : ℕ) (none : X) → lists ≡ map f xs → place < length placed.nodes → f (slice_index_or xs place none) ≡ lines_of_node g.lines (slice_index placed.nodes place)
   list_at xs f place none is low =
-      let sizes : length xs ≡ length placed.nodes = sym (length-map xs f) ∙ ap (λ l. length l) (sym is ∙ sweep.lines_are) ∙ length-map placed.nodes (lines_of g.lines) in
-      sym (get_or-map f xs place none [] (omega (arith, sizes))) ∙ ap (λ l. slice_index_or l place []) (sym is ∙ sweep.lines_are) ∙ get_or-map (lines_of g.lines) placed.nodes place 0 [] low
+      let sizes : length xs ≡ length placed.nodes = sym (length-map xs f) ∙ ap (λ l. length l) (sym is ∙ sweep.lines_are) ∙ length-map placed.nodes (lines_of_node g.lines) in
+      sym (get_or-map f xs place none [] (omega (arith, sizes))) ∙ ap (λ l. slice_index_or l place []) (sym is ∙ sweep.lines_are) ∙ get_or-map (lines_of_node g.lines) placed.nodes place 0 [] low
 
   -- a node of the bill has values, or new own ones
   pub own_there : (node : ℕ) → node < length g.labels → has_node seeds node ≡ false → node < length kept.rolled
@@ -206,7 +206,7 @@ module _ (g : Graph) (owns : List OwnValues) (kept : KeptValues) (of_owns placed
       (λ child line. below child line
       (false_from_ne_true (has_node placed.nodes child) (λ e. both_ways (has_node placed.nodes node) away (had node ∙ affected-up g.lines rank sweep.bill.ranked.1 seeds node child line (sym (had child) ∙ e))))
       (sweep.bill.children node child line))
-      (subst (λ o. IsStepOver (rolled_at kept.rolled) o (lines_of g.lines node) (rolled_at kept.rolled node)) (sym (own_other owns kept.owns node (untouched node away))) step))
+      (subst (λ o. IsStepOver (rolled_at kept.rolled) o (lines_of_node g.lines node) (rolled_at kept.rolled node)) (sym (own_other owns kept.owns node (untouched node away))) step))
 
   -- an affected node is one of the bill
   pub inside : (node : ℕ) → has_node placed.nodes node ≡ true → node < length g.labels
@@ -217,13 +217,13 @@ module _ (g : Graph) (owns : List OwnValues) (kept : KeptValues) (of_owns placed
     node = slice_index placed.nodes place
 
     -- a child stands before, or it isn't affected
-    pub child_before : (child at : ℕ) → is_line g.lines node child ≡ true → at < length placed.nodes → slice_index placed.nodes at ≡ child → at < place
+    pub child_before : (child at : ℕ) → is_line_between g.lines node child ≡ true → at < length placed.nodes → slice_index placed.nodes at ≡ child → at < place
     child_before child at line h is =
         elim (cases_lt at place) [
           | inl before ↦ before
           | inr past ↦
               elim (cases_lt place at) [
-                | inl later ↦ absurd (both_ways (is_line g.lines node child) (subst (λ c. is_line g.lines node c ≡ false) is (sweep.children_first place at 0 later h)) line)
+                | inl later ↦ absurd (both_ways (is_line_between g.lines node child) (subst (λ c. is_line_between g.lines node c ≡ false) is (sweep.children_first place at 0 later h)) line)
                 | inr not_later ↦
                     let same : at ≡ place = omega arith in
                     let itself : child ≡ node = sym is ∙ ap (slice_index placed.nodes) same in
@@ -233,24 +233,24 @@ module _ (g : Graph) (owns : List OwnValues) (kept : KeptValues) (of_owns placed
               ]
         ]
 
-    pub knows_weight : (new : List (Option ℕ)) → length new ≡ place → (child : ℕ) → is_line g.lines node child ≡ true → IsKnownWeight (place_at placed child) kept.rolled new child
+    pub knows_weight : (new : List (Option ℕ)) → length new ≡ place → (child : ℕ) → is_line_between g.lines node child ≡ true → IsKnownWeight (place_at placed child) kept.rolled new child
     knows_weight new size child line =
         by_place placed.nodes child (place_at placed child) (sweep.places child) (λ o. IsKnownWeight o kept.rolled new child)
         (λ away. has_kept child (sweep.bill.children node child line) away) (λ at h is. let before = child_before child at line h is in omega arith)
 
-    pub knows : (new : List RolledValues) → length new ≡ place → (child : ℕ) → is_line g.lines node child ≡ true → IsKnown (place_at placed child) kept.rolled new child
+    pub knows : (new : List RolledValues) → length new ≡ place → (child : ℕ) → is_line_between g.lines node child ≡ true → IsKnown (place_at placed child) kept.rolled new child
     knows new size child line =
         by_place placed.nodes child (place_at placed child) (sweep.places child) (λ o. IsKnown o kept.rolled new child)
         (λ away. has_kept child (sweep.bill.children node child line) away) (λ at h is. let before = child_before child at line h is in omega arith)
 
     -- the weight that is found at the place
     pub weighs : (new : List (Option ℕ)) → new ≡ map (λ n. fitting (weight g.lines own n)) (take place placed.nodes) → (own node).weight < 2 ^ 128 →
-        weighed (λ child. known_weight (place_at placed child) kept.rolled new child) (own node).weight (lines_of g.lines node) ≡ fitting (weight g.lines own node)
+        weighed (λ child. known_weight (place_at placed child) kept.rolled new child) (own node).weight (lines_of_node g.lines node) ≡ fitting (weight g.lines own node)
     weighs new is small =
         let below : ℕ → Option ℕ = λ child. known_weight (place_at placed child) kept.rolled new child in
-        ap (λ o. fold (λ p line. with_child p line.count (below line.node)) o (lines_of g.lines node)) (sym (fits_yes (own node).weight small))
-        ∙ lines_weigh below (weight g.lines own) (lines_of g.lines node)
-        (each_line (λ child. below child ≡ fitting (weight g.lines own child)) (lines_of g.lines node)
+        ap (λ o. fold (λ p line. with_child p line.count (below line.node)) o (lines_of_node g.lines node)) (sym (fits_yes (own node).weight small))
+        ∙ lines_weigh below (weight g.lines own) (lines_of_node g.lines node)
+        (each_line (λ child. below child ≡ fitting (weight g.lines own child)) (lines_of_node g.lines node)
         (λ child line.
         by_place placed.nodes child (place_at placed child) (sweep.places child) (λ o. known_weight o kept.rolled new child ≡ fitting (weight g.lines own child))
         (λ away.
@@ -270,29 +270,29 @@ module _ (g : Graph) (owns : List OwnValues) (kept : KeptValues) (of_owns placed
 
     -- what the new values and those that are kept tell of the children
     rolled_below : (new : List RolledValues) → AreBefore new →
-        (child : ℕ) → is_line g.lines node child ≡ true → IsRolled g.lines own child (known (place_at placed child) kept.rolled new child)
+        (child : ℕ) → is_line_between g.lines node child ≡ true → IsRolled g.lines own child (known (place_at placed child) kept.rolled new child)
     rolled_below new before child line =
         by_place placed.nodes child (place_at placed child) (sweep.places child) (λ o. IsRolled g.lines own child (known o kept.rolled new child))
         (λ away. stays child away (sweep.bill.children node child line))
         (λ spot h spot_is. subst (λ c. IsRolled g.lines own c (rolled_at new spot)) spot_is (before spot (child_before child spot line h spot_is)))
 
     -- the hops of the children stand in order
-    pub below_order : (new : List RolledValues) → AreBefore new → (child : ℕ) → is_line g.lines node child ≡ true → Rises (hop_numbers (known (place_at placed child) kept.rolled new child).hops)
+    pub below_order : (new : List RolledValues) → AreBefore new → (child : ℕ) → is_line_between g.lines node child ≡ true → Rises (hop_numbers (known (place_at placed child) kept.rolled new child).hops)
     below_order new before child line = (rolled_below new before child line).hops_rise
 
     -- the weight that is found at the place by values
     pub weighs_values : (new : List RolledValues) → AreBefore new →
         ((at : ℕ) → at < place → weight g.lines own (slice_index placed.nodes at) < 2 ^ 128) → (own node).weight < 2 ^ 128 →
-        weighed (λ child. Some (known (place_at placed child) kept.rolled new child).weight) (own node).weight (lines_of g.lines node) ≡ fitting (weight g.lines own node)
+        weighed (λ child. Some (known (place_at placed child) kept.rolled new child).weight) (own node).weight (lines_of_node g.lines node) ≡ fitting (weight g.lines own node)
     weighs_values new before light small =
         let below : ℕ → Option ℕ = λ child. Some (known (place_at placed child) kept.rolled new child).weight in
-        let low : (child : ℕ) → is_line g.lines node child ≡ true → weight g.lines own child < 2 ^ 128 = λ child line.
+        let low : (child : ℕ) → is_line_between g.lines node child ≡ true → weight g.lines own child < 2 ^ 128 = λ child line.
         by_place placed.nodes child (place_at placed child) (sweep.places child) (λ _. weight g.lines own child < 2 ^ 128)
         (λ away. let P : ℕ → Type 0 = λ w. w < 2 ^ 128 in subst P (stays child away (sweep.bill.children node child line)).weight (sweep.fit child))
         (λ spot h is. subst (λ n. weight g.lines own n < 2 ^ 128) is (light spot (child_before child spot line h is))) in
-        ap (λ o. fold (λ p line. with_child p line.count (below line.node)) o (lines_of g.lines node)) (sym (fits_yes (own node).weight small))
-        ∙ lines_weigh below (weight g.lines own) (lines_of g.lines node)
-        (each_line (λ child. below child ≡ fitting (weight g.lines own child)) (lines_of g.lines node)
+        ap (λ o. fold (λ p line. with_child p line.count (below line.node)) o (lines_of_node g.lines node)) (sym (fits_yes (own node).weight small))
+        ∙ lines_weigh below (weight g.lines own) (lines_of_node g.lines node)
+        (each_line (λ child. below child ≡ fitting (weight g.lines own child)) (lines_of_node g.lines node)
         (λ child line. ap (λ w. Some w) (rolled_below new before child line).weight ∙ sym (fits_yes (weight g.lines own child) (low child line))))
         (own node).weight
         ∙ ap fitting (sym (rolled-step g.lines rank sweep.bill.ranked.1 (λ n. (own n).weight) node))
@@ -300,22 +300,22 @@ module _ (g : Graph) (owns : List OwnValues) (kept : KeptValues) (of_owns placed
     abbrev made : List RolledValues → ℕ → RolledValues
     made new found =
         let below = λ (child : ℕ). known (place_at placed child) kept.rolled new child in
-        record { weight = found; hops = all_hops below (own node).marks (lines_of g.lines node); loads = all_loads below (own node).loads (lines_of g.lines node) }
+        record { weight = found; hops = all_hops below (own node).marks (lines_of_node g.lines node); loads = all_loads below (own node).loads (lines_of_node g.lines node) }
 
     -- the values that are found at the place
     rolls : weight g.lines own node < 2 ^ 128 → (new : List RolledValues) → AreBefore new →
         IsRolled g.lines own node (made new (weight g.lines own node))
     rolls fit new before =
         let below : ℕ → RolledValues = λ child. known (place_at placed child) kept.rolled new child in
-        let of_node = lines_of g.lines node in
-        let right : (child : ℕ) → is_line g.lines node child ≡ true → IsRolled g.lines own child (below child) = rolled_below new before in
+        let of_node = lines_of_node g.lines node in
+        let right : (child : ℕ) → is_line_between g.lines node child ≡ true → IsRolled g.lines own child (below child) = rolled_below new before in
         let each = each_line (λ child. IsRolled g.lines own child (below child)) of_node right in
         let step = gathered_step below (own node) of_node
         (each_as (λ line. IsRolled g.lines own line.node (below line.node)) (λ line. Rises (hop_numbers (below line.node).hops)) (λ line r. r.hops_rise) of_node each)
         (each_as (λ line. IsRolled g.lines own line.node (below line.node)) (λ line. Rises (load_numbers (below line.node).loads)) (λ line r. r.loads_rise) of_node each)
         (λ what.
-        let same = sum_same (λ line. line.count * carried_in (below line.node).loads what) (λ line. line.count * amount g.lines own line.node what) of_node
-        (each_as (λ line. IsRolled g.lines own line.node (below line.node)) (λ line. line.count * carried_in (below line.node).loads what ≡ line.count * amount g.lines own line.node what)
+        let same = sum_same (λ line. line.count * carried_by_node (below line.node).loads what) (λ line. line.count * amount g.lines own line.node what) of_node
+        (each_as (λ line. IsRolled g.lines own line.node (below line.node)) (λ line. line.count * carried_by_node (below line.node).loads what ≡ line.count * amount g.lines own line.node what)
         (λ line r. ap (λ v. line.count * v) (carried_is g.lines rank sweep.bill.ranked.1 own line.node (below line.node) r what)) of_node each) in
         let there = inside node (has_at placed.nodes place low) in
         omega (arith, same, rolled-step g.lines rank sweep.bill.ranked.1 (λ n. amount_of (own n).loads what) node, sweep.can.lighter node what there, fit)) in
@@ -332,10 +332,10 @@ module _ (g : Graph) (owns : List OwnValues) (kept : KeptValues) (of_owns placed
 
     -- where the node isn't given own values, the kept hops are right once they are mended
     mended_hops : (new : List RolledValues) → AreBefore new → has_node seeds node ≡ false → (changed : ChangedValues) → changed.are_followed ≡ true → AreFollowed changed new → (hops : List Hop) →
-        IsMended (λ child. known (place_at placed child) kept.rolled new child) (own node) (lines_of g.lines node) changed.marks (rolled_at kept.rolled node).hops hops → AreRight hops
+        IsMended (λ child. known (place_at placed child) kept.rolled new child) (own node) (lines_of_node g.lines node) changed.marks (rolled_at kept.rolled node).hops hops → AreRight hops
     mended_hops new before none changed still followed hops mended =
         let below : ℕ → RolledValues = λ child. known (place_at placed child) kept.rolled new child in
-        let of_node = lines_of g.lines node in
+        let of_node = lines_of_node g.lines node in
         let there = inside node (has_at placed.nodes place low) in
         let step = sweep.can.steps node (own_there node there none) none in
         let right = hop_by g.lines rank sweep.bill.ranked.1 own below node (rolled_below new before) in
@@ -364,17 +364,17 @@ module _ (g : Graph) (owns : List OwnValues) (kept : KeptValues) (of_owns placed
 
     -- new hops are right
     right_hops : (new : List RolledValues) → AreBefore new → (changed : ChangedValues) → AreFollowed changed new → (is_given : Bool) → (is_given ≡ false → has_node seeds node ≡ false) →
-        (hops : List Hop) → AreRight (all_hops (λ child. known (place_at placed child) kept.rolled new child) (own node).marks (lines_of g.lines node)) →
-        AreNewHops (λ child. known (place_at placed child) kept.rolled new child) (own node) (lines_of g.lines node) is_given changed (rolled_at kept.rolled node).hops hops → AreRight hops
+        (hops : List Hop) → AreRight (all_hops (λ child. known (place_at placed child) kept.rolled new child) (own node).marks (lines_of_node g.lines node)) →
+        AreNewHops (λ child. known (place_at placed child) kept.rolled new child) (own node) (lines_of_node g.lines node) is_given changed (rolled_at kept.rolled node).hops hops → AreRight hops
     right_hops new before changed followed is_given none hops right (inl all) = subst AreRight (sym all) right
     right_hops new before changed followed is_given none hops right (inr mended) = mended_hops new before (none mended.0) changed mended.1 followed hops mended.2
 
     -- where new values are found at the place, they are right, and the weight isn't too large
     pub found_values : (new : List RolledValues) → AreBefore new → ((at : ℕ) → at < place → weight g.lines own (slice_index placed.nodes at) < 2 ^ 128) → (own node).weight < 2 ^ 128 →
         (changed : ChangedValues) → AreFollowed changed new → (values : RolledValues) (is_given : Bool) → (is_given ≡ false → has_node seeds node ≡ false) →
-        Some values.weight ≡ weighed (λ child. Some (known (place_at placed child) kept.rolled new child).weight) (own node).weight (lines_of g.lines node) →
-        AreNewHops (λ child. known (place_at placed child) kept.rolled new child) (own node) (lines_of g.lines node) is_given changed (rolled_at kept.rolled node).hops values.hops →
-        values.loads ≡ all_loads (λ child. known (place_at placed child) kept.rolled new child) (own node).loads (lines_of g.lines node) →
+        Some values.weight ≡ weighed (λ child. Some (known (place_at placed child) kept.rolled new child).weight) (own node).weight (lines_of_node g.lines node) →
+        AreNewHops (λ child. known (place_at placed child) kept.rolled new child) (own node) (lines_of_node g.lines node) is_given changed (rolled_at kept.rolled node).hops values.hops →
+        values.loads ≡ all_loads (λ child. known (place_at placed child) kept.rolled new child) (own node).loads (lines_of_node g.lines node) →
         (weight g.lines own node < 2 ^ 128) × IsRolled g.lines own node values
     found_values new before light small changed followed values is_given none weighs_so hops loads =
         let found = fitted (weight g.lines own node) values.weight (sym (weighs_so ∙ weighs_values new before light small)) in
@@ -392,5 +392,5 @@ module _ (g : Graph) (owns : List OwnValues) (kept : KeptValues) (of_owns placed
 
     -- where none are found, the weight is too large
     pub found_none : (new : List RolledValues) → AreBefore new → ((at : ℕ) → at < place → weight g.lines own (slice_index placed.nodes at) < 2 ^ 128) → (own node).weight < 2 ^ 128 →
-        None ≡ weighed (λ child. Some (known (place_at placed child) kept.rolled new child).weight) (own node).weight (lines_of g.lines node) → 2 ^ 128 ≤ weight g.lines own node
+        None ≡ weighed (λ child. Some (known (place_at placed child) kept.rolled new child).weight) (own node).weight (lines_of_node g.lines node) → 2 ^ 128 ≤ weight g.lines own node
     found_none new before light small e = unfitted (weight g.lines own node) (sym (e ∙ weighs_values new before light small))

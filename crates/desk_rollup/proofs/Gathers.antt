@@ -10,7 +10,7 @@ use Rattle.desk_rollup.specs.declared.load.Load.{Load}
 use Rattle.desk_rollup.specs.Gathered.{all_hops, all_loads, joined_loads, lifted_load, own_hop, with_each}
 use Rattle.desk_rollup.specs.Numbers.{Rises, has, hop_numbers, mark_numbers, mark_number, load_numbers}
 use Rattle.desk_rollup.specs.Step.{IsStepOver, step_load}
-use Rattle.desk_rollup.specs.Values.{OwnValues, RolledValues, amount_of, carried_in, hop_of, load_in}
+use Rattle.desk_rollup.specs.Values.{OwnValues, RolledValues, amount_of, carried_by_node, hop_of, load_in}
 use Rattle.desk_rollup.proofs.Lists.{has_found}
 use Rattle.desk_rollup.proofs.Merged.{both, look_each, look_lines, up_each, up_lines}
 
@@ -164,10 +164,10 @@ module _ (cap : ℕ) where
       times_value line None h = omega arith
       times_value line (Some load) h = let swap = Rattle.std.proofs.Common.mul_comm load.amount line.count in omega (arith, swap)
 
-      lines_value : (of_node : List BillLine) → sum_by (λ line. line.count * carried_in (below line.node).loads n) of_node ≤ cap → sum_by (λ line. value_of (lifted line)) of_node ≡ sum_by (λ line. line.count * carried_in (below line.node).loads n) of_node
+      lines_value : (of_node : List BillLine) → sum_by (λ line. line.count * carried_by_node (below line.node).loads n) of_node ≤ cap → sum_by (λ line. value_of (lifted line)) of_node ≡ sum_by (λ line. line.count * carried_by_node (below line.node).loads n) of_node
       lines_value [] h = refl
       lines_value (line ∷ of_node) h =
-          let of_all = sum_by-cons (λ l. l.count * carried_in (below l.node).loads n) line of_node in
+          let of_all = sum_by-cons (λ l. l.count * carried_by_node (below l.node).loads n) line of_node in
           let rest = lines_value of_node (omega (arith, of_all, h)) in
           omega (arith, of_all, sum_by-cons (λ l. value_of (lifted l)) line of_node, rest, times_value line (load_at (below line.node).loads n) (omega (arith, of_all, h)))
 
@@ -175,7 +175,7 @@ module _ (cap : ℕ) where
       lines_are [] = refl
       lines_are (line ∷ of_node) = rw (lifted_is line, lines_are of_node) refl
 
-      pub folded : (loads : List Load) (of_node : List BillLine) → amount_of loads n + sum_by (λ line. line.count * carried_in (below line.node).loads n) of_node ≤ cap →
+      pub folded : (loads : List Load) (of_node : List BillLine) → amount_of loads n + sum_by (λ line. line.count * carried_by_node (below line.node).loads n) of_node ≤ cap →
           option_map (λ load. load.amount) (fold (λ o line. both add o (lifted line)) (fold (λ o load. both add o (load_at (load ∷ []) n)) None loads) of_node) ≡ step_load below (record { node = 0; weight = 0; marks = []; loads = loads }) of_node n
       folded loads of_node h =
           let owns = fold (λ o load. both add o (load_at (load ∷ []) n)) None loads in
@@ -186,7 +186,7 @@ module _ (cap : ℕ) where
           let some_own : is_some owns ≡ has (load_numbers loads) n = fold_is (λ load. load_at (load ∷ []) n) loads None ∙ own_is loads in
           let some_all : is_some (fold (λ o line. both add o (lifted line)) owns of_node) ≡ (has (load_numbers loads) n || list_any (λ line. has (load_numbers (below line.node).loads) n) of_node) =
           fold_is lifted of_node owns ∙ ap (λ b. b || list_any (λ line. is_some (lifted line)) of_node) some_own ∙ ap (λ b. has (load_numbers loads) n || b) (lines_are of_node) in
-          let value : value_of (fold (λ o line. both add o (lifted line)) owns of_node) ≡ amount_of loads n + sum_by (λ line. line.count * carried_in (below line.node).loads n) of_node = omega (arith, all_sum, own_sum, of_own, of_lines) in
+          let value : value_of (fold (λ o line. both add o (lifted line)) owns of_node) ≡ amount_of loads n + sum_by (λ line. line.count * carried_by_node (below line.node).loads n) of_node = omega (arith, all_sum, own_sum, of_own, of_lines) in
           as_load (fold (λ o line. both add o (lifted line)) owns of_node)
           ∙ ap (λ b. cond b (Some (value_of (fold (λ o line. both add o (lifted line)) owns of_node))) None) some_all
           ∙ ap (λ v. cond (has (load_numbers loads) n || list_any (λ line. has (load_numbers (below line.node).loads) n) of_node) (Some v) None) value
@@ -196,7 +196,7 @@ abbrev most : ℕ
 most = 2 ^ 128 - 1
 
 pub load_gathered : (below : ℕ → RolledValues) (loads : List Load) (of_node : List BillLine) → AllByRecursion (λ line. Rises (load_numbers (below line.node).loads)) of_node → (n : ℕ) →
-    amount_of loads n + sum_by (λ line. line.count * carried_in (below line.node).loads n) of_node ≤ most →
+    amount_of loads n + sum_by (λ line. line.count * carried_by_node (below line.node).loads n) of_node ≤ most →
     load_in (all_loads below loads of_node) n ≡ step_load below (record { node = 0; weight = 0; marks = []; loads = loads }) of_node n
 load_gathered below loads of_node each n h =
     let owns = with_each (λ (load : Load). load.what) joined_loads loads [] in
@@ -214,7 +214,7 @@ loads_rise below loads of_node each =
 -- what is gathered is right by the children
 pub gathered_step : (below : ℕ → RolledValues) (own : OwnValues) (of_node : List BillLine) →
     AllByRecursion (λ line. Rises (hop_numbers (below line.node).hops)) of_node → AllByRecursion (λ line. Rises (load_numbers (below line.node).loads)) of_node →
-    ((what : ℕ) → amount_of own.loads what + sum_by (λ line. line.count * carried_in (below line.node).loads what) of_node < 2 ^ 128) →
+    ((what : ℕ) → amount_of own.loads what + sum_by (λ line. line.count * carried_by_node (below line.node).loads what) of_node < 2 ^ 128) →
     IsStepOver below own of_node (record { weight = own.weight + sum_by (λ line. line.count * (below line.node).weight) of_node; hops = all_hops below own.marks of_node; loads = all_loads below own.loads of_node })
 gathered_step below own of_node each_hops each_loads fits = record {
   weight = refl;

@@ -6,11 +6,11 @@ use Rattle.std.proofs.lemmas.List.{length-map}
 use Rattle.std.proofs.lemmas.List.FromFn.{get_or-range_with_len, length-range_with_len}
 use Rattle.std.proofs.lemmas.List.Sums.{sum_by-take-le, sum_by_more}
 use Rattle.desk_graph.specs.declared.line.BillLine.{BillLine}
-use Rattle.desk_graph.specs.Graph.{Graph, lines_of}
-use Rattle.desk_graph.specs.Reaches.{Falls, is_affected}
+use Rattle.desk_graph.specs.Graph.{Graph, lines_of_node}
+use Rattle.desk_graph.specs.Reaches.{Falls, is_node_affected}
 use Rattle.desk_rollup.specs.Numbers.{RisesFrom, has, hop_numbers, mark_numbers, mark_number, once}
 use Rattle.desk_rollup.specs.Places.{IsKnown, Placed, known, place_at}
-use Rattle.desk_rollup.specs.Rolled.{IsRolled, gathered, mark_count, mark_numbers_below}
+use Rattle.desk_rollup.specs.Rolled.{IsRolled, numbers_below, mark_count, mark_numbers_below}
 use Rattle.desk_rollup.specs.Plan.{nodes_of_owns}
 use Rattle.desk_rollup.specs.Sweep.{AreRolledOf, IsSweep}
 use Rattle.desk_rollup.specs.Values.{KeptValues, OwnValues, RolledValues, hop_total, own_with, rolled_at}
@@ -72,12 +72,12 @@ module _ (lines : List (List BillLine)) (rank : ℕ → ℕ) (ranked : Falls lin
       let all = mark_numbers (own node).marks in
       sym (length-map values.hops (λ hop. mark_number hop.mark))
       ∙ equally_long (hop_numbers values.hops) (mark_numbers_below lines own node) (λ n. rising_once 0 n (hop_numbers values.hops) right.hops_rise)
-      (λ n. subst (λ ns. times n ns ≤ 1) (sym (gathered-step lines rank ranked (λ m. mark_numbers (own m).marks) node)) (once_once n (all ++ flat_map (λ line. gathered lines (λ m. mark_numbers (own m).marks) line.node) (lines_of lines node))))
+      (λ n. subst (λ ns. times n ns ≤ 1) (sym (gathered-step lines rank ranked (λ m. mark_numbers (own m).marks) node)) (once_once n (all ++ flat_map (λ line. numbers_below lines (λ m. mark_numbers (own m).marks) line.node) (lines_of_node lines node))))
       (has_marks lines rank ranked own node values right)
 
 -- the marks of a node that has lines
 abbrev pub marks_at : List (List BillLine) → (ℕ → OwnValues) → ℕ → ℕ
-marks_at lines own node = cond (length (lines_of lines node) == 0) 0 (length (mark_numbers_below lines own node))
+marks_at lines own node = cond (length (lines_of_node lines node) == 0) 0 (length (mark_numbers_below lines own node))
 
 one_at_most : (b : Bool) (n : ℕ) → n ≡ cond b 1 0 → n ≤ 1
 one_at_most true n e = omega (arith, e)
@@ -92,16 +92,16 @@ module _ (g : Graph) (owns : List OwnValues) (kept : KeptValues) (of_owns placed
       omega (
         arith,
         sum_by-take-le counted placed.nodes place,
-        sum_few counted n n (omega arith) placed.nodes (λ node. one_at_most (is_affected g.lines (nodes_of_owns owns) node) (times node placed.nodes) (sweep.affected node))
+        sum_few counted n n (omega arith) placed.nodes (λ node. one_at_most (is_node_affected g.lines (nodes_of_owns owns) node) (times node placed.nodes) (sweep.affected node))
             (λ node there. omega (arith, inside g owns kept of_owns placed lists sweep node there, sweep.bill.sizes)),
         sum_by-take-le counted (range_with_len 0 n) n,
       )
 
   pub more_marks : (place : ℕ) → place < length placed.nodes → (values : RolledValues) → IsRolled g.lines (own_with owns kept.owns) (slice_index placed.nodes place) values →
-      sum_by (marks_at g.lines (own_with owns kept.owns)) (take (place + 1) placed.nodes) ≡ sum_by (marks_at g.lines (own_with owns kept.owns)) (take place placed.nodes) + cond (length (lines_of g.lines (slice_index placed.nodes place)) == 0) 0 (length values.hops)
+      sum_by (marks_at g.lines (own_with owns kept.owns)) (take (place + 1) placed.nodes) ≡ sum_by (marks_at g.lines (own_with owns kept.owns)) (take place placed.nodes) + cond (length (lines_of_node g.lines (slice_index placed.nodes place)) == 0) 0 (length values.hops)
   more_marks place low values right =
       sum_by_more (marks_at g.lines (own_with owns kept.owns)) placed.nodes place 0 low
-      ∙ ap (λ n. sum_by (marks_at g.lines (own_with owns kept.owns)) (take place placed.nodes) + cond (length (lines_of g.lines (slice_index placed.nodes place)) == 0) 0 n)
+      ∙ ap (λ n. sum_by (marks_at g.lines (own_with owns kept.owns)) (take place placed.nodes) + cond (length (lines_of_node g.lines (slice_index placed.nodes place)) == 0) 0 n)
       (sym (hop_count g.lines sweep.bill.ranked.0 sweep.bill.ranked.1 (own_with owns kept.owns) (slice_index placed.nodes place) values right))
 
 module _ (g : Graph) (owns : List OwnValues) (kept : KeptValues) (of_owns placed : Placed) (lists : List (List BillLine)) (sweep : IsSweep g owns kept of_owns placed lists)
@@ -121,18 +121,18 @@ module _ (g : Graph) (owns : List OwnValues) (kept : KeptValues) (of_owns placed
       (λ away. stays g owns kept of_owns placed lists sweep node away there) (λ spot h is. subst (λ n. IsRolled g.lines own n (rolled_at new spot)) is (right spot h))
 
   abbrev counted : ℕ → ℕ
-  counted node = cond (length (lines_of g.lines node) == 0) 0 (length (mark_numbers_below g.lines own node))
+  counted node = cond (length (lines_of_node g.lines node) == 0) 0 (length (mark_numbers_below g.lines own node))
 
   abbrev pub so_far : ℕ → ℕ
   so_far node = sum_by counted (take node (range_with_len 0 (length g.lines)))
 
   pub count_more : (node : ℕ) → node < length g.labels →
-      so_far (node + 1) ≡ so_far node + cond (length (lines_of g.lines node) == 0) 0 (length (known (place_at placed node) kept.rolled new node).hops)
+      so_far (node + 1) ≡ so_far node + cond (length (lines_of_node g.lines node) == 0) 0 (length (known (place_at placed node) kept.rolled new node).hops)
   count_more node there =
       let in_range : node < length g.lines = omega (arith, sweep.bill.sizes, there) in
       sum_by_more counted (range_with_len 0 (length g.lines)) node 0 (omega (arith, length-range_with_len 0 (length g.lines), in_range))
       ∙ ap (λ n. so_far node + counted n) (get_or-range_with_len 0 (length g.lines) node 0 in_range ∙ omega arith)
-      ∙ ap (λ n. so_far node + cond (length (lines_of g.lines node) == 0) 0 n) (sym (hop_count g.lines sweep.bill.ranked.0 sweep.bill.ranked.1 own node (known (place_at placed node) kept.rolled new node) (all_right node there)))
+      ∙ ap (λ n. so_far node + cond (length (lines_of_node g.lines node) == 0) 0 n) (sym (hop_count g.lines sweep.bill.ranked.0 sweep.bill.ranked.1 own node (known (place_at placed node) kept.rolled new node) (all_right node there)))
 
   -- there are no more marks than hops that are kept and new together
   pub count_most : mark_count g.lines own ≤ hop_total kept.rolled + hop_total new
@@ -154,7 +154,7 @@ module _ (g : Graph) (owns : List OwnValues) (kept : KeptValues) (of_owns placed
       counted_most : (node : ℕ) → node < length g.labels → counted node ≤ hops_of (rolled_at kept.rolled node) + put_at placed.nodes new node
       counted_most node there =
           let hops = hop_count g.lines sweep.bill.ranked.0 sweep.bill.ranked.1 own node (known (place_at placed node) kept.rolled new node) (all_right node there) in
-          elim (length (lines_of g.lines node) == 0) as (λ b. cond b 0 (length (mark_numbers_below g.lines own node)) ≤ hops_of (rolled_at kept.rolled node) + put_at placed.nodes new node) [
+          elim (length (lines_of_node g.lines node) == 0) as (λ b. cond b 0 (length (mark_numbers_below g.lines own node)) ≤ hops_of (rolled_at kept.rolled node) + put_at placed.nodes new node) [
             | true ↦ omega arith
             | false ↦ omega (arith, hops, most_at node)
           ]

@@ -3,8 +3,8 @@ use Rattle.std.proofs.Common.{◌≡◌, ℕ, ◌<◌, ◌≤◌, false, ◌||�
 use Rattle.std.proofs.lemmas.Bool.{both_ways, cases_Bool, cases_lt, eq-eqb, eqb-true, or_cases, or_left, false≢true}
 use Rattle.std.proofs.lemmas.List.{get_or_past}
 use Rattle.desk_graph.specs.declared.line.BillLine.{BillLine}
-use Rattle.desk_graph.specs.Bill.{IsBill}
-use Rattle.desk_graph.specs.Graph.{Graph, lines_of}
+use Rattle.desk_graph.specs.Bill.{IsBillGraph}
+use Rattle.desk_graph.specs.Graph.{Graph, lines_of_node}
 use Rattle.desk_rollup.specs.Laws.{AreLight, ChangesOne, IsLight}
 use Rattle.desk_rollup.specs.Plan.{AreRolledUp, CanPrepare}
 use Rattle.desk_rollup.specs.Step.{IsStep, IsStepOver}
@@ -12,8 +12,8 @@ use Rattle.desk_rollup.specs.Values.{KeptValues, OwnValues, amount_of, no_own, o
 use Rattle.desk_rollup.proofs.Rolls.{no_heavier, to_step}
 
 -- values that are right for a bill are right by the children at a node whose lines stay as they are
-pub step_stays : (g : Graph) → IsBill g → (kept : KeptValues) → AreRolledUp g kept → (lines : List (List BillLine)) → (node : ℕ) → node < length kept.rolled →
-    lines_of lines node ≡ lines_of g.lines node → IsStep lines kept node
+pub step_stays : (g : Graph) → IsBillGraph g → (kept : KeptValues) → AreRolledUp g kept → (lines : List (List BillLine)) → (node : ℕ) → node < length kept.rolled →
+    lines_of_node lines node ≡ lines_of_node g.lines node → IsStep lines kept node
 step_stays g bill kept up lines node there same =
     subst (λ of_node. IsStepOver (rolled_at kept.rolled) (own_at kept.owns node) of_node (rolled_at kept.rolled node)) (sym same)
     (to_step g.lines bill.ranked.0 bill.ranked.1 (own_at kept.owns) (rolled_at kept.rolled) node (λ child line. up.rolled child (bill.children node child line)) (rolled_at kept.rolled node) (up.rolled node (omega (arith, there, up.rolled_size))))
@@ -27,7 +27,7 @@ module _ (own : OwnValues) (kept : List OwnValues) where
         | inr away ↦ rw away (light node what)
       ]
 
-pub may_prepare : (g new : Graph) → IsBill g → IsBill new → (kept : KeptValues) → AreRolledUp g kept → (own : OwnValues) → ChangesOne g new own.node → AreLight kept.owns → IsLight own → CanPrepare new (own ∷ []) kept
+pub may_prepare : (g new : Graph) → IsBillGraph g → IsBillGraph new → (kept : KeptValues) → AreRolledUp g kept → (own : OwnValues) → ChangesOne g new own.node → AreLight kept.owns → IsLight own → CanPrepare new (own ∷ []) kept
 may_prepare g new bill new_bill kept up own one light own_light = record {
   distinct = (refl, tt);
   nodes = λ node e.

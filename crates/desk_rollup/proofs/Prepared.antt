@@ -3,9 +3,9 @@ use Rattle.std.proofs.Common.{◌≡◌, ℕ, ◌^◌, ◌<◌, ◌≤◌, Bool,
 use Rattle.std.proofs.lemmas.Bool.{cases_lt}
 use Rattle.std.proofs.lemmas.List.{get_or_past}
 use Rattle.desk_graph.specs.declared.line.BillLine.{BillLine}
-use Rattle.desk_graph.specs.Bill.{IsBill}
-use Rattle.desk_graph.specs.Graph.{Graph, lines_of}
-use Rattle.desk_graph.specs.Reaches.{AreAffected, AreChildrenFirst, is_affected}
+use Rattle.desk_graph.specs.Bill.{IsBillGraph}
+use Rattle.desk_graph.specs.Graph.{Graph, lines_of_node}
+use Rattle.desk_graph.specs.Reaches.{AreAffected, AreChildrenFirst, is_node_affected}
 use Rattle.desk_rollup.specs.Places.{ArePlaced, Placed}
 use Rattle.desk_rollup.specs.Plan.{AllFit, CanPrepare, IsRollPlan, nodes_of_owns}
 use Rattle.desk_rollup.specs.Sweep.{AreRolledOf, IsSweep}
@@ -19,13 +19,13 @@ at_most false = omega arith
 
 -- affected nodes stand there once
 pub affected_once : (lines : List (List BillLine)) (seeds nodes : List ℕ) → AreAffected lines seeds nodes → (n : ℕ) → times n nodes ≤ 1
-affected_once lines seeds nodes affected n = omega (arith, affected n, at_most (is_affected lines seeds n))
+affected_once lines seeds nodes affected n = omega (arith, affected n, at_most (is_node_affected lines seeds n))
 
 -- all lists of what is affected are equally long
 pub affected_count : (lines : List (List BillLine)) (seeds a b : List ℕ) → AreAffected lines seeds a → AreAffected lines seeds b → length a ≡ length b
 affected_count lines seeds a b of_a of_b = same_length a b (λ n. of_a n ∙ sym (of_b n))
 
-module _ (g : Graph) (bill : IsBill g) (owns : List OwnValues) (kept : KeptValues) (can : CanPrepare g owns kept) where
+module _ (g : Graph) (bill : IsBillGraph g) (owns : List OwnValues) (kept : KeptValues) (can : CanPrepare g owns kept) where
   pub few_owns : length (nodes_of_owns owns) ≤ 24576
   few_owns = omega (arith, few (length g.labels) (nodes_of_owns owns) (distinct_once (nodes_of_owns owns) can.distinct) can.nodes, bill.nodes)
 
@@ -34,8 +34,8 @@ module _ (g : Graph) (bill : IsBill g) (owns : List OwnValues) (kept : KeptValue
       omega (arith, few (length g.labels) nodes (affected_once g.lines (nodes_of_owns owns) nodes affected) (affected_inside g bill (nodes_of_owns owns) nodes can.nodes affected), bill.nodes)
 
 -- what a sweep goes by
-pub sweep_is : (g : Graph) (owns : List OwnValues) (kept : KeptValues) (of_owns placed : Placed) (lists : List (List BillLine)) → IsBill g → CanPrepare g owns kept → length kept.owns ≡ length kept.rolled → DoFit kept.rolled →
-    of_owns.nodes ≡ nodes_of_owns owns → ArePlaced of_owns → ArePlaced placed → (nodes : List ℕ) → placed.nodes ≡ nodes → AreAffected g.lines (nodes_of_owns owns) nodes → AreChildrenFirst g.lines nodes → lists ≡ map (lines_of g.lines) nodes →
+pub sweep_is : (g : Graph) (owns : List OwnValues) (kept : KeptValues) (of_owns placed : Placed) (lists : List (List BillLine)) → IsBillGraph g → CanPrepare g owns kept → length kept.owns ≡ length kept.rolled → DoFit kept.rolled →
+    of_owns.nodes ≡ nodes_of_owns owns → ArePlaced of_owns → ArePlaced placed → (nodes : List ℕ) → placed.nodes ≡ nodes → AreAffected g.lines (nodes_of_owns owns) nodes → AreChildrenFirst g.lines nodes → lists ≡ map (lines_of_node g.lines) nodes →
     IsSweep g owns kept of_owns placed lists
 sweep_is g owns kept of_owns placed lists bill can size fit own_nodes own_places places nodes is affected first lines = record {
   bill = bill;
@@ -47,7 +47,7 @@ sweep_is g owns kept of_owns placed lists bill can size fit own_nodes own_places
   places = places;
   affected = subst (AreAffected g.lines (nodes_of_owns owns)) (sym is) affected;
   children_first = subst (AreChildrenFirst g.lines) (sym is) first;
-  lines_are = lines ∙ ap (map (lines_of g.lines)) (sym is);
+  lines_are = lines ∙ ap (map (lines_of_node g.lines)) (sym is);
 }
 
 module _ (g : Graph) (owns : List OwnValues) (kept : KeptValues) (of_owns placed : Placed) (lists : List (List BillLine)) (sweep : IsSweep g owns kept of_owns placed lists)

@@ -5,12 +5,12 @@ use Rattle.std.proofs.Math.Nat.{mul-le-mul_left}
 use Rattle.std.proofs.lemmas.Bool.{cases_Bool, or_parts}
 use Rattle.std.proofs.lemmas.List.Sums.{sum_by-cons}
 use Rattle.desk_graph.specs.declared.line.BillLine.{BillLine}
-use Rattle.desk_graph.specs.Graph.{is_line, lines_of}
+use Rattle.desk_graph.specs.Graph.{is_line_between, lines_of_node}
 use Rattle.desk_graph.specs.Reaches.{Falls}
 use Rattle.desk_rollup.specs.Numbers.{has, hop_numbers, mark_numbers, mark_number, load_numbers}
-use Rattle.desk_rollup.specs.Rolled.{IsRolled, amount, gathered, hop, load, mark_numbers_below, weight}
+use Rattle.desk_rollup.specs.Rolled.{IsRolled, amount, numbers_below, hop, load, mark_numbers_below, weight}
 use Rattle.desk_rollup.specs.Step.{IsStepOver, step_hop, step_load}
-use Rattle.desk_rollup.specs.Values.{OwnValues, RolledValues, amount_of, carried_in}
+use Rattle.desk_rollup.specs.Values.{OwnValues, RolledValues, amount_of, carried_by_node}
 use Rattle.desk_rollup.proofs.Lists.{amount_none, any_same, each_as, each_line, find_same, has_found, is_found, none_any, some_map, sum_none, sum_same}
 use Rattle.desk_rollup.proofs.Ranked.{gathered_has, goes_up, rolled-step}
 
@@ -35,22 +35,22 @@ module _ (lines : List (List BillLine)) (rank : ℕ → ℕ) (ranked : Falls lin
   -- a node has a hop of just its marks
   pub hop_there : (node mark : ℕ) → is_some (hop lines own node mark) ≡ has (mark_numbers_below lines own node) mark
   hop_there node mark =
-      either_some (has (own_marks node) mark) None (λ line. Some line.node) (find (λ line. has (mark_numbers_below lines own line.node) mark) (lines_of lines node))
-      ∙ ap (λ b. has (own_marks node) mark || b) (is_found (λ line. has (mark_numbers_below lines own line.node) mark) (lines_of lines node))
+      either_some (has (own_marks node) mark) None (λ line. Some line.node) (find (λ line. has (mark_numbers_below lines own line.node) mark) (lines_of_node lines node))
+      ∙ ap (λ b. has (own_marks node) mark || b) (is_found (λ line. has (mark_numbers_below lines own line.node) mark) (lines_of_node lines node))
       ∙ sym (gathered_has lines rank ranked own_marks node mark)
 
   -- what isn't there weighs nothing
-  pub none_carried : (what node : ℕ) → has (gathered lines own_substances node) what ≡ false → amount lines own node what ≡ 0
+  pub none_carried : (what node : ℕ) → has (numbers_below lines own_substances node) what ≡ false → amount lines own node what ≡ 0
   none_carried what =
-      goes_up lines rank ranked (λ node. has (gathered lines own_substances node) what ≡ false → amount lines own node what ≡ 0)
+      goes_up lines rank ranked (λ node. has (numbers_below lines own_substances node) what ≡ false → amount lines own node what ≡ 0)
       (λ node below none.
-      let parts = or_parts (has (own_substances node) what) (list_any (λ line. has (gathered lines own_substances line.node) what) (lines_of lines node)) (sym (gathered_has lines rank ranked own_substances node what) ∙ none) in
+      let parts = or_parts (has (own_substances node) what) (list_any (λ line. has (numbers_below lines own_substances line.node) what) (lines_of_node lines node)) (sym (gathered_has lines rank ranked own_substances node what) ∙ none) in
       let of_own = amount_none (own node).loads what parts.0 in
-      let of_lines = sum_none (λ line. line.count * amount lines own line.node what) (lines_of lines node)
-      (each_two (λ line. has (gathered lines own_substances line.node) what ≡ false → amount lines own line.node what ≡ 0) (λ line. has (gathered lines own_substances line.node) what ≡ false) (λ line. line.count * amount lines own line.node what ≡ 0)
-      (λ line f e. ap (λ v. line.count * v) (f e) ∙ omega arith) (lines_of lines node)
-      (each_line (λ child. has (gathered lines own_substances child) what ≡ false → amount lines own child what ≡ 0) (lines_of lines node) below)
-      (none_any (λ line. has (gathered lines own_substances line.node) what) (lines_of lines node) parts.1)) in
+      let of_lines = sum_none (λ line. line.count * amount lines own line.node what) (lines_of_node lines node)
+      (each_two (λ line. has (numbers_below lines own_substances line.node) what ≡ false → amount lines own line.node what ≡ 0) (λ line. has (numbers_below lines own_substances line.node) what ≡ false) (λ line. line.count * amount lines own line.node what ≡ 0)
+      (λ line f e. ap (λ v. line.count * v) (f e) ∙ omega arith) (lines_of_node lines node)
+      (each_line (λ child. has (numbers_below lines own_substances child) what ≡ false → amount lines own child what ≡ 0) (lines_of_node lines node) below)
+      (none_any (λ line. has (numbers_below lines own_substances line.node) what) (lines_of_node lines node) parts.1)) in
       omega (arith, rolled-step lines rank ranked (λ n. amount_of (own n).loads what) node, of_own, of_lines))
     where
       each_two : (P Q R : BillLine → Type 0) → ((line : BillLine) → P line → Q line → R line) → (of_node : List BillLine) → AllByRecursion P of_node → AllByRecursion Q of_node → AllByRecursion R of_node
@@ -68,22 +68,22 @@ module _ (lines : List (List BillLine)) (rank : ℕ → ℕ) (ranked : Falls lin
     is_load true n = refl
     is_load false n = refl
 
-    pub has_substances : (what : ℕ) → has (load_numbers values.loads) what ≡ has (gathered lines own_substances node) what
+    pub has_substances : (what : ℕ) → has (load_numbers values.loads) what ≡ has (numbers_below lines own_substances node) what
     has_substances what =
         has_found (λ l. l.what) values.loads what ∙ sym (some_map (λ l. l.amount) (find (λ l. l.what == what) values.loads))
-        ∙ ap (λ o. is_some o) (right.loads what) ∙ is_load (has (gathered lines own_substances node) what) (amount lines own node what)
+        ∙ ap (λ o. is_some o) (right.loads what) ∙ is_load (has (numbers_below lines own_substances node) what) (amount lines own node what)
 
-    pub carried_is : (what : ℕ) → carried_in values.loads what ≡ amount lines own node what
+    pub carried_is : (what : ℕ) → carried_by_node values.loads what ≡ amount lines own node what
     carried_is what =
         ap (λ o. unwrap_or o 0) (right.loads what)
-        ∙ elim (cases_Bool (has (gathered lines own_substances node) what)) [
+        ∙ elim (cases_Bool (has (numbers_below lines own_substances node) what)) [
           | inl there ↦ rw there refl
           | inr none ↦ rw none (sym (none_carried what node none))
         ]
 
-  module _ (below : ℕ → RolledValues) (node : ℕ) (right : (child : ℕ) → is_line lines node child ≡ true → IsRolled lines own child (below child)) where
+  module _ (below : ℕ → RolledValues) (node : ℕ) (right : (child : ℕ) → is_line_between lines node child ≡ true → IsRolled lines own child (below child)) where
     abbrev of_node : List BillLine
-    of_node = lines_of lines node
+    of_node = lines_of_node lines node
 
     each_right : AllByRecursion (λ line. IsRolled lines own line.node (below line.node)) of_node
     each_right = each_line (λ child. IsRolled lines own child (below child)) of_node right
@@ -105,15 +105,15 @@ module _ (lines : List (List BillLine)) (rank : ℕ → ℕ) (ranked : Falls lin
 
     load_by : (what : ℕ) → step_load below (own node) of_node what ≡ load lines own node what
     load_by what =
-        ap (λ b. cond (has (own_substances node) what || b) (Some (amount_of (own node).loads what + sum_by (λ line. line.count * carried_in (below line.node).loads what) of_node)) None)
-        (any_same (λ line. has (load_numbers (below line.node).loads) what) (λ line. has (gathered lines own_substances line.node) what) of_node
-        (each_as (λ line. IsRolled lines own line.node (below line.node)) (λ line. has (load_numbers (below line.node).loads) what ≡ has (gathered lines own_substances line.node) what)
+        ap (λ b. cond (has (own_substances node) what || b) (Some (amount_of (own node).loads what + sum_by (λ line. line.count * carried_by_node (below line.node).loads what) of_node)) None)
+        (any_same (λ line. has (load_numbers (below line.node).loads) what) (λ line. has (numbers_below lines own_substances line.node) what) of_node
+        (each_as (λ line. IsRolled lines own line.node (below line.node)) (λ line. has (load_numbers (below line.node).loads) what ≡ has (numbers_below lines own_substances line.node) what)
         (λ line is. has_substances line.node (below line.node) is what) of_node each_right))
-        ∙ ap (λ b. cond b (Some (amount_of (own node).loads what + sum_by (λ line. line.count * carried_in (below line.node).loads what) of_node)) None) (sym (gathered_has lines rank ranked own_substances node what))
-        ∙ ap (λ n. cond (has (gathered lines own_substances node) what) (Some n) None)
+        ∙ ap (λ b. cond b (Some (amount_of (own node).loads what + sum_by (λ line. line.count * carried_by_node (below line.node).loads what) of_node)) None) (sym (gathered_has lines rank ranked own_substances node what))
+        ∙ ap (λ n. cond (has (numbers_below lines own_substances node) what) (Some n) None)
         (ap (λ s. amount_of (own node).loads what + s)
-        (sum_same (λ line. line.count * carried_in (below line.node).loads what) (λ line. line.count * amount lines own line.node what) of_node
-        (each_as (λ line. IsRolled lines own line.node (below line.node)) (λ line. line.count * carried_in (below line.node).loads what ≡ line.count * amount lines own line.node what)
+        (sum_same (λ line. line.count * carried_by_node (below line.node).loads what) (λ line. line.count * amount lines own line.node what) of_node
+        (each_as (λ line. IsRolled lines own line.node (below line.node)) (λ line. line.count * carried_by_node (below line.node).loads what ≡ line.count * amount lines own line.node what)
         (λ line is. ap (λ v. line.count * v) (carried_is line.node (below line.node) is what)) of_node each_right))
         ∙ sym (rolled-step lines rank ranked (λ n. amount_of (own n).loads what) node))
 
@@ -138,8 +138,8 @@ module _ (lines : List (List BillLine)) (rank : ℕ → ℕ) (ranked : Falls lin
     }
 
   pub step_rolled : (below : ℕ → RolledValues) (node : ℕ) (values : RolledValues) →
-      ((child : ℕ) → is_line lines node child ≡ true → IsRolled lines own child (below child)) →
-      IsStepOver below (own node) (lines_of lines node) values → IsRolled lines own node values
+      ((child : ℕ) → is_line_between lines node child ≡ true → IsRolled lines own child (below child)) →
+      IsStepOver below (own node) (lines_of_node lines node) values → IsRolled lines own node values
   step_rolled below node values right step = by_step below node right values step
 
   -- where no node has more of a substance of its own than it weighs, none carries more
@@ -152,10 +152,10 @@ module _ (lines : List (List BillLine)) (rank : ℕ → ℕ) (ranked : Falls lin
         rolled-step lines rank ranked (λ n. amount_of (own n).loads what) node,
         rolled-step lines rank ranked (λ n. (own n).weight) node,
         own_within node,
-        sum_within (λ line. line.count * amount lines own line.node what) (λ line. line.count * weight lines own line.node) (lines_of lines node)
+        sum_within (λ line. line.count * amount lines own line.node what) (λ line. line.count * weight lines own line.node) (lines_of_node lines node)
             (each_as (λ line. amount lines own line.node what ≤ weight lines own line.node) (λ line. line.count * amount lines own line.node what ≤ line.count * weight lines own line.node)
-            (λ line h. mul-le-mul_left line.count h) (lines_of lines node)
-            (each_line (λ child. amount lines own child what ≤ weight lines own child) (lines_of lines node) within)),
+            (λ line h. mul-le-mul_left line.count h) (lines_of_node lines node)
+            (each_line (λ child. amount lines own child what ≤ weight lines own child) (lines_of_node lines node) within)),
       ))
     where
       sum_within : (f h : BillLine → ℕ) (xs : List BillLine) → AllByRecursion (λ x. f x ≤ h x) xs → sum_by f xs ≤ sum_by h xs

@@ -1,8 +1,8 @@
 -- What a caller of roll-ups may rely on.
 use Rattle.std.specs.Prelude.{◌≡◌, ℕ, ◌<◌, ◌≤◌, List, [], ◌∷◌, length}
 use Rattle.desk_graph.specs.declared.line.BillLine.{BillLine}
-use Rattle.desk_graph.specs.Bill.{IsBill}
-use Rattle.desk_graph.specs.Graph.{Graph, lines_of}
+use Rattle.desk_graph.specs.Bill.{IsBillGraph}
+use Rattle.desk_graph.specs.Graph.{Graph, lines_of_node}
 use Rattle.desk_rollup.specs.Plan.{AreRolledUp, CanPrepare}
 use Rattle.desk_rollup.specs.Rolled.{amount, weight}
 use Rattle.desk_rollup.specs.Step.{IsStep}
@@ -10,12 +10,12 @@ use Rattle.desk_rollup.specs.Values.{KeptValues, OwnValues, amount_of, own_at}
 
 -- values that are right for a bill are right by the children at each node whose lines stay as they are
 abbrev pub StaysRight : Type 0
-StaysRight = (g : Graph) → IsBill g → (kept : KeptValues) → AreRolledUp g kept → (lines : List (List BillLine)) → (node : ℕ) → node < length kept.rolled →
-    lines_of lines node ≡ lines_of g.lines node → IsStep lines kept node
+StaysRight = (g : Graph) → IsBillGraph g → (kept : KeptValues) → AreRolledUp g kept → (lines : List (List BillLine)) → (node : ℕ) → node < length kept.rolled →
+    lines_of_node lines node ≡ lines_of_node g.lines node → IsStep lines kept node
 
 -- where no node has more of a substance of its own than it weighs, none carries more of it than it weighs
 abbrev pub StaysLighter : Type 0
-StaysLighter = (g : Graph) → IsBill g → (own : ℕ → OwnValues) → (what : ℕ) → ((node : ℕ) → amount_of (own node).loads what ≤ (own node).weight) →
+StaysLighter = (g : Graph) → IsBillGraph g → (own : ℕ → OwnValues) → (what : ℕ) → ((node : ℕ) → amount_of (own node).loads what ≤ (own node).weight) →
     (node : ℕ) → amount g.lines own node what ≤ weight g.lines own node
 
 -- no node has more of a substance of its own than it weighs
@@ -31,9 +31,9 @@ pub record ChangesOne (g new : Graph) (node : ℕ) : Type 0 where
   pub there : node < length new.labels
   pub grows : length g.labels ≤ length new.labels
   pub added : (other : ℕ) → length g.labels ≤ other → other < length new.labels → other ≡ node
-  pub lines : (other : ℕ) → (other ≡ node → ⊥) → lines_of new.lines other ≡ lines_of g.lines other
+  pub lines : (other : ℕ) → (other ≡ node → ⊥) → lines_of_node new.lines other ≡ lines_of_node g.lines other
 
 -- where an edit changes one node, the roll-ups may be prepared with new own values of that node
 abbrev pub MayPrepareOne : Type 0
-MayPrepareOne = (g new : Graph) → IsBill g → IsBill new → (kept : KeptValues) → AreRolledUp g kept → (own : OwnValues) →
+MayPrepareOne = (g new : Graph) → IsBillGraph g → IsBillGraph new → (kept : KeptValues) → AreRolledUp g kept → (own : OwnValues) →
     ChangesOne g new own.node → AreLight kept.owns → IsLight own → CanPrepare new (own ∷ []) kept

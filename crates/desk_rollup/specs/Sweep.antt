@@ -1,9 +1,9 @@
 -- What a sweep over the affected nodes goes by.
 use Rattle.std.specs.Prelude.{◌≡◌, ℕ, ◌<◌, List, Option, Some, None, length, map, slice_index, if◌then◌else◌}
 use Rattle.desk_graph.specs.declared.line.BillLine.{BillLine}
-use Rattle.desk_graph.specs.Bill.{IsBill}
+use Rattle.desk_graph.specs.Bill.{IsBillGraph}
 use Rattle.std.specs.Ordering.{is_lt}
-use Rattle.desk_graph.specs.Graph.{Graph, label_cmp, label_of, lines_of}
+use Rattle.desk_graph.specs.Graph.{Graph, label_cmp, label_of, lines_of_node}
 use Rattle.desk_graph.specs.Reaches.{AreAffected, AreChildrenFirst}
 use Rattle.desk_rollup.specs.Places.{ArePlaced, Placed}
 use Rattle.desk_rollup.specs.Plan.{AllFit, CanPrepare, IsFirstTooLarge, nodes_of_owns}
@@ -13,7 +13,7 @@ use Rattle.desk_rollup.specs.Values.{DoFit, KeptValues, OwnValues, RolledValues,
 -- the new own values go with the bill and with what is kept, the places are those of their nodes and of the affected nodes, children
 -- first, the lines are those of the affected nodes, and no weight that is kept is 2^128 or more
 pub record IsSweep (g : Graph) (owns : List OwnValues) (kept : KeptValues) (of_owns placed : Placed) (lists : List (List BillLine)) : Type 0 where
-  pub bill : IsBill g
+  pub bill : IsBillGraph g
   pub can : CanPrepare g owns kept
   pub owns_size : length kept.owns ≡ length kept.rolled
   pub fit : DoFit kept.rolled
@@ -22,7 +22,7 @@ pub record IsSweep (g : Graph) (owns : List OwnValues) (kept : KeptValues) (of_o
   pub places : ArePlaced placed
   pub affected : AreAffected g.lines (nodes_of_owns owns) placed.nodes
   pub children_first : AreChildrenFirst g.lines placed.nodes
-  pub lines_are : lists ≡ map (lines_of g.lines) placed.nodes
+  pub lines_are : lists ≡ map (lines_of_node g.lines) placed.nodes
 
 -- the values are those of the nodes
 abbrev pub AreRolledOf : Graph → List OwnValues → KeptValues → List ℕ → List RolledValues → Type 0

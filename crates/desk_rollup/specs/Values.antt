@@ -56,8 +56,8 @@ abbrev pub own_with : List OwnValues → List OwnValues → ℕ → OwnValues
 own_with new kept node = unwrap_or (find (λ own. own.node == node) new) (own_at kept node)
 
 -- how much a node with these loads carries of a substance
-abbrev pub carried_in : List Load → ℕ → ℕ
-carried_in loads what = unwrap_or (load_in loads what) 0
+abbrev pub carried_by_node : List Load → ℕ → ℕ
+carried_by_node loads what = unwrap_or (load_in loads what) 0
 
 -- no weight is 2^128 or more
 abbrev pub DoFit : List RolledValues → Type 0

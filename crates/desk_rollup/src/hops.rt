@@ -1,4 +1,4 @@
-ghost use Rattle.std.specs.Prelude.{◌≡◌, ◌<◌, ◌≤◌, [], length, slice_index_or, true, false, IfOk};
+ghost use Rattle.std.specs.Prelude.{◌≡◌, ◌↔◌, ◌<◌, ◌≤◌, [], length, slice_index_or, true, false, IfOk, IsTrue};
 ghost use Rattle.desk_rollup.specs.Numbers.{IsPlaceOf, Rises, has, hop_numbers, mark_number};
 
 use crate::hop::Hop;
@@ -13,10 +13,12 @@ use std::sync::ArcSlice;
 pub struct Hops {
     /// The list, or none where it has no hop: that takes no memory.
     shared: Option<ArcSlice<Hop>>,
+    /// How many hops it has, so that nobody goes to the list to learn that.
+    count: usize,
 }
 
 impl Model for Hops {
-    ghost use Rattle.std.specs.Prelude.{List, []};
+    ghost use Rattle.std.specs.Prelude.{◌≡◌, List, [], length};
     ghost use Rattle.std.specs.Option.{option_map_or};
     ghost use Rattle.std.specs.Arc.{arc_slice_items};
     ghost use Rattle.desk_rollup.specs.declared.hop.Hop.{Hop};
@@ -24,6 +26,8 @@ impl Model for Hops {
     ghost Value = { List Hop };
 
     ghost view = { λ hops. option_map_or arc_slice_items hops.shared [] };
+
+    ghost invariant = { λ hops. hops.count ≡ length (option_map_or arc_slice_items hops.shared []) };
 }
 
 impl Hops {
@@ -31,7 +35,10 @@ impl Hops {
     pub(crate) fn none() -> Hops
         ensures { result ≡ [] }
     {
-        Hops { shared: None }
+        Hops {
+            shared: None,
+            count: 0,
+        }
     }
 
     /// A list of its own with these hops.
@@ -44,6 +51,7 @@ impl Hops {
         let shared = ArcSlice::from_slice(alloc, hops)?;
         Ok(Hops {
             shared: Some(shared),
+            count: hops.len(),
         })
     }
 
@@ -57,7 +65,22 @@ impl Hops {
         let shared = shared.clone()?;
         Ok(Hops {
             shared: Some(shared),
+            count: self.count,
         })
+    }
+
+    /// How many hops there are. The list isn't looked at.
+    pub fn len(&self) -> usize
+        ensures { result ≡ length self.now }
+    {
+        self.count
+    }
+
+    /// Whether there is no hop. The list isn't looked at.
+    pub fn is_empty(&self) -> bool
+        ensures { IsTrue result ↔ (self.now ≡ []) }
+    {
+        self.count == 0
     }
 
     /// The hops, as they stand here.

@@ -48,14 +48,14 @@ impl Rolled {
         ensures hops { result ≡ true → self.now.hops ≡ [] }
         ensures loads { result ≡ true → self.now.loads ≡ [] }
     {
-        self.hops.as_slice().is_empty() && self.loads.is_empty()
+        self.hops.is_empty() && self.loads.is_empty()
     }
 
     /// How many hops the node has.
     pub(crate) fn hop_count(&self) -> usize
         ensures { result ≡ length self.now.hops }
     {
-        self.hops.as_slice().len()
+        self.hops.len()
     }
 
     /// The same values once more, with the same list of hops.

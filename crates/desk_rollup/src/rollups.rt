@@ -1,5 +1,5 @@
 ghost use Rattle.std.specs.Prelude.{◌≡◌, ◌+◌, ◌<◌, ◌≤◌, ℕ, true, false, [], List, None, length, map, slice_index, unwrap_or, vec_capacity, IfErr, IfOk, IfSome};
-ghost use Rattle.desk_graph.specs.Graph.{Graph, lines_of};
+ghost use Rattle.desk_graph.specs.Graph.{Graph, lines_of_node};
 ghost use Rattle.desk_graph.specs.Reaches.{AreAffected, has_node};
 ghost use Rattle.desk_rollup.specs.Chain.{hop_chain, next_hop};
 ghost use Rattle.desk_rollup.specs.Numbers.{Rises, hop_numbers, mark_number};
@@ -294,7 +294,7 @@ fn lists_of<'b, B: BillView, L: Ledger>(
     steps: &mut Steps<L>,
 ) -> Result<Vec<&'b [BillLine]>, OutOfMemory>
     requires { (place : ℕ) → place < length nodes.now → slice_index nodes.now place < length (B.graph bill.now).labels }
-    ensures lists { IfOk result (λ lists. map (λ list. list.now) lists.items ≡ map (lines_of (B.graph bill.now).lines) nodes.now) }
+    ensures lists { IfOk result (λ lists. map (λ list. list.now) lists.items ≡ map (lines_of_node (B.graph bill.now).lines) nodes.now) }
     ensures steps { IfOk result (λ lists. steps.new ≡ steps.old + length nodes.now) }
     ensures few_steps { steps.new ≤ steps.old + length nodes.now }
 {

@@ -1,5 +1,5 @@
 ghost use Rattle.std.specs.Prelude.{◌≡◌, ◌==◌, ◌+◌, ◌<◌, ◌≤◌, length, map, nat_lt, if◌then◌else◌, IfErr, IfNone, IfOk, IfSome};
-ghost use Rattle.desk_graph.specs.Graph.{lines_of};
+ghost use Rattle.desk_graph.specs.Graph.{lines_of_node};
 ghost use Rattle.desk_graph.specs.Reaches.{has_node};
 ghost use Rattle.desk_rollup.specs.Places.{IsKnown, known, place_at};
 ghost use Rattle.desk_rollup.specs.Plan.{AllFit, IsWithinLimits, IsRefused, nodes_of_owns};
@@ -215,7 +215,7 @@ impl<'a, B: BillView> Sweep<'a, B> {
         requires there { node < length (B.graph self.now.bill.now).labels }
         requires known { IsKnown (place_at values.now.places.now node) values.now.kept.now values.now.new.now node }
         requires small { sum ≤ 4194304 }
-        ensures { result ≡ sum + (if length (lines_of (B.graph self.now.bill.now).lines node) == 0 then 0
+        ensures { result ≡ sum + (if length (lines_of_node (B.graph self.now.bill.now).lines node) == 0 then 0
             else length (known (place_at values.now.places.now node) values.now.kept.now values.now.new.now node).hops) }
     {
         if self.bill.line_count(node) == 0 {

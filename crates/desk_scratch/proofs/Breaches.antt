@@ -1,5 +1,5 @@
 -- What the tests on breaches say: of a rule, of a material, of what a part reaches, and how many there are.
-use Rattle.std.proofs.Common.{◌≡◌, ◌≢◌, ◌∙◌, sym, refl, subst, ℕ, ◌+◌, ◌-◌, ◌<◌, Bool, true, false, cond, List, [], ◌∷◌, length, get_or, count_by, sum_by, arith}
+use Rattle.std.proofs.Common.{◌≡◌, ◌≢◌, ◌∙◌, sym, refl, ℕ, ◌+◌, ◌<◌, Bool, true, false, cond, List, [], ◌∷◌, length, get_or, count_by, sum_by, arith}
 use Rattle.std.specs.Prelude.{◌&&◌, ◌||◌, ◌↔◌}
 use Rattle.std.specs.List.{list_any}
 use Rattle.std.proofs.lemmas.Bool.{false≢true}
@@ -8,10 +8,10 @@ use Rattle.std.proofs.lemmas.List.Sums.{sum_by-cons}
 use Rattle.desk_text.specs.Day.{Date}
 use Rattle.desk_law.specs.declared.kind.Kind.{Kind}
 use Rattle.desk_law.specs.declared.rule.Rule.{Rule}
-use Rattle.desk_law.specs.declared.rule.Rule.TheVariants.{Lead, Mercury, Cadmium, ChromiumVi, Pbb, Pbde, Dehp, Bbp, Dbp, Dibp}
 use Rattle.desk_law.specs.declared.verdict.Verdict.{Verdict}
 use Rattle.desk_law.specs.declared.verdict.Verdict.TheVariants.{Within, NotInForce, Exempt, Breach}
-use Rattle.desk_law.specs.Rule.{all_rules, rule_number}
+use Rattle.desk_law.specs.Rule.{restricting_rules}
+use Rattle.desk_law.proofs.Rules.{no_rule}
 use Rattle.desk_model.specs.declared.rows.material.MaterialRow.{MaterialRow}
 use Rattle.desk_model.specs.Lists.{Lists}
 use Rattle.desk_model.proofs.Elements.{any-filter, count_by-cons}
@@ -33,37 +33,6 @@ none-at p xs i d none inside = by (p (get_or xs i d)) refl
     by true e = absurd (false≢true (sym none ∙ list_any_at p xs i d inside e))
     by false e = refl
 
--- a rule is found by its number
-pub rule-at : (rule : Rule) → get_or all_rules (rule_number rule - 1) Lead ≡ rule
-unfolding rule_number
-rule-at Lead = refl
-rule-at Mercury = refl
-rule-at Cadmium = refl
-rule-at ChromiumVi = refl
-rule-at Pbb = refl
-rule-at Pbde = refl
-rule-at Dehp = refl
-rule-at Bbp = refl
-rule-at Dbp = refl
-rule-at Dibp = refl
-
-pub rule-inside : (rule : Rule) → rule_number rule - 1 < 10
-unfolding rule_number
-rule-inside Lead = omega arith
-rule-inside Mercury = omega arith
-rule-inside Cadmium = omega arith
-rule-inside ChromiumVi = omega arith
-rule-inside Pbb = omega arith
-rule-inside Pbde = omega arith
-rule-inside Dehp = omega arith
-rule-inside Bbp = omega arith
-rule-inside Dbp = omega arith
-rule-inside Dibp = omega arith
-
--- what is so at each place of the list of rules is so of each rule
-each_rule : (p : Rule → Bool) → list_any p all_rules ≡ false → (rule : Rule) → p rule ≡ false
-each_rule p none rule = subst (λ r. p r ≡ false) (rule-at rule) (none-at p all_rules (rule_number rule - 1) Lead none (rule-inside rule))
-
 not_breach : (v : Verdict) → is_breach v ≡ false → v ≢ Breach
 not_breach Breach h = λ e. false≢true (sym h)
 not_breach Within h = λ e. cc
@@ -80,9 +49,9 @@ module _ (t : Lists) (kind : Kind) (day : Date) where
   -- a material breaches no rule where the test says so
   pub none-breached : (material : MaterialRow) → (has_breach t kind day material ≡ false) ↔ BreachesNone t kind day material
   none-breached material = (
-    λ none rule. not_breach (verdict_on t kind day material rule) (each_rule (is_breached t kind day material) none rule),
-    λ clean. list_any_none (is_breached t kind day material) all_rules
-        (λ i d inside. from_not_breach (verdict_on t kind day material (get_or all_rules i d)) (clean (get_or all_rules i d))),
+    λ none rule. not_breach (verdict_on t kind day material rule) (no_rule (is_breached t kind day material) none rule),
+    λ clean. list_any_none (is_breached t kind day material) restricting_rules
+        (λ i d inside. from_not_breach (verdict_on t kind day material (get_or restricting_rules i d)) (clean (get_or restricting_rules i d))),
   )
 
   -- and so does each that a part reaches
@@ -131,6 +100,6 @@ sum-none f p each (x ∷ xs) = rw (sum_by-cons f x xs) (by (f x) (p x) (each x) 
 
 pub none-counted : (t : Lists) (kind : Kind) (day : Date) (part : List ℕ) → (breach_count t kind day part ≡ 0) ↔ ReachesNoBreach t kind day part
 none-counted t kind day part =
-    both (sum-none (λ material. count_by (is_breached t kind day material) all_rules) (has_breach t kind day)
-    (λ material. count-none (is_breached t kind day material) all_rules) (materials_in t part))
+    both (sum-none (λ material. count_by (is_breached t kind day material) restricting_rules) (has_breach t kind day)
+    (λ material. count-none (is_breached t kind day material) restricting_rules) (materials_in t part))
     (none-reached t kind day part)

@@ -10,7 +10,8 @@ use Rattle.desk_law.specs.declared.verdict.Verdict.{Verdict}
 use Rattle.desk_law.specs.declared.verdict.Verdict.TheVariants.{Within, NotInForce, Breach}
 use Rattle.desk_law.specs.InForce.{first_day, in_force_from}
 use Rattle.desk_law.specs.Restriction.{restriction_of}
-use Rattle.desk_law.specs.Rule.{all_rules, rule_number}
+use Rattle.desk_law.specs.Rule.{restricting_rules, rule_number}
+use Rattle.desk_law.proofs.Rules.{rule_at, rule_inside}
 use Rattle.desk_law.specs.Verdict.{covering_place, exempt_or_breach, verdict, verdict_by}
 use Rattle.desk_model.specs.declared.rows.material.MaterialRow.{MaterialRow}
 use Rattle.desk_model.specs.declared.rows.product.ProductRow.{ProductRow}
@@ -28,8 +29,6 @@ use Rattle.desk_scratch.specs.Judgement.{is_breach, reaches_breach}
 use Rattle.desk_scratch.specs.Laws.{AreBreachesChained}
 use Rattle.desk_scratch.specs.Rohs.{asked_product_line, over_line, over_lines, rohs_text}
 use Rattle.desk_scratch.specs.SharedLines.{chain_line, compliance_line, version_line}
-use Rattle.desk_scratch.proofs.Breaches.{rule-at}
-use Rattle.desk_scratch.proofs.Breaches.{rule-inside}
 
 -- the piece stands in the text
 pub record Stands (piece text : List ℕ) : Type 0 where
@@ -94,9 +93,9 @@ module _ (t : Lists) (product : ProductRow) (day : Date) where
       let material = get_or t.materials i d in
       let by_rule = λ (m : MaterialRow). flat_map (over_lines t product day m) (rules_over t m) in
       let in_rules : Stands (over_lines t product day material rule) (by_rule material) =
-      subst (λ r. Stands (over_lines t product day material r) (by_rule material)) (rule-at rule)
-      (stands-at (over_lines t product day material) (λ r. is_over_limit t r material) all_rules (rule_number rule - 1) Lead (rule-inside rule)
-      (subst (λ r. is_over_limit t r material ≡ true) (sym (rule-at rule)) (breach-over material rule e))) in
+      subst (λ r. Stands (over_lines t product day material r) (by_rule material)) (rule_at rule)
+      (stands-at (over_lines t product day material) (λ r. is_over_limit t r material) restricting_rules (rule_number rule - 1) Lead (rule_inside rule)
+      (subst (λ r. is_over_limit t r material ≡ true) (sym (rule_at rule)) (breach-over material rule e))) in
       let in_materials : Stands (by_rule material) (flat_map by_rule (materials_in t product.part)) =
       stands-at by_rule (λ m. reaches t product.part m.code) t.materials i d inside reached in
       subst (λ (piece : List ℕ). Stands piece (rohs_text t product day)) (lines-of-breach material rule e)

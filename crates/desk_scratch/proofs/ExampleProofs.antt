@@ -14,7 +14,7 @@ use Rattle.desk_law.specs.Rule.{rule_code, rule_number}
 use Rattle.desk_law.specs.Restriction.{restriction_of}
 use Rattle.desk_law.specs.Verdict.{verdict, verdict_by}
 use Rattle.desk_model.specs.EditText.{edit_text, ticket_code}
-use Rattle.desk_model.specs.Effect.{entered, made}
+use Rattle.desk_model.specs.Effect.{with_edit_entered, with_edit_made}
 use Rattle.desk_model.specs.Start.{start}
 use Rattle.desk_findings.specs.Above.{content, is_above}
 use Rattle.desk_findings.specs.Chain.{chain_within}
@@ -42,7 +42,7 @@ use Rattle.desk_scratch.specs.Examples.Sums.{SumAnswers}
 
 -- what the examples compute with
 unfoldable pub examples : Bool
-unfolding annex_kinds annex_number asked_code_line asked_day_line asked_part_line asked_product_line asked_year_line carried_line cas_of chain_line chain_within child_line code_of content count_line count_lines covers date_text digits due_day duties duty_count_line duty_line duty_lines edit_text entered eval exemption_number_of first_day has_kind is_above is_over is_valid_on kind_code kind_line kind_place kinds_text limit_of made material_block material_line_with material_text name_line notice_count_line notice_line notices over_line over_lines part_line part_text product_line reach33_text reach7_text reaches_within restriction_of rohs_text rolled_within rule_code rule_line rule_number share six_months_after standing_line start summary_text ticket_code tonnage user_line uses_text verdict verdict_by verdict_on verdict_words version_line
+unfolding annex_kinds annex_number asked_code_line asked_day_line asked_part_line asked_product_line asked_year_line carried_line cas_of chain_line chain_within child_line code_of content count_line count_lines covers date_text digits due_day duties duty_count_line duty_line duty_lines edit_text with_edit_entered eval exemption_number_of first_day has_kind is_above is_over is_valid_on kind_code kind_line kind_place kinds_text limit_of with_edit_made material_block material_line_with material_text name_line notice_count_line notice_line notices over_line over_lines part_line part_text product_line reach33_text reach7_text reaches_within restriction_of rohs_text rolled_within rule_code rule_line rule_number share six_months_after standing_line start summary_text ticket_code tonnage user_line uses_text verdict verdict_by verdict_on verdict_words version_line
 examples = true
 
 pub chain_answers : ChainAnswers

@@ -9,7 +9,7 @@ use Rattle.desk_text.specs.Code.{code_cmp}
 use Rattle.desk_text.specs.Day.{Date}
 use Rattle.desk_law.specs.declared.kind.Kind.{Kind}
 use Rattle.desk_law.specs.declared.rule.Rule.{Rule}
-use Rattle.desk_law.specs.Rule.{all_rules}
+use Rattle.desk_law.specs.Rule.{restricting_rules}
 use Rattle.desk_model.specs.declared.rows.candidate.CandidateRow.{CandidateRow}
 use Rattle.desk_model.specs.declared.rows.material.MaterialRow.{MaterialRow}
 use Rattle.desk_model.specs.declared.rows.part.PartRow.{PartRow}
@@ -92,7 +92,7 @@ module _ (t : Lists) (ordered : IsOrdered t) (part : List ℕ) where
     any_of_material material found =
         any-map (is_finding_breached t kind day) (over material.code) (rules_over t material)
         ∙ ap (λ row. list_any (λ rule. option_map_or (λ one. is_breached t kind day one rule) row false) (rules_over t material)) found
-        ∙ any-kept (λ rule. is_over_limit t rule material) (is_breached t kind day material) (only_over material) all_rules
+        ∙ any-kept (λ rule. is_over_limit t rule material) (is_breached t kind day material) (only_over material) restricting_rules
 
     -- some finding is a breach exactly where a material that is reached breaches a rule
     pub found_breach : list_any (is_finding_breached t kind day) (findings t part) ≡ reaches_breach t kind day part
@@ -110,12 +110,12 @@ module _ (t : Lists) (ordered : IsOrdered t) (part : List ℕ) where
         any-append breach (flat_map (findings_on t) (materials_in t part)) (flat_map (findings_of_article t) (articles_in t part))
         ∙ rw (first, second) (or_none (reaches_breach t kind day part))
 
-    count_of_material : (material : MaterialRow) → material_row t material.code ≡ Some material → count_by (is_finding_breached t kind day) (findings_on t material) ≡ count_by (is_breached t kind day material) all_rules
+    count_of_material : (material : MaterialRow) → material_row t material.code ≡ Some material → count_by (is_finding_breached t kind day) (findings_on t material) ≡ count_by (is_breached t kind day material) restricting_rules
     unfolding is_finding_breached
     count_of_material material found =
         count-map (is_finding_breached t kind day) (over material.code) (rules_over t material)
         ∙ ap (λ row. count_by (λ rule. option_map_or (λ one. is_breached t kind day one rule) row false) (rules_over t material)) found
-        ∙ count-kept (λ rule. is_over_limit t rule material) (is_breached t kind day material) (only_over material) all_rules
+        ∙ count-kept (λ rule. is_over_limit t rule material) (is_breached t kind day material) (only_over material) restricting_rules
 
     -- there are as many breaches among the findings as the materials that are reached have
     pub found_breaches : count_by (is_finding_breached t kind day) (findings t part) ≡ breach_count t kind day part
@@ -124,8 +124,8 @@ module _ (t : Lists) (ordered : IsOrdered t) (part : List ℕ) where
         let breach = is_finding_breached t kind day in
         let first : count_by breach (flat_map (findings_on t) (materials_in t part)) ≡ breach_count t kind day part =
         count-flat_map breach (findings_on t) (materials_in t part)
-        ∙ sum_same (λ material. count_by breach (findings_on t material)) (λ material. count_by (is_breached t kind day material) all_rules) (materials_in t part)
-        (each_map (λ (material : MaterialRow). material_row t material.code ≡ Some material) (λ material. count_by breach (findings_on t material) ≡ count_by (is_breached t kind day material) all_rules) count_of_material (materials_in t part) materials_found) in
+        ∙ sum_same (λ material. count_by breach (findings_on t material)) (λ material. count_by (is_breached t kind day material) restricting_rules) (materials_in t part)
+        (each_map (λ (material : MaterialRow). material_row t material.code ≡ Some material) (λ material. count_by breach (findings_on t material) ≡ count_by (is_breached t kind day material) restricting_rules) count_of_material (materials_in t part) materials_found) in
         let second : count_by breach (flat_map (findings_of_article t) (articles_in t part)) ≡ 0 =
         count-flat_map breach (findings_of_article t) (articles_in t part)
         ∙ Rattle.desk_model.proofs.Elements.sum_zero (λ article. count_by breach (findings_of_article t article)) (articles_in t part)

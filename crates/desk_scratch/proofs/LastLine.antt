@@ -10,7 +10,7 @@ use Rattle.desk_law.specs.declared.kind.Kind.{Kind}
 use Rattle.desk_law.specs.declared.rule.Rule.{Rule}
 use Rattle.desk_law.specs.Kind.{kind_code}
 use Rattle.desk_law.specs.Limit.{limit_of}
-use Rattle.desk_law.specs.Rule.{all_rules, rule_code}
+use Rattle.desk_law.specs.Rule.{restricting_rules, rule_code}
 use Rattle.desk_model.specs.declared.rows.material.MaterialRow.{MaterialRow}
 use Rattle.desk_model.specs.Declaration.{Declared}
 use Rattle.desk_model.specs.Effect.{declared_row}
@@ -50,7 +50,7 @@ rule_line-ends t kind day m rule = (
 
 pub material_block-ends : (t : Lists) (kind : Kind) (day : Date) (m : MaterialRow) → EndsLine (material_block t kind day m)
 unfolding material_block
-material_block-ends t kind day m = ends-lines (rule_line t kind day m) (rule_line-ends t kind day m) all_rules (material_line m) (material_line-ends m)
+material_block-ends t kind day m = ends-lines (rule_line t kind day m) (rule_line-ends t kind day m) restricting_rules (material_line m) (material_line-ends m)
 
 pub check_line-ends : (kind : Kind) (day : Date) (supplier : List ℕ) (number : ℕ) → EndsLine (check_line kind day supplier number)
 unfolding check_line

@@ -7,7 +7,7 @@ use Rattle.desk_text.specs.Day.{Date}
 use Rattle.desk_law.specs.declared.rule.Rule.{Rule}
 use Rattle.desk_law.specs.declared.verdict.Verdict.{Verdict}
 use Rattle.desk_law.specs.declared.verdict.Verdict.TheVariants.{Within, NotInForce, Exempt, Breach}
-use Rattle.desk_law.specs.Rule.{all_rules}
+use Rattle.desk_law.specs.Rule.{restricting_rules}
 use Rattle.desk_model.specs.declared.rows.material.MaterialRow.{MaterialRow}
 use Rattle.desk_model.specs.declared.rows.product.ProductRow.{ProductRow}
 use Rattle.desk_model.specs.Lists.{Lists}
@@ -93,7 +93,7 @@ module _ (t : Lists) (product : ProductRow) (day : Date) where
         each = each_passed_list (λ text. (m : MaterialRow) × (r : Rule) × IsPiece t product day m r text) pieces_of (λ material. reaches t product.part material.code)
             (λ material reached.
             each_passed (λ text. (m : MaterialRow) × (r : Rule) × IsPiece t product day m r text) (over_lines t product day material) (λ rule. is_over_limit t rule material)
-            (λ rule over. piece material rule reached over) all_rules)
+            (λ rule over. piece material rule reached over) restricting_rules)
             t.materials;
         is_compliant = not (reaches_breach t product.kind day product.part);
         told = ap (λ l. version_line t ++ asked_product_line t product day ++ l ++ compliance_line (not (reaches_breach t product.kind day product.part)))

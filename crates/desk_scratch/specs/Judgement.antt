@@ -6,7 +6,7 @@ use Rattle.desk_law.specs.declared.kind.Kind.{Kind}
 use Rattle.desk_law.specs.declared.rule.Rule.{Rule}
 use Rattle.desk_law.specs.declared.verdict.Verdict.{Verdict}
 use Rattle.desk_law.specs.declared.verdict.Verdict.TheVariants.{Within, NotInForce, Exempt, Breach}
-use Rattle.desk_law.specs.Rule.{all_rules}
+use Rattle.desk_law.specs.Rule.{restricting_rules}
 use Rattle.desk_model.specs.declared.rows.material.MaterialRow.{MaterialRow}
 use Rattle.desk_model.specs.Lists.{Lists}
 use Rattle.desk_findings.specs.Articles.{materials_in}
@@ -25,7 +25,7 @@ is_breached t kind day material rule = is_breach (verdict_on t kind day material
 
 -- some rule is breached by the material
 abbrev pub has_breach : Lists → Kind → Date → MaterialRow → Bool
-has_breach t kind day material = list_any (is_breached t kind day material) all_rules
+has_breach t kind day material = list_any (is_breached t kind day material) restricting_rules
 
 -- some rule is breached by a material that the part reaches
 abbrev pub reaches_breach : Lists → Kind → Date → List ℕ → Bool
@@ -33,4 +33,4 @@ reaches_breach t kind day part = list_any (has_breach t kind day) (materials_in 
 
 -- how often a rule is breached by a material that the part reaches
 abbrev pub breach_count : Lists → Kind → Date → List ℕ → ℕ
-breach_count t kind day part = sum_by (λ material. count_by (is_breached t kind day material) all_rules) (materials_in t part)
+breach_count t kind day part = sum_by (λ material. count_by (is_breached t kind day material) restricting_rules) (materials_in t part)

@@ -18,7 +18,7 @@ use Rattle.desk_scratch.specs.declared.finding.Finding.{Finding as Told}
 use Rattle.desk_scratch.specs.declared.finding.Finding.TheVariants as told
 use Rattle.desk_scratch.specs.declared.load.Load.{Load}
 use Rattle.desk_scratch.specs.Judgement.{is_breached}
-use Rattle.desk_scratch.specs.Part.{carried_in}
+use Rattle.desk_scratch.specs.Part.{carried_by_part}
 use Rattle.desk_scratch.specs.Rohs.{over_lines}
 
 -- the finding that a material is over the limit of a rule
@@ -51,7 +51,7 @@ load_of t part candidate = record { substance = candidate.substance; amount = ca
 
 -- what a part carries of each candidate that it carries
 abbrev pub loads_of : Lists → List ℕ → List Load
-loads_of t part = map (load_of t part) (carried_in t part)
+loads_of t part = map (load_of t part) (carried_by_part t part)
 
 -- what the finding says of its article, where it is on one
 abbrev pub IsRightlyAbove : Lists → Finding → Type 0

@@ -9,7 +9,7 @@ use Rattle.desk_law.specs.declared.terms.Terms.{Terms}
 use Rattle.desk_law.specs.declared.verdict.Verdict.{Verdict}
 use Rattle.desk_law.specs.declared.verdict.Verdict.TheVariants.{Within, NotInForce, Exempt, Breach}
 use Rattle.desk_law.specs.Limit.{limit_of}
-use Rattle.desk_law.specs.Rule.{all_rules, rule_code}
+use Rattle.desk_law.specs.Rule.{restricting_rules, rule_code}
 use Rattle.desk_model.specs.declared.rows.material.MaterialRow.{MaterialRow}
 use Rattle.desk_model.specs.Lists.{Lists}
 use Rattle.desk_findings.specs.Share.{share}
@@ -58,4 +58,4 @@ rule_line t kind day material rule = codes "rule " ++ judged_words t kind day ma
 
 -- the material's line, and a line for each rule in order of number
 unfoldable pub material_block : Lists → Kind → Date → MaterialRow → List ℕ
-material_block t kind day material = material_line material ++ flat_map (rule_line t kind day material) all_rules
+material_block t kind day material = material_line material ++ flat_map (rule_line t kind day material) restricting_rules

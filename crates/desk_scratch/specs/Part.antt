@@ -28,8 +28,8 @@ unfoldable pub child_line : LineRow → List ℕ
 child_line line = codes "line " ++ line.child ++ codes " " ++ decimal line.count ++ codes "\n"
 
 -- the candidates that the part carries; nothing else is carried
-abbrev pub carried_in : Lists → List ℕ → List CandidateRow
-carried_in t part = filter (λ candidate. not (carried t candidate.substance part == 0)) t.candidates
+abbrev pub carried_by_part : Lists → List ℕ → List CandidateRow
+carried_by_part t part = filter (λ candidate. not (carried t candidate.substance part == 0)) t.candidates
 
 -- `carried SUBSTANCE MASS`
 unfoldable pub carried_line : Lists → List ℕ → CandidateRow → List ℕ
@@ -44,4 +44,4 @@ part_text t part =
     ++ name_line part.name
     ++ option_map_or kind_line (product_row t part.code) []
     ++ flat_map child_line (lines_of t.lines part.code)
-    ++ flat_map (carried_line t part.code) (carried_in t part.code)
+    ++ flat_map (carried_line t part.code) (carried_by_part t part.code)

@@ -10,13 +10,13 @@ use Rattle.desk_scratch.specs.declared.question.Question.TheVariants.{Material, 
 use Rattle.desk_scratch.specs.LookUps.{holder_of, is_finding_breached}
 
 -- how many lines of the bill a chain goes down
-abbrev pub line_count : List (List ℕ) → ℕ
-line_count chain = length chain - 1
+abbrev pub chain_line_count : List (List ℕ) → ℕ
+chain_line_count chain = length chain - 1
 
 -- the lines of the chain that the answer on a product's compliance prints on a finding: the chain to the material, where that is a breach
 unfoldable pub printed_lines : Lists → ProductRow → Date → Finding → ℕ
 printed_lines t product day finding =
-    if is_finding_breached t product.kind day finding then line_count (chain t product.part (holder_of finding)) else 0
+    if is_finding_breached t product.kind day finding then chain_line_count (chain t product.part (holder_of finding)) else 0
 
 -- the steps of the answer on a product's compliance: one for the product, and one for each line of the chains that it prints
 abbrev pub rohs_steps : Lists → ProductRow → Date → ℕ

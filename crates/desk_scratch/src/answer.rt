@@ -184,8 +184,7 @@ fn on_material(
 {
     match tables.material(&code) {
         Some(material) => {
-            let text = material_text(alloc, tables, &KindOnDay { kind, day }, material, blank)?;
-            Ok(text)
+            Ok(material_text(alloc, tables, &KindOnDay { kind, day }, material, blank)?)
         }
         None => Err(AskFault::NoSuchCode { code }),
     }
@@ -212,15 +211,14 @@ fn on_rohs<S: AnswerSource, L: Ledger>(
     match tables.product(&code) {
         Some(product) => {
             let kind = product.kind;
-            let text = rohs_text(
+            Ok(rohs_text(
                 alloc,
                 source,
                 &KindOnDay { kind, day },
                 product,
                 steps,
                 blank,
-            )?;
-            Ok(text)
+            )?)
         }
         None => Err(AskFault::NotAProduct { code }),
     }
@@ -241,8 +239,7 @@ fn on_reach33<S: AnswerSource, L: Ledger>(
     if !source.tables().is_part(&code) {
         return Err(AskFault::NoSuchCode { code });
     }
-    let text = reach33_text(alloc, source, &code, day, steps, blank)?;
-    Ok(text)
+    Ok(reach33_text(alloc, source, &code, day, steps, blank)?)
 }
 
 /// The answer on the notices of a year.
@@ -256,8 +253,7 @@ fn on_reach7<S: AnswerSource>(
 ) -> Result<Bytes, AskFault>
     ensures { result ≢ Err ask.OutOfMemory → result ≡ eval (S.lists source.now) (question.Reach7 year day) }
 {
-    let text = reach7_text(alloc, source, year, day, blank)?;
-    Ok(text)
+    Ok(reach7_text(alloc, source, year, day, blank)?)
 }
 
 /// The answer on a part.
@@ -271,10 +267,7 @@ fn on_part<S: AnswerSource>(
     ensures { result ≢ Err ask.OutOfMemory → result ≡ eval (S.lists source.now) (question.Part code) }
 {
     match source.tables().part(&code) {
-        Some(part) => {
-            let text = part_text(alloc, source, part, blank)?;
-            Ok(text)
-        }
+        Some(part) => { Ok(part_text(alloc, source, part, blank)?) }
         None => Err(AskFault::NoSuchCode { code }),
     }
 }
@@ -291,10 +284,7 @@ fn on_part_plain(
     ensures { result ≢ Err ask.OutOfMemory → result ≡ eval tables.now.lists (question.Part code) }
 {
     match tables.part(&code) {
-        Some(part) => {
-            let text = part_text_plain(alloc, tables, part, blank)?;
-            Ok(text)
-        }
+        Some(part) => { Ok(part_text_plain(alloc, tables, part, blank)?) }
         None => Err(AskFault::NoSuchCode { code }),
     }
 }
@@ -312,8 +302,7 @@ fn on_uses<S: AnswerSource>(
     if !source.tables().is_kept(&code) {
         return Err(AskFault::NoSuchCode { code });
     }
-    let text = uses_text(alloc, source, &code, blank)?;
-    Ok(text)
+    Ok(uses_text(alloc, source, &code, blank)?)
 }
 
 /// The answer on the whole desk.
@@ -328,8 +317,7 @@ fn on_summary<S: AnswerSource, L: Ledger>(
     requires { is_askable day ≡ true }
     ensures { result ≢ Err ask.OutOfMemory → result ≡ eval (S.lists source.now) (question.Summary day) }
 {
-    let text = summary_text(alloc, source, day, steps, blank)?;
-    Ok(text)
+    Ok(summary_text(alloc, source, day, steps, blank)?)
 }
 
 /// The answer on the number of the tables.
@@ -337,8 +325,7 @@ fn on_summary<S: AnswerSource, L: Ledger>(
 fn on_version(tables: &Tables, blank: BlankText) -> Result<Bytes, AskFault>
     ensures { result ≢ Err ask.OutOfMemory → result ≡ eval tables.now.lists question.Version }
 {
-    let text = version_text(tables, blank)?;
-    Ok(text)
+    Ok(version_text(tables, blank)?)
 }
 
 /// The line with the number of the tables.

@@ -6,7 +6,7 @@ ghost use Rattle.desk_findings.specs.Chain.{chain};
 ghost use Rattle.desk_findings.specs.Findings.{findings, is_in};
 ghost use Rattle.desk_findings.specs.Mass.{mass};
 ghost use Rattle.desk_findings.specs.Tonnage.{tonnage};
-ghost use Rattle.desk_scratch.specs.Steps.{line_count};
+ghost use Rattle.desk_scratch.specs.Steps.{chain_line_count};
 ghost use Rattle.desk_scratch.specs.LookUps.{IsHeldAbove, finding_of, holder_of, loads_of};
 ghost use Rattle.desk_scratch.specs.Uses.{lines_to, products_with};
 
@@ -62,7 +62,7 @@ pub trait AnswerSource {
         requires kept { is_part (lists self.now) part.now ≡ true }
         requires found { is_in (finding_of finding.now) (findings (lists self.now) part.now) ≡ true }
         ensures codes { IfOk result (λ codes. codes ≡ chain (lists self.now) part.now (holder_of (finding_of finding.now))) }
-        ensures steps { IfOk result (λ codes. steps.new ≡ steps.old + line_count codes) };
+        ensures steps { IfOk result (λ codes. steps.new ≡ steps.old + chain_line_count codes) };
 
     /// What a part carries of each candidate that it carries, in order of substance.
     fn loads(&self, alloc: Global, part: &Code) -> Result<Vec<Load>, OutOfMemory>

@@ -10,7 +10,7 @@ ghost use Rattle.desk_findings.specs.Reaches.{is_or_reaches, reaches};
 ghost use Rattle.desk_model.specs.Lists.{nodes_of};
 ghost use Rattle.desk_totals.specs.Fit.{fit};
 ghost use Rattle.desk_totals.specs.Places.{node_at};
-ghost use Rattle.desk_scratch.specs.Steps.{line_count};
+ghost use Rattle.desk_scratch.specs.Steps.{chain_line_count};
 
 use crate::answer_source::AnswerSource;
 use crate::finding::Finding;
@@ -50,14 +50,14 @@ impl<'a> Model for Bill<'a> {
     ghost use Rattle.desk_history.specs.Sound.{Sound};
     ghost use Rattle.desk_findings.specs.Mass.{mass};
     ghost use Rattle.desk_totals.specs.Fit.{fit};
-    ghost use Rattle.desk_totals.specs.Linked.{IsBillOf};
+    ghost use Rattle.desk_totals.specs.Linked.{IsLinkedOf};
 
     ghost Value = { Lists };
 
     ghost view = { λ b. b.tables.now.lists };
 
     ghost invariant = { λ b. Sound b.tables.now.lists
-        × IsBillOf b.links b.tables.now.lists
+        × IsLinkedOf b.links b.tables.now.lists
         × (b.masses.items ≡ map (λ part. fit (mass b.tables.now.lists part.code)) b.tables.now.lists.parts) };
 }
 
@@ -317,7 +317,7 @@ impl<'a> AnswerSource for Bill<'a> {
 
 /// Counts a step for each line of the chain.
 fn count_lines<L: Ledger>(chain: &[Code], steps: &mut Steps<L>)
-    ensures { steps.new ≡ steps.old + line_count chain.now }
+    ensures { steps.new ≡ steps.old + chain_line_count chain.now }
 {
     let lines = chain.len().saturating_sub(1);
     for _ in 0..lines {

@@ -86,7 +86,7 @@ impl<'a> Bill<'a> {
         ensures { OnOk result (map finding_of list.new.items ≡ map finding_of list.old.items ++ findings_on self.now material.now) }
     {
         let holdings = Holdings::new(alloc, self.tables(), material.substances.as_slice())?;
-        for rule in Rule::ALL {
+        for rule in Rule::RESTRICTING {
             let share = holdings.share(rule);
             push_if_over(list, &material.code, material.mass, rule, share)?;
         }

@@ -1,6 +1,6 @@
 ghost use Rattle.std.specs.Prelude.{◌≡◌, ◌++◌, ◌≤◌, codes, length, string_bytes, IfOk, OnOk};
 ghost use Rattle.std.specs.List.{flat_map};
-ghost use Rattle.desk_law.specs.Rule.{all_rules, rule_code};
+ghost use Rattle.desk_law.specs.Rule.{restricting_rules, rule_code};
 ghost use Rattle.desk_model.specs.declared.limits.TheConstants.{CONTENT_LIMIT};
 ghost use Rattle.desk_model.specs.declared.rows.material.MaterialRow.{MaterialRow};
 ghost use Rattle.desk_scratch.specs.Assessment.{facts_of};
@@ -60,12 +60,12 @@ fn push_rule_lines(
 ) -> Result<bool, OutOfMemory>
     requires { holdings.now ≡ holdings_of by.now.lists facts.now.substances }
     ensures lines { OnOk result ((material : MaterialRow) → facts.now ≡ facts_of material
-        → string_bytes out.new ≡ string_bytes out.old ++ flat_map (rule_line by.now.lists by.now.kind by.now.day material) all_rules) }
+        → string_bytes out.new ≡ string_bytes out.old ++ flat_map (rule_line by.now.lists by.now.kind by.now.day material) restricting_rules) }
     ensures breach { IfOk result (λ breach. (material : MaterialRow) → facts.now ≡ facts_of material
         → breach ≡ has_breach by.now.lists by.now.kind by.now.day material) }
 {
     let mut breach = false;
-    for rule in Rule::ALL {
+    for rule in Rule::RESTRICTING {
         breach = breach | push_rule_line(out, by, facts, holdings, rule)?;
     }
     Ok(breach)

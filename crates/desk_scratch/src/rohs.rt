@@ -11,7 +11,7 @@ ghost use Rattle.desk_scratch.specs.LookUps.{IsFound, finding_of, holder_of, is_
 ghost use Rattle.desk_scratch.specs.MaterialBlock.{judged_words_with, verdict_words};
 ghost use Rattle.desk_scratch.specs.Rohs.{over_line, rohs_text};
 ghost use Rattle.desk_scratch.specs.SharedLines.{chain_line};
-ghost use Rattle.desk_scratch.specs.Steps.{line_count, printed_lines, rohs_steps};
+ghost use Rattle.desk_scratch.specs.Steps.{chain_line_count, printed_lines, rohs_steps};
 
 use crate::answer_source::AnswerSource;
 use crate::assessment::{Assessment, terms_of};
@@ -213,7 +213,7 @@ fn push_chain_of<S: AnswerSource, L: Ledger>(
     ensures line { OnOk result (string_bytes out.new ≡ string_bytes out.old
         ++ (if is_breach then chain_line (chain (S.lists source.now) part.now (holder_of (finding_of finding.now))) else [])) }
     ensures steps { OnOk result (steps.new ≡ steps.old
-        + (if is_breach then line_count (chain (S.lists source.now) part.now (holder_of (finding_of finding.now))) else 0)) }
+        + (if is_breach then chain_line_count (chain (S.lists source.now) part.now (holder_of (finding_of finding.now))) else 0)) }
 {
     if !is_breach {
         return Ok(());

@@ -3,7 +3,7 @@ ghost use Rattle.desk_text.specs.Code.{same_code};
 ghost use Rattle.desk_model.specs.Lists.{Lists};
 ghost use Rattle.desk_findings.specs.Bill.{IsBill};
 ghost use Rattle.desk_findings.specs.Reaches.{is_or_reaches, reaches};
-ghost use Rattle.desk_totals.specs.Linked.{IsBillOf};
+ghost use Rattle.desk_totals.specs.Linked.{IsLinkedOf};
 ghost use Rattle.desk_scratch.specs.Uses.{lines_to, products_with};
 
 use crate::bill::Bill;
@@ -70,7 +70,7 @@ fn push_if_holds(
 /// Whether the part reaches the code or is it. The marks tell of each node whether it reaches the code.
 pub(crate) fn does_hold(links: &Links, marks: &[bool], part: &Code, code: &Code) -> bool
     requires { length marks.now ≡ length links.now.nodes }
-    ensures { (t : Lists) → IsBillOf links.now t → IsBill t → marks.now ≡ map (λ node. reaches t node code.now) links.now.nodes
+    ensures { (t : Lists) → IsLinkedOf links.now t → IsBill t → marks.now ≡ map (λ node. reaches t node code.now) links.now.nodes
         → result ≡ is_or_reaches t part.now code.now }
 {
     if part == code {

@@ -14,7 +14,7 @@ use Rattle.desk_tonnage.specs.Entries.{entry_key, entry_key_cmp}
 use Rattle.desk_tonnage.specs.declared.product_mass.ProductMass.{ProductMass}
 use Rattle.desk_tonnage.specs.declared.sums.YearSum.{YearSum}
 use Rattle.desk_tonnage.specs.Masses.{mass_after, with_mass, with_masses}
-use Rattle.desk_tonnage.specs.Years.{too_heavy_year, year_mass}
+use Rattle.desk_tonnage.specs.Years.{too_heavy_entry_year, entries_mass_in}
 use Rattle.desk_tonnage.proofs.Keys.{entry_key_cmp_total}
 use Rattle.desk_tonnage.proofs.Weights.{weight_in, weight_same, year_mass-cons}
 
@@ -38,7 +38,7 @@ YearsRise [] = Unit {0}
 YearsRise (entry ∷ entries) = FromYear entry.year entries × YearsRise entries
 
 -- a year before all entries weighs nothing
-no_mass : (year : ℕ) (entries : List Entry) → AllByRecursion (λ entry. year < entry.year) entries → year_mass year entries ≡ 0
+no_mass : (year : ℕ) (entries : List Entry) → AllByRecursion (λ entry. year < entry.year) entries → entries_mass_in year entries ≡ 0
 no_mass year [] a = refl
 no_mass year (entry ∷ entries) a =
     let nothing : weight_in year entry ≡ 0 = rw (ne_eqb entry.year year (λ e. absurd (omega (arith, a.0, e)))) refl in
@@ -49,42 +49,42 @@ later_years year other [] h a = tt
 later_years year other (entry ∷ entries) h a = (omega (arith, a.0), later_years year other entries h a.1)
 
 -- a first entry whose year isn't too heavy is no answer, and changes none
-skip : (entry : Entry) (all rest : List Entry) → year_mass entry.year (entry ∷ all) < 2 ^ 128 → find (λ later. nat_le (2 ^ 128) (year_mass later.year (entry ∷ all))) rest ≡ find (λ later. nat_le (2 ^ 128) (year_mass later.year all)) rest
+skip : (entry : Entry) (all rest : List Entry) → entries_mass_in entry.year (entry ∷ all) < 2 ^ 128 → find (λ later. nat_le (2 ^ 128) (entries_mass_in later.year (entry ∷ all))) rest ≡ find (λ later. nat_le (2 ^ 128) (entries_mass_in later.year all)) rest
 skip entry all [] light = refl
 skip entry all (later ∷ rest) light =
-    let same : nat_le (2 ^ 128) (year_mass later.year (entry ∷ all)) ≡ nat_le (2 ^ 128) (year_mass later.year all) = same_test in
-    ap (λ b. cond b (Some later) (find (λ l. nat_le (2 ^ 128) (year_mass l.year (entry ∷ all))) rest)) same ∙ ap (λ o. cond (nat_le (2 ^ 128) (year_mass later.year all)) (Some later) o) (skip entry all rest light)
+    let same : nat_le (2 ^ 128) (entries_mass_in later.year (entry ∷ all)) ≡ nat_le (2 ^ 128) (entries_mass_in later.year all) = same_test in
+    ap (λ b. cond b (Some later) (find (λ l. nat_le (2 ^ 128) (entries_mass_in l.year (entry ∷ all))) rest)) same ∙ ap (λ o. cond (nat_le (2 ^ 128) (entries_mass_in later.year all)) (Some later) o) (skip entry all rest light)
   where
-    same_test : nat_le (2 ^ 128) (year_mass later.year (entry ∷ all)) ≡ nat_le (2 ^ 128) (year_mass later.year all)
+    same_test : nat_le (2 ^ 128) (entries_mass_in later.year (entry ∷ all)) ≡ nat_le (2 ^ 128) (entries_mass_in later.year all)
     same_test =
-        elim (entry.year == later.year) as (λ b. (entry.year == later.year) ≡ b → nat_le (2 ^ 128) (year_mass later.year (entry ∷ all)) ≡ nat_le (2 ^ 128) (year_mass later.year all)) [
+        elim (entry.year == later.year) as (λ b. (entry.year == later.year) ≡ b → nat_le (2 ^ 128) (entries_mass_in later.year (entry ∷ all)) ≡ nat_le (2 ^ 128) (entries_mass_in later.year all)) [
           | true ↦ λ e.
-              let light_here : year_mass later.year (entry ∷ all) < 2 ^ 128 = subst (λ y. year_mass y (entry ∷ all) < 2 ^ 128) (eqb-true entry.year later.year e) light in
-              let less : year_mass later.year all < 2 ^ 128 = omega (arith, year_mass-cons later.year entry all, light_here) in
-              lt-leb (2 ^ 128) (year_mass later.year (entry ∷ all)) light_here ∙ sym (lt-leb (2 ^ 128) (year_mass later.year all) less)
+              let light_here : entries_mass_in later.year (entry ∷ all) < 2 ^ 128 = subst (λ y. entries_mass_in y (entry ∷ all) < 2 ^ 128) (eqb-true entry.year later.year e) light in
+              let less : entries_mass_in later.year all < 2 ^ 128 = omega (arith, year_mass-cons later.year entry all, light_here) in
+              lt-leb (2 ^ 128) (entries_mass_in later.year (entry ∷ all)) light_here ∙ sym (lt-leb (2 ^ 128) (entries_mass_in later.year all) less)
           | false ↦ λ e.
               let nothing : weight_in later.year entry ≡ 0 = rw e refl in
-              let sums : year_mass later.year (entry ∷ all) ≡ year_mass later.year all = omega (arith, year_mass-cons later.year entry all, nothing) in
+              let sums : entries_mass_in later.year (entry ∷ all) ≡ entries_mass_in later.year all = omega (arith, year_mass-cons later.year entry all, nothing) in
               ap (λ n. nat_le (2 ^ 128) n) sums
         ] refl
 
-pub skip_light : (entry : Entry) (entries : List Entry) → year_mass entry.year (entry ∷ entries) < 2 ^ 128 → too_heavy_year (entry ∷ entries) ≡ too_heavy_year entries
+pub skip_light : (entry : Entry) (entries : List Entry) → entries_mass_in entry.year (entry ∷ entries) < 2 ^ 128 → too_heavy_entry_year (entry ∷ entries) ≡ too_heavy_entry_year entries
 skip_light entry entries light =
-    ap (λ b. option_map (λ e. e.year) (cond b (Some entry) (find (λ later. nat_le (2 ^ 128) (year_mass later.year (entry ∷ entries))) entries))) (lt-leb (2 ^ 128) (year_mass entry.year (entry ∷ entries)) light)
+    ap (λ b. option_map (λ e. e.year) (cond b (Some entry) (find (λ later. nat_le (2 ^ 128) (entries_mass_in later.year (entry ∷ entries))) entries))) (lt-leb (2 ^ 128) (entries_mass_in entry.year (entry ∷ entries)) light)
     ∙ ap (λ o. option_map (λ e. e.year) o) (skip entry entries entries light)
 
-stop_heavy : (entry : Entry) (entries : List Entry) → 2 ^ 128 ≤ year_mass entry.year (entry ∷ entries) → too_heavy_year (entry ∷ entries) ≡ Some entry.year
-stop_heavy entry entries heavy = rw (le-leb (2 ^ 128) (year_mass entry.year (entry ∷ entries)) heavy) refl
+stop_heavy : (entry : Entry) (entries : List Entry) → 2 ^ 128 ≤ entries_mass_in entry.year (entry ∷ entries) → too_heavy_entry_year (entry ∷ entries) ≡ Some entry.year
+stop_heavy entry entries heavy = rw (le-leb (2 ^ 128) (entries_mass_in entry.year (entry ∷ entries)) heavy) refl
 
 -- the pass gives the year of the sum where that becomes too heavy, or else the least that is
 abbrev from_sum : ℕ → ℕ → List Entry → Option ℕ
-from_sum year sum entries = if nat_lt (sum + year_mass year entries) (2 ^ 128) then too_heavy_year entries else Some year
+from_sum year sum entries = if nat_lt (sum + entries_mass_in year entries) (2 ^ 128) then too_heavy_entry_year entries else Some year
 
-from_light : (year sum : ℕ) (entries : List Entry) → sum + year_mass year entries < 2 ^ 128 → from_sum year sum entries ≡ too_heavy_year entries
-from_light year sum entries h = cond-true (nat_lt (sum + year_mass year entries) (2 ^ 128)) (too_heavy_year entries) (Some year) (lt-ltb (sum + year_mass year entries) (2 ^ 128) h)
+from_light : (year sum : ℕ) (entries : List Entry) → sum + entries_mass_in year entries < 2 ^ 128 → from_sum year sum entries ≡ too_heavy_entry_year entries
+from_light year sum entries h = cond-true (nat_lt (sum + entries_mass_in year entries) (2 ^ 128)) (too_heavy_entry_year entries) (Some year) (lt-ltb (sum + entries_mass_in year entries) (2 ^ 128) h)
 
-from_heavy : (year sum : ℕ) (entries : List Entry) → 2 ^ 128 ≤ sum + year_mass year entries → from_sum year sum entries ≡ Some year
-from_heavy year sum entries h = cond-false (nat_lt (sum + year_mass year entries) (2 ^ 128)) (too_heavy_year entries) (Some year) (le-ltb (sum + year_mass year entries) (2 ^ 128) h)
+from_heavy : (year sum : ℕ) (entries : List Entry) → 2 ^ 128 ≤ sum + entries_mass_in year entries → from_sum year sum entries ≡ Some year
+from_heavy year sum entries h = cond-false (nat_lt (sum + entries_mass_in year entries) (2 ^ 128)) (too_heavy_entry_year entries) (Some year) (le-ltb (sum + entries_mass_in year entries) (2 ^ 128) h)
 
 go_on : (year sum : ℕ) (entry : Entry) (entries : List Entry) → sum_with year sum entry < 2 ^ 128 → heavy_from year sum (entry ∷ entries) ≡ heavy_from entry.year (sum_with year sum entry) entries
 go_on year sum entry entries h = cond-true (nat_lt (sum_with year sum entry) (2 ^ 128)) (heavy_from entry.year (sum_with year sum entry) entries) (Some entry.year) (lt-ltb (sum_with year sum entry) (2 ^ 128) h)
@@ -94,19 +94,19 @@ stop year sum entry entries h = cond-false (nat_lt (sum_with year sum entry) (2 
 
 -- one more entry of the same year
 module _ (year sum : ℕ) (entry : Entry) (entries : List Entry) (same : year ≡ entry.year) where
-  whole : sum + year_mass year (entry ∷ entries) ≡ sum_with year sum entry + year_mass entry.year entries
+  whole : sum + entries_mass_in year (entry ∷ entries) ≡ sum_with year sum entry + entries_mass_in entry.year entries
   whole =
       let with_it : sum_with year sum entry ≡ sum + entry.units * entry.mass = rw (eq-eqb year entry.year same) refl in
-      omega (arith, with_it, year_mass-cons year entry entries, weight_same year entry (sym same), ap (λ y. year_mass y entries) same)
+      omega (arith, with_it, year_mass-cons year entry entries, weight_same year entry (sym same), ap (λ y. entries_mass_in y entries) same)
 
-  own : year_mass entry.year (entry ∷ entries) ≤ sum + year_mass year (entry ∷ entries)
-  own = omega (arith, ap (λ y. year_mass y (entry ∷ entries)) same)
+  own : entries_mass_in entry.year (entry ∷ entries) ≤ sum + entries_mass_in year (entry ∷ entries)
+  own = omega (arith, ap (λ y. entries_mass_in y (entry ∷ entries)) same)
 
   same_year : (sum_with year sum entry < 2 ^ 128 → heavy_from entry.year (sum_with year sum entry) entries ≡ from_sum entry.year (sum_with year sum entry) entries) → heavy_from year sum (entry ∷ entries) ≡ from_sum year sum (entry ∷ entries)
   same_year ih =
       elim (cases_lt (sum_with year sum entry) (2 ^ 128)) [
         | inl light ↦
-            elim (cases_lt (sum + year_mass year (entry ∷ entries)) (2 ^ 128)) [
+            elim (cases_lt (sum + entries_mass_in year (entry ∷ entries)) (2 ^ 128)) [
               | inl fits ↦ go_on year sum entry entries light ∙ ih light ∙ from_light entry.year (sum_with year sum entry) entries (omega (arith, whole, fits)) ∙ sym (skip_light entry entries (omega (arith, own, fits))) ∙ sym (from_light year sum (entry ∷ entries) fits)
               | inr over ↦ go_on year sum entry entries light ∙ ih light ∙ from_heavy entry.year (sum_with year sum entry) entries (omega (arith, whole, over)) ∙ ap (λ y. Some y) (sym same) ∙ sym (from_heavy year sum (entry ∷ entries) over)
             ]
@@ -115,19 +115,19 @@ module _ (year sum : ℕ) (entry : Entry) (entries : List Entry) (same : year �
 
 -- a first entry of another year
 module _ (year sum : ℕ) (entry : Entry) (entries : List Entry) (earlier : year < entry.year) (later : FromYear entry.year entries) (light_so_far : sum < 2 ^ 128) where
-  begins : sum_with year sum entry + year_mass entry.year entries ≡ year_mass entry.year (entry ∷ entries)
+  begins : sum_with year sum entry + entries_mass_in entry.year entries ≡ entries_mass_in entry.year (entry ∷ entries)
   begins =
       let alone : sum_with year sum entry ≡ 0 + entry.units * entry.mass = rw (ne_eqb year entry.year (λ e. absurd (omega (arith, earlier, e)))) refl in
       omega (arith, alone, year_mass-cons entry.year entry entries, weight_same entry.year entry refl)
 
-  before : from_sum year sum (entry ∷ entries) ≡ too_heavy_year (entry ∷ entries)
+  before : from_sum year sum (entry ∷ entries) ≡ too_heavy_entry_year (entry ∷ entries)
   before = from_light year sum (entry ∷ entries) (omega (arith, no_mass year (entry ∷ entries) (earlier, later_years year entry.year entries earlier later), light_so_far))
 
   other_year : (sum_with year sum entry < 2 ^ 128 → heavy_from entry.year (sum_with year sum entry) entries ≡ from_sum entry.year (sum_with year sum entry) entries) → heavy_from year sum (entry ∷ entries) ≡ from_sum year sum (entry ∷ entries)
   other_year ih =
       elim (cases_lt (sum_with year sum entry) (2 ^ 128)) [
         | inl light ↦
-            elim (cases_lt (year_mass entry.year (entry ∷ entries)) (2 ^ 128)) [
+            elim (cases_lt (entries_mass_in entry.year (entry ∷ entries)) (2 ^ 128)) [
               | inl fits ↦ go_on year sum entry entries light ∙ ih light ∙ from_light entry.year (sum_with year sum entry) entries (omega (arith, begins, fits)) ∙ sym (skip_light entry entries fits) ∙ sym before
               | inr over ↦ go_on year sum entry entries light ∙ ih light ∙ from_heavy entry.year (sum_with year sum entry) entries (omega (arith, begins, over)) ∙ sym (stop_heavy entry entries over) ∙ sym before
             ]
@@ -162,20 +162,20 @@ years_rise (entry ∷ entries) h = (
   years_rise entries (rest_by_key entry_key entry_key_cmp entry_key_cmp_total entry entries h),
 )
 
-year_0 : (entries : List Entry) → YearsRise entries → 2 ^ 128 ≤ 0 + year_mass 0 entries → too_heavy_year entries ≡ Some 0
+year_0 : (entries : List Entry) → YearsRise entries → 2 ^ 128 ≤ 0 + entries_mass_in 0 entries → too_heavy_entry_year entries ≡ Some 0
 year_0 [] rise heavy = absurd (omega (arith, heavy))
 year_0 (entry ∷ entries) rise heavy =
     elim (cases_eq 0 entry.year) [
-      | inl same ↦ stop_heavy entry entries (omega (arith, heavy, ap (λ y. year_mass y (entry ∷ entries)) same)) ∙ ap (λ y. Some y) (sym same)
+      | inl same ↦ stop_heavy entry entries (omega (arith, heavy, ap (λ y. entries_mass_in y (entry ∷ entries)) same)) ∙ ap (λ y. Some y) (sym same)
       | inr other ↦
           let later : 0 < entry.year = omega (arith, other) in
           absurd (omega (arith, heavy, no_mass 0 (entry ∷ entries) (later, later_years 0 entry.year entries later rise.0)))
     ]
 
 -- one pass finds the least year that weighs too much
-pub heavy_from_start : (entries : List Entry) → IsByKey entry_key entry_key_cmp entries → heavy_from 0 0 entries ≡ too_heavy_year entries
+pub heavy_from_start : (entries : List Entry) → IsByKey entry_key entry_key_cmp entries → heavy_from 0 0 entries ≡ too_heavy_entry_year entries
 heavy_from_start entries h =
-    heavy_from-is 0 0 entries (from_start entries) (years_rise entries h) (omega arith) ∙ elim (cases_lt (0 + year_mass 0 entries) (2 ^ 128)) [
+    heavy_from-is 0 0 entries (from_start entries) (years_rise entries h) (omega arith) ∙ elim (cases_lt (0 + entries_mass_in 0 entries) (2 ^ 128)) [
       | inl light ↦ from_light 0 0 entries light
       | inr heavy ↦ from_heavy 0 0 entries heavy ∙ sym (year_0 entries (years_rise entries h) heavy)
     ]

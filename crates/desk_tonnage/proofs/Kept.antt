@@ -11,11 +11,11 @@ use Rattle.desk_rows.proofs.Lookups.{each_with_row, each_without_row}
 use Rattle.desk_rows.proofs.Order.{none_by_key}
 use Rattle.desk_tonnage.specs.declared.entry.Entry.{Entry}
 use Rattle.desk_tonnage.specs.declared.product_mass.ProductMass.{ProductMass}
-use Rattle.desk_tonnage.specs.Entries.{entry_key, entry_key_cmp, entry_of, units_of}
-use Rattle.desk_tonnage.specs.Edits.{lowered, with_entry, without_units}
+use Rattle.desk_tonnage.specs.Entries.{entry_key, entry_key_cmp, entry_of, entry_units}
+use Rattle.desk_tonnage.specs.Edits.{lowered, with_entry, without_entry_units}
 use Rattle.desk_tonnage.specs.Kept.{IsMassPlan}
 use Rattle.desk_tonnage.specs.Masses.{with_masses}
-use Rattle.desk_tonnage.specs.Years.{IsYearly, too_heavy_year, year_mass}
+use Rattle.desk_tonnage.specs.Years.{IsYearly, too_heavy_entry_year, entries_mass_in}
 use Rattle.desk_tonnage.proofs.Keys.{entry_key_cmp_total, found_key}
 use Rattle.desk_tonnage.proofs.Weights.{weight_in, year_mass-cons, year_mass-put, year_mass-without}
 
@@ -27,18 +27,18 @@ pub none_kept : IsYearly []
 none_kept = record { by_key = none_by_key entry_key entry_key_cmp entry_key_cmp_total; units = tt; masses = λ year. omega arith }
 
 -- another year weighs no more than before
-other_year : (year : ℕ) (new : Entry) (entries : List Entry) → IsByKey entry_key entry_key_cmp entries → (new.year == year) ≡ false → year_mass year (with_entry new entries) ≤ year_mass year entries
+other_year : (year : ℕ) (new : Entry) (entries : List Entry) → IsByKey entry_key entry_key_cmp entries → (new.year == year) ≡ false → entries_mass_in year (with_entry new entries) ≤ entries_mass_in year entries
 other_year year new entries h other =
     let nothing : weight_in year new ≡ 0 = rw other refl in
     omega (arith, year_mass-put year new entries h, nothing)
 
 -- with an entry set
-pub with_entry-kept : (new : Entry) (entries : List Entry) → IsYearly entries → HasUnits new → year_mass new.year (with_entry new entries) < 2 ^ 128 → IsYearly (with_entry new entries)
+pub with_entry-kept : (new : Entry) (entries : List Entry) → IsYearly entries → HasUnits new → entries_mass_in new.year (with_entry new entries) < 2 ^ 128 → IsYearly (with_entry new entries)
 with_entry-kept new entries h units fits = record {
   by_key = IsByKey-with_row entry_key entry_key_cmp entry_key_cmp_total new entries h.by_key;
   units = each_with_row entry_key entry_key_cmp HasUnits new entries units h.units;
-  masses = λ year. elim (new.year == year) as (λ b. (new.year == year) ≡ b → year_mass year (with_entry new entries) < 2 ^ 128) [
-    | true ↦ λ same. subst (λ y. year_mass y (with_entry new entries) < 2 ^ 128) (eqb-true new.year year same) fits
+  masses = λ year. elim (new.year == year) as (λ b. (new.year == year) ≡ b → entries_mass_in year (with_entry new entries) < 2 ^ 128) [
+    | true ↦ λ same. subst (λ y. entries_mass_in y (with_entry new entries) < 2 ^ 128) (eqb-true new.year year same) fits
     | false ↦ λ other. omega (arith, other_year year new entries h.by_key other, h.masses year)
   ] refl;
 }
@@ -96,7 +96,7 @@ lowered-kept year product units entries (Some entry) e enough h =
     ] refl
 
 -- with so many units fewer
-pub without_units-kept : (year : ℕ) (product : List ℕ) (units : ℕ) (entries : List Entry) → units ≤ units_of year product entries → IsYearly entries → IsYearly (without_units year product units entries)
+pub without_units-kept : (year : ℕ) (product : List ℕ) (units : ℕ) (entries : List Entry) → units ≤ entry_units year product entries → IsYearly entries → IsYearly (without_entry_units year product units entries)
 without_units-kept year product units entries enough h = lowered-kept year product units entries (entry_of year product entries) refl enough h
 
 -- new masses change no key and no number of units
@@ -112,19 +112,19 @@ units_stay masses [] a = tt
 units_stay masses (entry ∷ entries) a = (a.0, units_stay masses entries a.1)
 
 -- a year that has no entry weighs nothing, and one that has was looked at
-looked_at : (year : ℕ) (all entries : List Entry) → find (λ entry. nat_le (2 ^ 128) (year_mass entry.year all)) entries ≡ None → (year_mass year entries ≡ 0) ⊎ (year_mass year all < 2 ^ 128)
+looked_at : (year : ℕ) (all entries : List Entry) → find (λ entry. nat_le (2 ^ 128) (entries_mass_in entry.year all)) entries ≡ None → (entries_mass_in year entries ≡ 0) ⊎ (entries_mass_in year all < 2 ^ 128)
 looked_at year all [] e = inl refl
 looked_at year all (entry ∷ entries) e =
-    elim (nat_le (2 ^ 128) (year_mass entry.year all)) as (λ b. nat_le (2 ^ 128) (year_mass entry.year all) ≡ b → cond b (Some entry) (find (λ later. nat_le (2 ^ 128) (year_mass later.year all)) entries) ≡ None → (year_mass year (entry ∷ entries) ≡ 0) ⊎ (year_mass year all < 2 ^ 128)) [
+    elim (nat_le (2 ^ 128) (entries_mass_in entry.year all)) as (λ b. nat_le (2 ^ 128) (entries_mass_in entry.year all) ≡ b → cond b (Some entry) (find (λ later. nat_le (2 ^ 128) (entries_mass_in later.year all)) entries) ≡ None → (entries_mass_in year (entry ∷ entries) ≡ 0) ⊎ (entries_mass_in year all < 2 ^ 128)) [
       | true ↦ λ heavy none. none_some entry (sym none)
       | false ↦ λ light later. by_year light (looked_at year all entries later)
     ] refl e
   where
-    by_year : nat_le (2 ^ 128) (year_mass entry.year all) ≡ false → (year_mass year entries ≡ 0) ⊎ (year_mass year all < 2 ^ 128) → (year_mass year (entry ∷ entries) ≡ 0) ⊎ (year_mass year all < 2 ^ 128)
+    by_year : nat_le (2 ^ 128) (entries_mass_in entry.year all) ≡ false → (entries_mass_in year entries ≡ 0) ⊎ (entries_mass_in year all < 2 ^ 128) → (entries_mass_in year (entry ∷ entries) ≡ 0) ⊎ (entries_mass_in year all < 2 ^ 128)
     by_year light (inr fits) = inr fits
     by_year light (inl nothing) =
-        elim (entry.year == year) as (λ b. (entry.year == year) ≡ b → (year_mass year (entry ∷ entries) ≡ 0) ⊎ (year_mass year all < 2 ^ 128)) [
-          | true ↦ λ same. inr (subst (λ y. year_mass y all < 2 ^ 128) (eqb-true entry.year year same) (leb-false (2 ^ 128) (year_mass entry.year all) light))
+        elim (entry.year == year) as (λ b. (entry.year == year) ≡ b → (entries_mass_in year (entry ∷ entries) ≡ 0) ⊎ (entries_mass_in year all < 2 ^ 128)) [
+          | true ↦ λ same. inr (subst (λ y. entries_mass_in y all < 2 ^ 128) (eqb-true entry.year year same) (leb-false (2 ^ 128) (entries_mass_in entry.year all) light))
           | false ↦ λ other. let none : weight_in year entry ≡ 0 = rw other refl in inl (omega (arith, year_mass-cons year entry entries, none, nothing))
         ] refl
 
@@ -132,11 +132,11 @@ not_mapped : (o : Option Entry) → option_map (λ entry. entry.year) o ≡ None
 not_mapped None e = refl
 not_mapped (Some entry) e = cc
 
-pub none_heavy : (entries : List Entry) → too_heavy_year entries ≡ None → (year : ℕ) → year_mass year entries < 2 ^ 128
+pub none_heavy : (entries : List Entry) → too_heavy_entry_year entries ≡ None → (year : ℕ) → entries_mass_in year entries < 2 ^ 128
 none_heavy entries e year =
-    either (looked_at year entries entries (not_mapped (find (λ entry. nat_le (2 ^ 128) (year_mass entry.year entries)) entries) e))
+    either (looked_at year entries entries (not_mapped (find (λ entry. nat_le (2 ^ 128) (entries_mass_in entry.year entries)) entries) e))
   where
-    either : (year_mass year entries ≡ 0) ⊎ (year_mass year entries < 2 ^ 128) → year_mass year entries < 2 ^ 128
+    either : (entries_mass_in year entries ≡ 0) ⊎ (entries_mass_in year entries < 2 ^ 128) → entries_mass_in year entries < 2 ^ 128
     either (inl nothing) = omega (arith, nothing)
     either (inr fits) = fits
 
@@ -154,5 +154,5 @@ no_masses [] = refl
 no_masses (entry ∷ entries) = ap (λ rest. entry ∷ rest) (no_masses entries)
 
 -- entries of which no year is too heavy are yearly
-pub all-kept : (entries : List Entry) → IsByKey entry_key entry_key_cmp entries → AllByRecursion HasUnits entries → too_heavy_year entries ≡ None → IsYearly entries
+pub all-kept : (entries : List Entry) → IsByKey entry_key entry_key_cmp entries → AllByRecursion HasUnits entries → too_heavy_entry_year entries ≡ None → IsYearly entries
 all-kept entries by_key units light = record { by_key = by_key; units = units; masses = none_heavy entries light }

@@ -8,20 +8,20 @@ use Rattle.desk_rows.specs.Rows.{row_of, without_row}
 use Rattle.desk_rows.specs.Place.{StandsAt, StandsNowhere}
 use Rattle.desk_tonnage.specs.declared.entry.Entry.{Entry}
 use Rattle.desk_tonnage.specs.declared.fault.TonnageFault.TheVariants.{UnitsTooLarge, YearTooLarge}
-use Rattle.desk_tonnage.specs.Entries.{entry_key, entry_key_cmp, entry_of, units_of}
-use Rattle.desk_tonnage.specs.Edits.{add_answer, lowered, with_entry, with_units, without_units}
-use Rattle.desk_tonnage.specs.Years.{year_mass}
+use Rattle.desk_tonnage.specs.Entries.{entry_key, entry_key_cmp, entry_of, entry_units}
+use Rattle.desk_tonnage.specs.Edits.{add_answer, lowered, with_entry, with_entry_units, without_entry_units}
+use Rattle.desk_tonnage.specs.Years.{entries_mass_in}
 use Rattle.desk_tonnage.proofs.Keys.{found_key}
 
 module _ (year : ℕ) (product : List ℕ) (units : ℕ) (entries : List Entry) (entry : Entry) (found : entry_of year product entries ≡ Some entry) where
-  kept_units : units_of year product entries ≡ entry.units
+  kept_units : entry_units year product entries ≡ entry.units
   kept_units = rw found refl
 
   own_key : entry_key entry ≡ (year, product)
   own_key = let key = found_key year product entries entry found in rw (key.0, key.1) refl
 
   -- where all units are taken the entry goes out
-  pub all_taken : units ≤ units_of year product entries → entry.units - units ≡ 0 → without_units year product units entries ≡ without_row entry_key entry_key_cmp (year, product) entries
+  pub all_taken : units ≤ entry_units year product entries → entry.units - units ≡ 0 → without_entry_units year product units entries ≡ without_row entry_key entry_key_cmp (year, product) entries
   all_taken enough none =
       let same : entry.units ≡ units = omega (arith, kept_units) in
       ap (λ o. lowered o units entries) found
@@ -29,7 +29,7 @@ module _ (year : ℕ) (product : List ℕ) (units : ℕ) (entries : List Entry) 
       ∙ ap (λ key. without_row entry_key entry_key_cmp key entries) own_key
 
   -- else it has fewer
-  pub some_left : (entry.units - units ≡ 0 → ⊥) → without_units year product units entries ≡ with_entry (record entry { units = entry.units - units }) entries
+  pub some_left : (entry.units - units ≡ 0 → ⊥) → without_entry_units year product units entries ≡ with_entry (record entry { units = entry.units - units }) entries
   some_left left =
       let other : entry.units ≡ units → ⊥ = λ same. left (omega (arith, same)) in
       ap (λ o. lowered o units entries) found
@@ -47,15 +47,15 @@ found_not_absent key entries (Ok at) h e absent = cc (h.found some_entry)
 found_not_absent key entries (Err at) h e absent = absurd (false≢true e)
 
 -- a year that would weigh too much
-pub add_heavy : (year : ℕ) (product : List ℕ) (units mass : ℕ) (entries : List Entry) → units_of year product entries + units ≤ 1000000000000 → nat_le (2 ^ 128) (year_mass year (with_units year product units mass entries)) ≡ true → add_answer year product units mass entries ≡ Err (YearTooLarge year)
+pub add_heavy : (year : ℕ) (product : List ℕ) (units mass : ℕ) (entries : List Entry) → entry_units year product entries + units ≤ 1000000000000 → nat_le (2 ^ 128) (entries_mass_in year (with_entry_units year product units mass entries)) ≡ true → add_answer year product units mass entries ≡ Err (YearTooLarge year)
 add_heavy year product units mass entries fits heavy =
-    cond-false (nat_lt 1000000000000 (units_of year product entries + units)) (Err UnitsTooLarge) (cond (nat_le (2 ^ 128) (year_mass year (with_units year product units mass entries))) (Err (YearTooLarge year)) (Ok tt)) (le-ltb 1000000000000 (units_of year product entries + units) fits)
-    ∙ cond-true (nat_le (2 ^ 128) (year_mass year (with_units year product units mass entries))) (Err (YearTooLarge year)) (Ok tt) heavy
+    cond-false (nat_lt 1000000000000 (entry_units year product entries + units)) (Err UnitsTooLarge) (cond (nat_le (2 ^ 128) (entries_mass_in year (with_entry_units year product units mass entries))) (Err (YearTooLarge year)) (Ok tt)) (le-ltb 1000000000000 (entry_units year product entries + units) fits)
+    ∙ cond-true (nat_le (2 ^ 128) (entries_mass_in year (with_entry_units year product units mass entries))) (Err (YearTooLarge year)) (Ok tt) heavy
 
-pub add_ready : (year : ℕ) (product : List ℕ) (units mass : ℕ) (entries : List Entry) → units_of year product entries + units ≤ 1000000000000 → nat_le (2 ^ 128) (year_mass year (with_units year product units mass entries)) ≡ false → add_answer year product units mass entries ≡ Ok tt
+pub add_ready : (year : ℕ) (product : List ℕ) (units mass : ℕ) (entries : List Entry) → entry_units year product entries + units ≤ 1000000000000 → nat_le (2 ^ 128) (entries_mass_in year (with_entry_units year product units mass entries)) ≡ false → add_answer year product units mass entries ≡ Ok tt
 add_ready year product units mass entries fits light =
-    cond-false (nat_lt 1000000000000 (units_of year product entries + units)) (Err UnitsTooLarge) (cond (nat_le (2 ^ 128) (year_mass year (with_units year product units mass entries))) (Err (YearTooLarge year)) (Ok tt)) (le-ltb 1000000000000 (units_of year product entries + units) fits)
-    ∙ cond-false (nat_le (2 ^ 128) (year_mass year (with_units year product units mass entries))) (Err (YearTooLarge year)) (Ok tt) light
+    cond-false (nat_lt 1000000000000 (entry_units year product entries + units)) (Err UnitsTooLarge) (cond (nat_le (2 ^ 128) (entries_mass_in year (with_entry_units year product units mass entries))) (Err (YearTooLarge year)) (Ok tt)) (le-ltb 1000000000000 (entry_units year product entries + units) fits)
+    ∙ cond-false (nat_le (2 ^ 128) (entries_mass_in year (with_entry_units year product units mass entries))) (Err (YearTooLarge year)) (Ok tt) light
 
 -- a sum that would be too large
 pub sum_too_large : (kept more whole : ℕ) (r : Option ℕ) (none : Bool) → whole ≡ kept + more → SomeIff r (kept + more < 2 ^ 128) (kept + more) → is_some r ≡ not none → none ≡ nat_le (2 ^ 128) whole

@@ -21,8 +21,8 @@ abbrev pub entry_of : ℕ → List ℕ → List Entry → Option Entry
 entry_of year product entries = row_of entry_key entry_key_cmp (year, product) entries
 
 -- how many units of a product are kept for a year: 0 where there is no entry
-abbrev pub units_of : ℕ → List ℕ → List Entry → ℕ
-units_of year product entries = option_map_or (λ entry. entry.units) (entry_of year product entries) 0
+abbrev pub entry_units : ℕ → List ℕ → List Entry → ℕ
+entry_units year product entries = option_map_or (λ entry. entry.units) (entry_of year product entries) 0
 
 -- the entries of a year
 abbrev pub entries_in : ℕ → List Entry → List Entry

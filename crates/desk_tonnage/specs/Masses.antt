@@ -7,7 +7,7 @@ use Rattle.desk_tonnage.specs.declared.entry.Entry.{Entry}
 use Rattle.desk_tonnage.specs.declared.product_mass.ProductMass.{ProductMass}
 use Rattle.desk_tonnage.specs.declared.fault.MassFault.{MassFault}
 use Rattle.desk_tonnage.specs.declared.fault.MassFault.TheVariants as fault
-use Rattle.desk_tonnage.specs.Years.{too_heavy_year}
+use Rattle.desk_tonnage.specs.Years.{too_heavy_entry_year}
 
 -- the masses stand in the order of their products, each product once
 abbrev pub AreByProduct : List ProductMass → Type 0
@@ -32,4 +32,4 @@ unless_heavy (Some year) masses = Err (fault.YearTooLarge year)
 
 -- the masses, where the entries can take them, or else why they can't
 abbrev pub masses_answer : List ProductMass → List Entry → Result (List ProductMass) MassFault
-masses_answer masses entries = unless_heavy (too_heavy_year (with_masses masses entries)) masses
+masses_answer masses entries = unless_heavy (too_heavy_entry_year (with_masses masses entries)) masses

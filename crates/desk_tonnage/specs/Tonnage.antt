@@ -25,5 +25,5 @@ abbrev pub total_carried : List ProductLoad → List Entry → ℕ
 total_carried loads entries = sum_by (λ entry. entry.units * carried_by loads entry.product) entries
 
 -- the sum over the entries of a year
-abbrev pub tonnage : ℕ → List ProductLoad → List Entry → ℕ
-tonnage year loads entries = total_carried loads (entries_in year entries)
+abbrev pub entries_tonnage : ℕ → List ProductLoad → List Entry → ℕ
+entries_tonnage year loads entries = total_carried loads (entries_in year entries)

@@ -1,7 +1,7 @@
 ghost use Rattle.std.specs.Prelude.{◌≡◌, ◌-◌, ◌<◌, ◌≤◌, [], length, vec_len, vec_capacity, None};
 ghost use Rattle.desk_rows.specs.Rows.{IsByKey};
-ghost use Rattle.desk_tonnage.specs.Entries.{entry_key, entry_key_cmp, entry_of, units_of};
-ghost use Rattle.desk_tonnage.specs.Edits.{with_entry, without_units};
+ghost use Rattle.desk_tonnage.specs.Entries.{entry_key, entry_key_cmp, entry_of, entry_units};
+ghost use Rattle.desk_tonnage.specs.Edits.{with_entry, without_entry_units};
 ghost use Rattle.desk_tonnage.specs.Masses.{AreByProduct, with_masses};
 
 use crate::entry::Entry;
@@ -47,8 +47,8 @@ fn make_room(entries: &mut Vec<Entry>, room: Vec<Entry>)
 /// Takes units off the entry of this year and product, if there is one; an entry at 0 goes out.
 pub fn lower_units(entries: &mut Vec<Entry>, key: &(u16, Code), units: u64)
     requires by_key { IsByKey entry_key entry_key_cmp entries.old.items }
-    requires kept { units ≤ units_of key.now.0 key.now.1 entries.old.items }
-    ensures { entries.new.items ≡ without_units key.now.0 key.now.1 units entries.old.items }
+    requires kept { units ≤ entry_units key.now.0 key.now.1 entries.old.items }
+    ensures { entries.new.items ≡ without_entry_units key.now.0 key.now.1 units entries.old.items }
 {
     if let Ok(at) = place_of_key(entries.as_slice(), key) {
         let left = entries[at].units - units;

@@ -3,7 +3,7 @@ ghost use Rattle.desk_rows.specs.Rows.{IsByKey};
 ghost use Rattle.desk_tonnage.specs.Entries.{entries_in, entry_key, entry_key_cmp};
 ghost use Rattle.desk_tonnage.specs.Masses.{AreByProduct, mass_after, with_masses};
 ghost use Rattle.desk_tonnage.specs.Tonnage.{AreLoadsByProduct, carried_by, total_carried};
-ghost use Rattle.desk_tonnage.specs.Years.{too_heavy_year, total_mass};
+ghost use Rattle.desk_tonnage.specs.Years.{too_heavy_entry_year, total_mass};
 
 use crate::entry::Entry;
 use crate::product_load::ProductLoad;
@@ -73,7 +73,7 @@ pub fn mass_after(masses: &[ProductMass], entry: &Entry) -> u128
 pub fn too_heavy_year(entries: &[Entry], masses: &[ProductMass]) -> Option<u16>
     requires entries { IsByKey entry_key entry_key_cmp entries.now }
     requires masses { AreByProduct masses.now }
-    ensures { result ≡ too_heavy_year (with_masses masses.now entries.now) }
+    ensures { result ≡ too_heavy_entry_year (with_masses masses.now entries.now) }
 {
     let mut sum = YearSum { year: 0, mass: 0 };
     for entry in entries {

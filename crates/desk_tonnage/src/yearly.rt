@@ -1,12 +1,12 @@
 ghost use Rattle.std.specs.Prelude.{◌≡◌, ◌≢◌, ◌+◌, ◌*◌, ◌^◌, ◌<◌, ◌≤◌, ◌↔◌, [], length, nat_le, option_map, vec_capacity, IsTrue, None, Some, Ok, Err, IfOk, IfErr, OnOk, OnErr};
 ghost use Rattle.std.specs.List.{AllByRecursion};
 ghost use Rattle.desk_rows.specs.Rows.{IsByKey};
-ghost use Rattle.desk_tonnage.specs.Entries.{entry_key, entry_key_cmp, units_of};
-ghost use Rattle.desk_tonnage.specs.Edits.{HasMass, add_answer, entry_with, take_answer, with_entry, with_units, without_units};
+ghost use Rattle.desk_tonnage.specs.Entries.{entry_key, entry_key_cmp, entry_units};
+ghost use Rattle.desk_tonnage.specs.Edits.{HasMass, add_answer, entry_with, take_answer, with_entry, with_entry_units, without_entry_units};
 ghost use Rattle.desk_tonnage.specs.Kept.{IsAddPlan, IsMassPlan, IsNewWithoutRoom};
 ghost use Rattle.desk_tonnage.specs.Masses.{AreByProduct, masses_answer, with_masses};
-ghost use Rattle.desk_tonnage.specs.Tonnage.{AreLoadsByProduct, AreWithinMasses, tonnage};
-ghost use Rattle.desk_tonnage.specs.Years.{IsYearly, too_heavy_year, year_mass};
+ghost use Rattle.desk_tonnage.specs.Tonnage.{AreLoadsByProduct, AreWithinMasses, entries_tonnage};
+ghost use Rattle.desk_tonnage.specs.Years.{IsYearly, too_heavy_entry_year, entries_mass_in};
 
 use crate::edits::{lower_units, set_entry, set_masses};
 use crate::entry::Entry;
@@ -36,10 +36,10 @@ pub struct Yearly {
 
 impl Model for Yearly {
     ghost use Rattle.std.specs.Prelude.{◌-◌, vec_len, vec_capacity};
-    ghost use Rattle.desk_tonnage.specs.Kept.{Kept};
+    ghost use Rattle.desk_tonnage.specs.Kept.{KeptEntries};
     ghost use Rattle.desk_tonnage.specs.Years.{IsYearly};
 
-    ghost Value = { Kept };
+    ghost Value = { KeptEntries };
 
     ghost view = { λ yearly. record {
       entries = yearly.entries.items;
@@ -67,8 +67,8 @@ impl Yearly {
         requires by_key { IsByKey entry_key entry_key_cmp entries.items }
         requires units { AllByRecursion (λ entry. (1 ≤ entry.units) × (entry.units ≤ 1000000000000)) entries.items }
         ensures entries { IfOk result (λ yearly. yearly.entries ≡ entries.items) }
-        ensures fits { IfOk result (λ yearly. too_heavy_year entries.items ≡ None) }
-        ensures fault { IfErr result (λ fault. option_map MassFault.YearTooLarge (too_heavy_year entries.items) ≡ Some fault) }
+        ensures fits { IfOk result (λ yearly. too_heavy_entry_year entries.items ≡ None) }
+        ensures fault { IfErr result (λ fault. option_map MassFault.YearTooLarge (too_heavy_entry_year entries.items) ≡ Some fault) }
     {
         match too_heavy_year(entries.as_slice(), &[]) {
             Some(year) => Err(MassFault::YearTooLarge { year }),
@@ -86,7 +86,7 @@ impl Yearly {
 
     /// How many units of the product are kept for the year: 0 where there is no entry. It takes a binary search.
     pub fn units(&self, year: u16, product: &Code) -> u64
-        ensures units { result ≡ units_of year product.now self.now.entries }
+        ensures units { result ≡ entry_units year product.now self.now.entries }
         ensures limit { result ≤ 1000000000000 }
     {
         match place_of_key(self.entries.as_slice(), &(year, *product)) {
@@ -118,7 +118,7 @@ impl Yearly {
         requires some { 1 ≤ units }
         requires mass { HasMass year product.now mass self.old.entries }
         ensures answer { result ≢ Err TonnageFault.OutOfMemory → result ≡ add_answer year product.now units mass self.old.entries }
-        ensures ok { OnOk result (self.new.entries ≡ with_units year product.now units mass self.old.entries) }
+        ensures ok { OnOk result (self.new.entries ≡ with_entry_units year product.now units mass self.old.entries) }
         ensures err { OnErr result (self.new ≡ self.old) }
         ensures memory { result ≡ Err TonnageFault.OutOfMemory → IsNewWithoutRoom year product.now self.old }
     {
@@ -176,7 +176,7 @@ impl Yearly {
     /// Takes units of a product off a year; an entry at 0 goes out. It takes no memory.
     pub fn take(&mut self, year: u16, product: &Code, units: u64) -> Result<(), TakeFault>
         ensures answer { result ≡ take_answer year product.now units self.old.entries }
-        ensures ok { OnOk result (self.new.entries ≡ without_units year product.now units self.old.entries) }
+        ensures ok { OnOk result (self.new.entries ≡ without_entry_units year product.now units self.old.entries) }
         ensures err { OnErr result (self.new ≡ self.old) }
     {
         let kept = self.units(year, product);
@@ -213,7 +213,7 @@ impl Yearly {
     pub fn tonnage(&self, year: u16, carried: &[ProductLoad]) -> u128
         requires by_product { AreLoadsByProduct carried.now }
         requires within { AreWithinMasses year carried.now self.now.entries }
-        ensures { result ≡ tonnage year carried.now self.now.entries }
+        ensures { result ≡ entries_tonnage year carried.now self.now.entries }
     {
         total_carried(entries_of_year(self.entries.as_slice(), year), carried)
     }
@@ -230,7 +230,7 @@ impl Yearly {
     /// Whether the year would weigh 2^128 micrograms or more with so many units more of a product, each of this mass.
     fn is_too_heavy(&self, year: u16, product: &Code, units: u64, mass: u128) -> bool
         requires { HasMass year product.now mass self.now.entries }
-        ensures { result ≡ nat_le (2 ^ 128) (year_mass year (with_units year product.now units mass self.now.entries)) }
+        ensures { result ≡ nat_le (2 ^ 128) (entries_mass_in year (with_entry_units year product.now units mass self.now.entries)) }
     {
         let kept = total_mass(entries_of_year(self.entries.as_slice(), year));
         match u128::from(units).checked_mul(mass) {

@@ -1,5 +1,5 @@
 use Rattle.std.proofs.Common.{◌≡◌, ◌∙◌, ap, map, subst, sym}
-use Rattle.desk_model.specs.Effect.{entered}
+use Rattle.desk_model.specs.Effect.{with_edit_entered}
 use Rattle.desk_graph.specs.Graph.{label_of}
 use Rattle.desk_graph.specs.Reaches.{has_node}
 use Rattle.desk_bridge.specs.Bridge.{IsBillOf}
@@ -29,7 +29,7 @@ returns-in-Ok-clause-passes c =
 pub returns-in-Ok-clause-of : goal.returns-in-Ok-clause-of
 returns-in-Ok-clause-of c =
     let takes = taken c.args.tables.now.lists c.requires.sound.consistent c.args.bill.now c.node_count.ensures.bill c.requires.bill c.args.edit.now c.in_form.ensures c.requires.new c.requires.rows in
-    subst (IsBillOf (entered c.args.tables.now.lists c.args.edit.now)) (sym c.in-Ok.ensures.bill) (takes.stays c.in-Ok.ensures.opens)
+    subst (IsBillOf (with_edit_entered c.args.tables.now.lists c.args.edit.now)) (sym c.in-Ok.ensures.bill) (takes.stays c.in-Ok.ensures.opens)
 
 pub returns-in_ok-chain-in-Err-Closes-clause-fault : goal.returns-in_ok-chain-in-Err-Closes-clause-fault
 unfolding Rattle.desk_tables.specs.Judged.IsRefusal

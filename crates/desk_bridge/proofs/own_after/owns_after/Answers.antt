@@ -1,5 +1,5 @@
 use Rattle.std.proofs.Common.{◌∙◌}
-use Rattle.desk_model.specs.Effect.{entered}
+use Rattle.desk_model.specs.Effect.{with_edit_entered}
 use Rattle.desk_history.proofs.SoundSteps.{IsConsistent-entered}
 use Rattle.desk_bridge.proofs.Chains.{labels_are_codes}
 use Rattle.desk_bridge.proofs.OwnsAfter.{consistent_after, few_after, named_after, nodes_inside, own_after, own_at_after, renewed_inside, seeds_inside}
@@ -22,7 +22,7 @@ owns_at-requires-clause-named c = named_after c.args.new.now.tables.now.lists c.
 
 pub owns_at-requires-clause-codes : goal.owns_at-requires-clause-codes
 owns_at-requires-clause-codes c =
-    labels_are_codes (entered c.args.new.now.tables.now.lists c.args.new.now.edit.now) (IsConsistent-entered c.args.new.now.tables.now.lists c.args.new.now.edit.now c.requires.sound.consistent c.requires.passes) c.args.bill.now c.requires.of
+    labels_are_codes (with_edit_entered c.args.new.now.tables.now.lists c.args.new.now.edit.now) (IsConsistent-entered c.args.new.now.tables.now.lists c.args.new.now.edit.now c.requires.sound.consistent c.requires.passes) c.args.bill.now c.requires.of
 
 pub owns_at-requires-clause-inside : goal.owns_at-requires-clause-inside
 owns_at-requires-clause-inside c =
@@ -32,7 +32,7 @@ owns_at-requires-clause-inside c =
 
 pub renewed_among-requires-clause-codes : goal.renewed_among-requires-clause-codes
 renewed_among-requires-clause-codes c =
-    labels_are_codes (entered c.args.new.now.tables.now.lists c.args.new.now.edit.now) (IsConsistent-entered c.args.new.now.tables.now.lists c.args.new.now.edit.now c.requires.sound.consistent c.requires.passes) c.args.bill.now c.requires.of
+    labels_are_codes (with_edit_entered c.args.new.now.tables.now.lists c.args.new.now.edit.now) (IsConsistent-entered c.args.new.now.tables.now.lists c.args.new.now.edit.now c.requires.sound.consistent c.requires.passes) c.args.bill.now c.requires.of
 
 pub renewed_among-requires-clause-inside : goal.renewed_among-requires-clause-inside
 renewed_among-requires-clause-inside c =

@@ -7,7 +7,7 @@ use Rattle.desk_findings.specs.Chain.{chain}
 use Rattle.desk_scratch.specs.LookUps.{finding_of, holder_of}
 use Rattle.std.proofs.lemmas.List.{length-map}
 use Rattle.std.proofs.lemmas.Result.{IfOk-weaker}
-use Rattle.desk_scratch.specs.Steps.{line_count}
+use Rattle.desk_scratch.specs.Steps.{chain_line_count}
 use Rattle.desk_engine.proofs.Ways.{chain_inside, chain_told, found_in}
 use Rattle.desk_engine.proofs.chained.stored_chain.Goals as goal
 
@@ -33,7 +33,7 @@ returns-clause-steps g c =
     let rolled = c.args.stored.now.rollups.rolled in
     let nodes = c.in_ok-nodes.nodes.items in
     let behind : length nodes ≡ suc (length (way rolled (mark_number c.mark_of-mark.result) (length rolled) c.kept_node-from.result)) = ap (λ l. length l) walked.nodes in
-    IfOk-weaker c.codes_at.result (λ codes. codes ≡ map (label_of c.args.stored.now.bill.labels) c.as_slice.result.now) (λ codes. c.chain_from.new.steps ≡ c.args.steps.now + line_count codes)
+    IfOk-weaker c.codes_at.result (λ codes. codes ≡ map (label_of c.args.stored.now.bill.labels) c.as_slice.result.now) (λ codes. c.chain_from.new.steps ≡ c.args.steps.now + chain_line_count codes)
     (λ codes e.
     let size : length codes ≡ length nodes =
     ap (λ l. length l) e ∙ length-map c.as_slice.result.now (label_of c.args.stored.now.bill.labels) ∙ ap (λ l. length l) c.as_slice.ensures.value in

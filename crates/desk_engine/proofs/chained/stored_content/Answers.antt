@@ -3,7 +3,7 @@ use Rattle.std.specs.List.{list_any}
 use Rattle.desk_text.specs.Code.{same_code}
 use Rattle.desk_graph.specs.Graph.{label_of}
 use Rattle.desk_findings.specs.Carried.{carried}
-use Rattle.desk_rollup.specs.Values.{carried_in as node_carried}
+use Rattle.desk_rollup.specs.Values.{carried_by_node as node_carried}
 use Rattle.desk_bridge.proofs.Found.{node_of-taken}
 use Rattle.desk_engine.proofs.Articles.{above_candidate, article_carries}
 use Rattle.desk_engine.proofs.chained.stored_content.Goals as goal

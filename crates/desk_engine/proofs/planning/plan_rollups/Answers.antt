@@ -3,7 +3,7 @@ use Rattle.desk_graph.specs.Graph.{label_of}
 use Rattle.desk_rollup.specs.Plan.{IsRefused}
 use Rattle.desk_rollup.specs.Values.{own_with}
 use Rattle.desk_model.specs.declared.rule_fault.RuleFault.TheVariants.{TotalTooLarge}
-use Rattle.desk_model.specs.Effect.{entered}
+use Rattle.desk_model.specs.Effect.{with_edit_entered}
 use Rattle.desk_bridge.specs.Bridge.{IsBillOf}
 use Rattle.desk_bridge.specs.OwnAfter.{AreOwnAfter}
 use Rattle.desk_engine.proofs.Planned.{can_prepare, few_steps, planned_codes, planned_labels, refused_large, refused_many, rolled_for}
@@ -25,7 +25,7 @@ returns-in-Ok-clause-rolled g c =
 
 pub code_at-part-requires-clause-code : goal.code_at-part-requires-clause-code
 code_at-part-requires-clause-code g c =
-    planned_codes c.args.new.now.tables.now.lists c.args.new.now.edit.now c.requires.sound c.requires.passes c.new-after.result (subst (IsBillOf (entered c.args.new.now.tables.now.lists c.args.new.now.edit.now)) (sym c.new-after.ensures) c.requires.of) _
+    planned_codes c.args.new.now.tables.now.lists c.args.new.now.edit.now c.requires.sound c.requires.passes c.new-after.result (subst (IsBillOf (with_edit_entered c.args.new.now.tables.now.lists c.args.new.now.edit.now)) (sym c.new-after.ensures) c.requires.of) _
     (subst (λ node. node < length c.new-after.result.labels) (sym c.in-Err-WeightTooLarge.node-is)
     (subst (IsRefused c.new-after.result (own_with c.as_slice.result.now c.args.stored.now.rollups.owns)) c.in-Err-WeightTooLarge.field-0-is c.in-Err-WeightTooLarge.ensures.refused).there)
 

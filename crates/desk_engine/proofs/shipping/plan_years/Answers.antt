@@ -1,7 +1,7 @@
 use Rattle.std.proofs.Common.{◌∙◌, ℕ, IfErr, IfOk, ap, arith, subst, sym}
 use Rattle.std.specs.Prelude.{if◌then◌else◌}
-use Rattle.desk_model.specs.Effect.{entered}
-use Rattle.desk_tonnage.specs.Edits.{HasMass, with_units}
+use Rattle.desk_model.specs.Effect.{with_edit_entered}
+use Rattle.desk_tonnage.specs.Edits.{HasMass, with_entry_units}
 use Rattle.desk_tonnage.specs.Masses.{with_masses}
 use Rattle.desk_bridge.specs.Bridge.{IsBillOf}
 use Rattle.desk_engine.specs.Masses.{AreAllWeighed, AreWeights}
@@ -36,18 +36,18 @@ masses_of-requires-clause-grows g c = (c.args.plan.now.labels, ap (λ bill. bill
 pub masses_of-requires-clause-codes : goal.masses_of-requires-clause-codes
 masses_of-requires-clause-codes g c =
     planned_codes c.args.new.now.tables.now.lists c.args.new.now.edit.now c.requires.sound c.requires.passes c.new-after.result
-    (subst (IsBillOf (entered c.args.new.now.tables.now.lists c.args.new.now.edit.now)) (sym c.new-after.ensures) c.requires.rolled.1.values.bridge.of)
+    (subst (IsBillOf (with_edit_entered c.args.new.now.tables.now.lists c.args.new.now.edit.now)) (sym c.new-after.ensures) c.requires.rolled.1.values.bridge.of)
 
 pub returns-in-Adds-clause-plan : goal.returns-in-Adds-clause-plan
 returns-in-Adds-clause-plan g c =
     subst (λ entries. IfOk c.plan_adding.result (λ plan. LeavesEntries c.args.stored.now.years entries plan))
-    (ap (λ mass. with_units c.in-Adds.year c.in-Adds.product c.in-Adds.units mass c.args.stored.now.years.entries) c.mass_of-mass.ensures.mass ∙ sym (adds_units c.args.new.now.tables.now.lists c.requires.sound c.args.new.now.edit.now c.in-Adds.year c.in-Adds.product c.in-Adds.units (sym c.shipping_of.ensures ∙ c.in-Adds.is) c.requires.passes c.args.stored.now.years.entries c.requires.stored.of.years).after)
+    (ap (λ mass. with_entry_units c.in-Adds.year c.in-Adds.product c.in-Adds.units mass c.args.stored.now.years.entries) c.mass_of-mass.ensures.mass ∙ sym (adds_units c.args.new.now.tables.now.lists c.requires.sound c.args.new.now.edit.now c.in-Adds.year c.in-Adds.product c.in-Adds.units (sym c.shipping_of.ensures ∙ c.in-Adds.is) c.requires.passes c.args.stored.now.years.entries c.requires.stored.of.years).after)
     c.plan_adding.ensures.plan
 
 pub returns-in-Adds-clause-fault : goal.returns-in-Adds-clause-fault
 returns-in-Adds-clause-fault g c =
     subst (λ entries. IfErr c.plan_adding.result (λ fault. IsYearsFault entries fault))
-    (ap (λ mass. with_units c.in-Adds.year c.in-Adds.product c.in-Adds.units mass c.args.stored.now.years.entries) c.mass_of-mass.ensures.mass ∙ sym (adds_units c.args.new.now.tables.now.lists c.requires.sound c.args.new.now.edit.now c.in-Adds.year c.in-Adds.product c.in-Adds.units (sym c.shipping_of.ensures ∙ c.in-Adds.is) c.requires.passes c.args.stored.now.years.entries c.requires.stored.of.years).after)
+    (ap (λ mass. with_entry_units c.in-Adds.year c.in-Adds.product c.in-Adds.units mass c.args.stored.now.years.entries) c.mass_of-mass.ensures.mass ∙ sym (adds_units c.args.new.now.tables.now.lists c.requires.sound c.args.new.now.edit.now c.in-Adds.year c.in-Adds.product c.in-Adds.units (sym c.shipping_of.ensures ∙ c.in-Adds.is) c.requires.passes c.args.stored.now.years.entries c.requires.stored.of.years).after)
     c.plan_adding.ensures.fault
 
 pub returns-in-Takes-clause-plan : goal.returns-in-Takes-clause-plan

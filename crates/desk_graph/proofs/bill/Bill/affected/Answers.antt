@@ -1,7 +1,7 @@
 use Rattle.std.proofs.Common.{◌≡◌, false, true, ◌∙◌, ap, arith, subst, sym, cond}
 use Rattle.std.proofs.lemmas.List.Kept.{AllPairs-filter}
 use Rattle.std.proofs.lemmas.Result.{IfOk-weaker}
-use Rattle.desk_graph.specs.Graph.{is_line}
+use Rattle.desk_graph.specs.Graph.{is_line_between}
 use Rattle.desk_graph.specs.Order.{has_mark}
 use Rattle.desk_graph.specs.Reaches.{AreAffected, AreChildrenFirst}
 use Rattle.desk_graph.proofs.Kept.{bill_falls, bill_swept}
@@ -35,4 +35,4 @@ returns-clause-children_first c =
     let met = rw (c.as_they_are-users.ensures, c.as_slice.ensures.value, c.as_slice-2.ensures) at up in
     subst (λ g. AreChildrenFirst g.lines nodes.items) c.self.view_is
     (subst (AreChildrenFirst bill.lines.items) (sym met.2)
-    (AllPairs-filter (λ x y. is_line bill.lines.items x y ≡ false) (has_mark true met.0) bill.order (order_pairs bill.lines.items bill.order kept.order)))) c.swept_nodes.ensures
+    (AllPairs-filter (λ x y. is_line_between bill.lines.items x y ≡ false) (has_mark true met.0) bill.order (order_pairs bill.lines.items bill.order kept.order)))) c.swept_nodes.ensures

@@ -2,7 +2,7 @@ use Rattle.std.proofs.Common.{◌≡◌, length, sym, ap, ◌∙◌, subst, arit
 use Rattle.std.specs.Prelude.{option_copied}
 use Rattle.std.proofs.lemmas.Result.{IfOk-weaker}
 use Rattle.desk_graph.specs.Order.{AreSweptUp, HasOnce, IsSwept}
-use Rattle.desk_graph.specs.Planned.{HasMadeWayFor, IsBillPlan, changed_users, planned, with_empty, with_next}
+use Rattle.desk_graph.specs.Planned.{HasMadeWayFor, IsBillPlan, changed_users, graph_after, with_empty, with_next}
 use Rattle.desk_graph.specs.Reaches.{AreAffected, AreChildrenFirst}
 use Rattle.desk_graph.proofs.AfterPlans.{first_after, nodes_after, once_after, sizes_after, swept_after}
 use Rattle.desk_graph.proofs.Kept.{bill_swept}
@@ -35,7 +35,7 @@ returns-then-leaves_order-clause-nodes c =
     let none : 0 ≡ length edit.labels = omega (arith, c.if-more-eq0.true, more) in
     let next : bill.order ≡ with_next (length edit.labels) bill.order = ap (λ n. with_next n bill.order) none in
     IfOk-weaker c.swept_nodes.result _ _ (λ nodes swept.
-    subst (λ g. AreAffected (planned edit g).lines c.args.seeds.now nodes.items) c.self.view_is
+    subst (λ g. AreAffected (graph_after edit g).lines c.args.seeds.now nodes.items) c.self.view_is
     (nodes_after bill.labels.items bill.lines.items bill.users.items bill.order kept.ends kept.order edit good bill.order bill.order way next c.as_planned-users.result are c.args.seeds.now nodes.items
     (subst (λ o. AreSweptUp c.as_planned-users.result o c.args.seeds.now nodes.items) c.as_slice-then-leaves_order.ensures swept))) c.swept_nodes.ensures
 
@@ -52,7 +52,7 @@ returns-then-leaves_order-clause-children_first c =
     let none : 0 ≡ length edit.labels = omega (arith, c.if-more-eq0.true, more) in
     let next : bill.order ≡ with_next (length edit.labels) bill.order = ap (λ n. with_next n bill.order) none in
     IfOk-weaker c.swept_nodes.result _ _ (λ nodes swept.
-    subst (λ g. AreChildrenFirst (planned edit g).lines nodes.items) c.self.view_is
+    subst (λ g. AreChildrenFirst (graph_after edit g).lines nodes.items) c.self.view_is
     (first_after bill.labels.items bill.lines.items bill.users.items bill.order kept.ends kept.order edit good bill.order bill.order way next c.as_planned-users.result are c.args.seeds.now nodes.items
     (subst (λ o. AreSweptUp c.as_planned-users.result o c.args.seeds.now nodes.items) c.as_slice-then-leaves_order.ensures swept))) c.swept_nodes.ensures
 
@@ -102,7 +102,7 @@ swept_nodes-requires-2-clause-seeds c =
     let made = c.in_ok-order.order.items in
     let way : HasMadeWayFor bill.users.items edit.line bill.order made = subst (λ u. HasMadeWayFor u edit.line bill.order made) c.as_slice-2.ensures.value (subst (λ l. HasMadeWayFor c.as_slice-2.result.now l bill.order made) line c.in_ok-order.ensures.way) in
     let next : c.push_next.new.order.items ≡ with_next (length edit.labels) made = c.push_next.ensures.nodes ∙ ap (λ n. with_next n made) more in
-    λ node e. omega (arith, c.requires.seeds node e, (sizes_after bill.labels.items bill.lines.items bill.users.items bill.order kept.ends kept.order edit good made c.push_next.new.order.items way next c.as_planned-users.result are).1, ap (λ g. length (planned edit g).labels) c.self.view_is)
+    λ node e. omega (arith, c.requires.seeds node e, (sizes_after bill.labels.items bill.lines.items bill.users.items bill.order kept.ends kept.order edit good made c.push_next.new.order.items way next c.as_planned-users.result are).1, ap (λ g. length (graph_after edit g).labels) c.self.view_is)
 
 pub returns-clause-nodes : goal.returns-clause-nodes
 returns-clause-nodes c =
@@ -117,7 +117,7 @@ returns-clause-nodes c =
     let way : HasMadeWayFor bill.users.items edit.line bill.order made = subst (λ u. HasMadeWayFor u edit.line bill.order made) c.as_slice-2.ensures.value (subst (λ l. HasMadeWayFor c.as_slice-2.result.now l bill.order made) line c.in_ok-order.ensures.way) in
     let next : c.push_next.new.order.items ≡ with_next (length edit.labels) made = c.push_next.ensures.nodes ∙ ap (λ n. with_next n made) more in
     IfOk-weaker c.swept_nodes-2.result _ _ (λ nodes swept.
-    subst (λ g. AreAffected (planned edit g).lines c.args.seeds.now nodes.items) c.self.view_is
+    subst (λ g. AreAffected (graph_after edit g).lines c.args.seeds.now nodes.items) c.self.view_is
     (nodes_after bill.labels.items bill.lines.items bill.users.items bill.order kept.ends kept.order edit good made c.push_next.new.order.items way next c.as_planned-users.result are c.args.seeds.now nodes.items
     (subst (λ o. AreSweptUp c.as_planned-users.result o c.args.seeds.now nodes.items) c.as_slice-3.ensures.value swept))) c.swept_nodes-2.ensures
 
@@ -134,6 +134,6 @@ returns-clause-children_first c =
     let way : HasMadeWayFor bill.users.items edit.line bill.order made = subst (λ u. HasMadeWayFor u edit.line bill.order made) c.as_slice-2.ensures.value (subst (λ l. HasMadeWayFor c.as_slice-2.result.now l bill.order made) line c.in_ok-order.ensures.way) in
     let next : c.push_next.new.order.items ≡ with_next (length edit.labels) made = c.push_next.ensures.nodes ∙ ap (λ n. with_next n made) more in
     IfOk-weaker c.swept_nodes-2.result _ _ (λ nodes swept.
-    subst (λ g. AreChildrenFirst (planned edit g).lines nodes.items) c.self.view_is
+    subst (λ g. AreChildrenFirst (graph_after edit g).lines nodes.items) c.self.view_is
     (first_after bill.labels.items bill.lines.items bill.users.items bill.order kept.ends kept.order edit good made c.push_next.new.order.items way next c.as_planned-users.result are c.args.seeds.now nodes.items
     (subst (λ o. AreSweptUp c.as_planned-users.result o c.args.seeds.now nodes.items) c.as_slice-3.ensures.value swept))) c.swept_nodes-2.ensures

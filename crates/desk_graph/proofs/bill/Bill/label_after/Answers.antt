@@ -1,7 +1,7 @@
 use Rattle.std.proofs.Common.{◌≡◌, ◌<◌, ◌≤◌, ◌+◌, ◌-◌, ◌++◌, [], length, sym, ap, ◌∙◌, arith}
 use Rattle.std.proofs.lemmas.List.{get_or-append_right, get_or_append_left, get_or_default}
 use Rattle.desk_graph.specs.Graph.{label_of}
-use Rattle.desk_graph.specs.Planned.{planned}
+use Rattle.desk_graph.specs.Planned.{graph_after}
 use Rattle.desk_graph.proofs.AfterPlans.{count_after, labels_are}
 use Rattle.desk_graph.proofs.ChangedLines.{with_labels-is}
 use Rattle.desk_graph.proofs.bill.Bill.label_after.Goals as goal
@@ -12,7 +12,7 @@ returns-then-id-kept c =
     let edit = c.args.plan.now in
     let kept = c.self.inside.labels.items in
     let same : kept ≡ g.labels = ap (λ h. h.labels) c.self.view_is in
-    let all : (planned edit g).labels ≡ kept ++ edit.labels = labels_are edit g [] ∙ with_labels-is edit.labels g.labels ∙ ap (λ l. l ++ edit.labels) (sym same) in
+    let all : (graph_after edit g).labels ≡ kept ++ edit.labels = labels_are edit g [] ∙ with_labels-is edit.labels g.labels ∙ ap (λ l. l ++ edit.labels) (sym same) in
     let below : c.args.id < length kept = omega (arith, c.if-id-kept.true, c.len-kept.ensures, c.self.inside.labels.ok.0) in
     c.as_bytes.ensures.value ∙ c.index.ensures ∙ get_or_default kept c.args.id c.index.result.now [] below
     ∙ sym (ap (λ l. label_of l c.args.id) all ∙ get_or_append_left kept edit.labels [] c.args.id below)
@@ -32,7 +32,7 @@ returns c =
     let count = c.len-kept.result in
     let same : kept ≡ g.labels = ap (λ h. h.labels) c.self.view_is in
     let planned_new : new ≡ edit.labels = ap (λ p. p.labels) c.plan.view_is in
-    let all : (planned edit g).labels ≡ kept ++ new = labels_are edit g [] ∙ with_labels-is edit.labels g.labels ∙ ap (λ l. l ++ edit.labels) (sym same) ∙ ap (λ l. kept ++ l) (sym planned_new) in
+    let all : (graph_after edit g).labels ≡ kept ++ new = labels_are edit g [] ∙ with_labels-is edit.labels g.labels ∙ ap (λ l. l ++ edit.labels) (sym same) ∙ ap (λ l. kept ++ l) (sym planned_new) in
     let size : length kept ≡ count = omega (arith, c.len-kept.ensures, c.self.inside.labels.ok.0) in
     let past : count ≤ c.args.id = c.if-id-kept.false in
     let there : c.args.id - count < length new =

@@ -1,7 +1,7 @@
 use Rattle.std.proofs.Common.{◌≡◌, ◌+◌, ◌<◌, ◌∷◌, [], ◌++◌, false, length, sym, ap, ◌∙◌, subst, arith}
 use Rattle.std.proofs.lemmas.List.{length_push}
 use Rattle.desk_graph.specs.Edits.{is_taken}
-use Rattle.desk_graph.specs.Planned.{IsBillPlan, changed_lines, planned}
+use Rattle.desk_graph.specs.Planned.{IsBillPlan, changed_lines, graph_after}
 use Rattle.desk_graph.proofs.AfterPlans.{count_after, labels_are}
 use Rattle.desk_graph.proofs.ChangedLines.{free-push, with_labels-is, with_nodes-push}
 use Rattle.desk_graph.proofs.bill.Bill.plan_new_node.Goals as goal
@@ -17,7 +17,7 @@ returns-clause-bill c =
     let label = c.args.label.now in
     let labels : c.push.new.self.items ≡ edit.labels ++ label ∷ [] = c.in_ok-push.ensures.items ∙ ap (λ l. l ++ c.new.result ∷ []) (ap (λ e. e.labels) c.plan.view_is) ∙ ap (λ x. edit.labels ++ x ∷ []) c.new.ensures in
     let line = ap (λ e. e.line) c.plan.view_is in
-    ap (λ ls. planned (record { labels = ls; line = c.plan.inside.line }) g) labels ∙ ap (λ l. planned (record { labels = edit.labels ++ label ∷ []; line = l }) g) line
+    ap (λ ls. graph_after (record { labels = ls; line = c.plan.inside.line }) g) labels ∙ ap (λ l. graph_after (record { labels = edit.labels ++ label ∷ []; line = l }) g) line
     ∙ with_nodes-push edit.labels label (record { labels = g.labels; lines = changed_lines edit.line g.lines })
 
 pub returns-clause-plan : goal.returns-clause-plan

@@ -1,5 +1,5 @@
 use Rattle.std.proofs.Common.{◌≡◌, ℕ, ◌<◌, List, length, map, slice_index, sym, ap, ◌∙◌, subst, arith}
-use Rattle.desk_graph.specs.Graph.{lines_of}
+use Rattle.desk_graph.specs.Graph.{lines_of_node}
 use Rattle.desk_graph.specs.Reaches.{AreAffected}
 use Rattle.desk_rollup.specs.Places.{ArePlaced}
 use Rattle.desk_rollup.specs.Plan.{IsRollPlan, PlannedValues, nodes_of_owns}
@@ -41,7 +41,7 @@ judged-requires g c =
     (subst (λ k. length k.owns ≡ length k.rolled) c.self.view_is c.self.invariant.sizes) (subst (λ k. DoFit k.rolled) c.self.view_is c.self.invariant.fit)
     (c.in_ok-of_owns.ensures ∙ c.in_ok-seeds.ensures) (subst ArePlaced c.of_owns.view_is c.of_owns.invariant) (subst ArePlaced c.places.view_is c.places.invariant) c.in_ok-nodes.nodes.items c.in_ok-places.ensures
     (subst (λ seeds. AreAffected (g.B.BillView.graph c.args.bill.now).lines seeds c.in_ok-nodes.nodes.items) (c.as_slice.ensures.value ∙ c.in_ok-seeds.ensures) c.in_ok-nodes.ensures.nodes) c.in_ok-nodes.ensures.children_first
-    (c.in_ok-lists.ensures.lists ∙ ap (map (lines_of (g.B.BillView.graph c.args.bill.now).lines)) c.as_slice-2.ensures.value))
+    (c.in_ok-lists.ensures.lists ∙ ap (map (lines_of_node (g.B.BillView.graph c.args.bill.now).lines)) c.as_slice-2.ensures.value))
 
 pub returns-in_err-lists-clause-few_steps : goal.returns-in_err-lists-clause-few_steps
 returns-in_err-lists-clause-few_steps g c =
@@ -85,7 +85,7 @@ invariant_of-result g c =
     (subst (λ k. length k.owns ≡ length k.rolled) c.self.view_is c.self.invariant.sizes) (subst (λ k. DoFit k.rolled) c.self.view_is c.self.invariant.fit)
     (c.in_ok-of_owns.ensures ∙ c.in_ok-seeds.ensures) (subst ArePlaced c.of_owns.view_is c.of_owns.invariant) (subst ArePlaced c.places.view_is c.places.invariant) c.in_ok-nodes.nodes.items c.in_ok-places.ensures
     (subst (λ seeds. AreAffected (g.B.BillView.graph c.args.bill.now).lines seeds c.in_ok-nodes.nodes.items) (c.as_slice.ensures.value ∙ c.in_ok-seeds.ensures) c.in_ok-nodes.ensures.nodes) c.in_ok-nodes.ensures.children_first
-    (c.in_ok-lists.ensures.lists ∙ ap (map (lines_of (g.B.BillView.graph c.args.bill.now).lines)) c.as_slice-2.ensures.value) in (
+    (c.in_ok-lists.ensures.lists ∙ ap (map (lines_of_node (g.B.BillView.graph c.args.bill.now).lines)) c.as_slice-2.ensures.value) in (
       c.in_ok-rolled.ensures.size,
       omega (arith, c.node_count-count.ensures.count, c.node_count-count.ensures.bill.nodes),
       new_fit (g.B.BillView.graph c.args.bill.now) c.args.owns.now c.args.self.now c.in_ok-of_owns.of_owns c.in_ok-places.places (map (λ list. list.now) c.in_ok-lists.lists.items) sweep c.in_ok-rolled.rolled.items
@@ -98,7 +98,7 @@ returns-clause-plan g c =
     (subst (λ k. length k.owns ≡ length k.rolled) c.self.view_is c.self.invariant.sizes) (subst (λ k. DoFit k.rolled) c.self.view_is c.self.invariant.fit)
     (c.in_ok-of_owns.ensures ∙ c.in_ok-seeds.ensures) (subst ArePlaced c.of_owns.view_is c.of_owns.invariant) (subst ArePlaced c.places.view_is c.places.invariant) c.in_ok-nodes.nodes.items c.in_ok-places.ensures
     (subst (λ seeds. AreAffected (g.B.BillView.graph c.args.bill.now).lines seeds c.in_ok-nodes.nodes.items) (c.as_slice.ensures.value ∙ c.in_ok-seeds.ensures) c.in_ok-nodes.ensures.nodes) c.in_ok-nodes.ensures.children_first
-    (c.in_ok-lists.ensures.lists ∙ ap (map (lines_of (g.B.BillView.graph c.args.bill.now).lines)) c.as_slice-2.ensures.value) in
+    (c.in_ok-lists.ensures.lists ∙ ap (map (lines_of_node (g.B.BillView.graph c.args.bill.now).lines)) c.as_slice-2.ensures.value) in
     let plan = is_plan (g.B.BillView.graph c.args.bill.now) c.args.owns.now c.args.self.now c.in_ok-of_owns.of_owns c.in_ok-places.places (map (λ list. list.now) c.in_ok-lists.lists.items) sweep c.in_ok-rolled.rolled.items
     c.in_ok-rolled.ensures.size c.in_ok-rolled.ensures.right in
     let bill = g.B.BillView.graph c.args.bill.now in

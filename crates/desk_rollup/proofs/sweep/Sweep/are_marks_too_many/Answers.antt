@@ -1,6 +1,6 @@
 use Rattle.std.proofs.Common.{◌≡◌, ◌<◌, ◌+◌, ◌==◌, List, cond, length, sym, ap, ◌∙◌, subst, arith}
 use Rattle.std.proofs.lemmas.Bool.{le-ltb, lt-ltb}
-use Rattle.desk_graph.specs.Graph.{lines_of}
+use Rattle.desk_graph.specs.Graph.{lines_of_node}
 use Rattle.desk_rollup.specs.declared.rolled.Rolled.{Rolled}
 use Rattle.desk_rollup.specs.Places.{IsKnown, known, place_at}
 use Rattle.desk_rollup.specs.Rolled.{mark_count}
@@ -25,7 +25,7 @@ returns-then-sum-gt-MARK_LIMIT g c =
     let there : node < length bill.labels = omega (arith, c.loop-node-test.true, c.node_count-node-end.ensures.count) in
     let more = count_more bill s.owns.now s.kept.now s.of_owns.now s.places.now _ c.requires.sweep c.args.rolled.now c.requires.size c.requires.right node there in
     let within = count_within bill s.owns.now s.kept.now s.of_owns.now s.places.now _ c.requires.sweep c.args.rolled.now c.requires.size c.requires.right (node + 1) in
-    let sum = c.with_marks-sum.ensures ∙ ap (λ k. c.loop-node.sum + cond (length (lines_of bill.lines node) == 0) 0 (length (known (place_at s.places.now node) k c.args.rolled.now node).hops)) c.values.ensures.values in
+    let sum = c.with_marks-sum.ensures ∙ ap (λ k. c.loop-node.sum + cond (length (lines_of_node bill.lines node) == 0) 0 (length (known (place_at s.places.now node) k c.args.rolled.now node).hops)) c.values.ensures.values in
     sym (lt-ltb 4194304 (mark_count bill.lines (own_with s.owns.now s.kept.now.owns)) (omega (arith, more, within, sum, c.if-sum-gt-MARK_LIMIT.true, c.loop-node.invariant.0)))
 
 pub loop-node-preserved : goal.loop-node-preserved
@@ -35,8 +35,8 @@ loop-node-preserved g c =
     let node = c.loop-node.node in
     let there : node < length bill.labels = omega (arith, c.loop-node-test.true, c.node_count-node-end.ensures.count) in
     let more = count_more bill s.owns.now s.kept.now s.of_owns.now s.places.now _ c.requires.sweep c.args.rolled.now c.requires.size c.requires.right node there in
-    let sum = c.with_marks-sum.ensures ∙ ap (λ k. c.loop-node.sum + cond (length (lines_of bill.lines node) == 0) 0 (length (known (place_at s.places.now node) k c.args.rolled.now node).hops)) c.values.ensures.values in
-    (sum ∙ ap (λ n. n + cond (length (lines_of bill.lines node) == 0) 0 (length (known (place_at s.places.now node) s.kept.now.rolled c.args.rolled.now node).hops)) c.loop-node.invariant.0 ∙ sym more, omega (arith, c.if-sum-gt-MARK_LIMIT.false))
+    let sum = c.with_marks-sum.ensures ∙ ap (λ k. c.loop-node.sum + cond (length (lines_of_node bill.lines node) == 0) 0 (length (known (place_at s.places.now node) k c.args.rolled.now node).hops)) c.values.ensures.values in
+    (sum ∙ ap (λ n. n + cond (length (lines_of_node bill.lines node) == 0) 0 (length (known (place_at s.places.now node) s.kept.now.rolled c.args.rolled.now node).hops)) c.loop-node.invariant.0 ∙ sym more, omega (arith, c.if-sum-gt-MARK_LIMIT.false))
 
 pub returns : goal.returns
 returns g c =

@@ -3,7 +3,7 @@ use Rattle.std.proofs.Common.{◌≡◌, ℕ, ◌<◌, ◌^◌, ◌+◌, ◌==�
 use Rattle.std.proofs.lemmas.Bool.{cases_lt}
 use Rattle.std.proofs.lemmas.List.{length_push, get_or_append_left, get_or_push}
 use Rattle.desk_graph.specs.declared.line.BillLine.{BillLine}
-use Rattle.desk_graph.specs.Graph.{has_line, lines_of}
+use Rattle.desk_graph.specs.Graph.{has_line, lines_of_node}
 use Rattle.desk_graph.specs.Reaches.{has_node}
 use Rattle.desk_rollup.specs.declared.hop.Hop.{Hop}
 use Rattle.desk_rollup.specs.declared.load.Load.{Load}
@@ -97,7 +97,7 @@ returns-in_default-clause-refused g c fit =
     let P : OwnValues → Type 0 = λ o. o.weight < 2 ^ 128 in
     let small : (own node).weight < 2 ^ 128 = subst P own_is c.in_ok-new.ensures.own in
     let weighs : List Rolled → OwnValues → List BillLine → Option ℕ = λ kept o l. weighed (λ child. Some (known (place_at s.places.now child) kept new child).weight) o.weight l in
-    let weighs_so : option_map (λ values. values.weight) c.in_ok-new.field-0 ≡ weighs s.kept.now.rolled (own node) (lines_of bill.lines node) =
+    let weighs_so : option_map (λ values. values.weight) c.in_ok-new.field-0 ≡ weighs s.kept.now.rolled (own node) (lines_of_node bill.lines node) =
     c.in_ok-new.ensures.weight ∙ ap (λ k. weighs k c.own-own.result.now list) c.values.ensures.values ∙ ap (λ o. weighs s.kept.now.rolled o list) own_is ∙ ap (weighs s.kept.now.rolled (own node)) lines in
     let large = found_none bill s.owns.now s.kept.now s.of_owns.now s.places.now _ c.requires place low new before c.loop-place.invariant.2 small (ap (option_map (λ values. values.weight)) (sym c.in_default.is) ∙ weighs_so) in
     let light = fit node (inside bill s.owns.now s.kept.now s.of_owns.now s.places.now _ c.requires node (has_at nodes place low)) in
@@ -121,7 +121,7 @@ loop-place-preserved g c =
     let P : OwnValues → Type 0 = λ o. o.weight < 2 ^ 128 in
     let small : (own node).weight < 2 ^ 128 = subst P own_is c.in_ok-new.ensures.own in
     let weighs : List Rolled → OwnValues → List BillLine → Option ℕ = λ kept o l. weighed (λ child. Some (known (place_at s.places.now child) kept new child).weight) o.weight l in
-    let weighs_so : option_map (λ values. values.weight) c.in_ok-new.field-0 ≡ weighs s.kept.now.rolled (own node) (lines_of bill.lines node) =
+    let weighs_so : option_map (λ values. values.weight) c.in_ok-new.field-0 ≡ weighs s.kept.now.rolled (own node) (lines_of_node bill.lines node) =
     c.in_ok-new.ensures.weight ∙ ap (λ k. weighs k c.own-own.result.now list) c.values.ensures.values ∙ ap (λ o. weighs s.kept.now.rolled o list) own_is ∙ ap (weighs s.kept.now.rolled (own node)) lines in
     let followed : (spot : ℕ) → spot < place → DoFollow c.loop-place.roller.changed (rolled_at s.kept.now.rolled (slice_index nodes spot)).hops (rolled_at new spot).hops = λ spot h.
     subst (λ l. DoFollow c.loop-place.roller.changed (rolled_at s.kept.now.rolled (slice_index nodes spot)).hops (rolled_at l spot).hops) (sym c.as_slice.ensures.value) (c.loop-place.invariant.5 spot h) in
@@ -131,15 +131,15 @@ loop-place-preserved g c =
     let found_hops : hops c.values.result.now c.own-own.result.now list (slice_index c.as_slice-node-items.result.now place) =
     subst (λ o. IfSome o (λ values. hops_of c.values.result.now c.own-own.result.now list (slice_index c.as_slice-node-items.result.now place) values.hops)) c.in-Some.is c.in_ok-new.ensures.hops in
     let node_is : slice_index c.as_slice-node-items.result.now place ≡ node = ap (λ l. slice_index l place) c.as_slice-node-items.ensures in
-    let hops_so : hops s.kept.now.rolled (own node) (lines_of bill.lines node) node =
-    subst (hops s.kept.now.rolled (own node) (lines_of bill.lines node)) node_is
+    let hops_so : hops s.kept.now.rolled (own node) (lines_of_node bill.lines node) node =
+    subst (hops s.kept.now.rolled (own node) (lines_of_node bill.lines node)) node_is
     (subst (λ l. hops s.kept.now.rolled (own node) l (slice_index c.as_slice-node-items.result.now place)) lines
     (subst (λ o. hops s.kept.now.rolled o list (slice_index c.as_slice-node-items.result.now place)) own_is
     (subst (λ k. hops k c.own-own.result.now list (slice_index c.as_slice-node-items.result.now place)) c.values.ensures.values found_hops))) in
     let loads : List Rolled → OwnValues → List BillLine → List Load = λ kept o l. all_loads (λ child. known (place_at s.places.now child) kept new child) o.loads l in
     let found_loads : c.in-Some.new.loads ≡ loads c.values.result.now c.own-own.result.now list =
     subst (λ o. IfSome o (λ values. values.loads ≡ loads c.values.result.now c.own-own.result.now list)) c.in-Some.is c.in_ok-new.ensures.loads in
-    let loads_so : c.in-Some.new.loads ≡ loads s.kept.now.rolled (own node) (lines_of bill.lines node) =
+    let loads_so : c.in-Some.new.loads ≡ loads s.kept.now.rolled (own node) (lines_of_node bill.lines node) =
     found_loads ∙ ap (λ k. loads k c.own-own.result.now list) c.values.ensures.values ∙ ap (λ o. loads s.kept.now.rolled o list) own_is ∙ ap (loads s.kept.now.rolled (own node)) lines in
     let none : c.is_given-is_given.result ≡ false → has_node (nodes_of_owns s.owns.now) node ≡ false = λ e. ap (has_node (nodes_of_owns s.owns.now)) (sym node_is) ∙ sym c.is_given-is_given.ensures ∙ e in
     let right = found_values bill s.owns.now s.kept.now s.of_owns.now s.places.now _ c.requires place low new before c.loop-place.invariant.2 small c.loop-place.roller.changed followed c.in-Some.new c.is_given-is_given.result none
@@ -159,7 +159,7 @@ loop-place-preserved g c =
             | inl earlier ↦ c.loop-place.invariant.2 spot earlier
             | inr last ↦ let same : place ≡ spot = omega arith in subst (λ n. weight bill.lines own (slice_index nodes n) < 2 ^ 128) same right.0
           ],
-      sum ∙ ap (λ n. n + cond (length (lines_of bill.lines node) == 0) 0 (length c.in-Some.new.hops)) c.loop-place.invariant.3 ∙ sym more,
+      sum ∙ ap (λ n. n + cond (length (lines_of_node bill.lines node) == 0) 0 (length c.in-Some.new.hops)) c.loop-place.invariant.3 ∙ sym more,
       omega (arith, c.if-marks-gt-MARK_LIMIT.false),
       each_pushed c.loop-place.rolled.items c.in-Some.new _ items place c.loop-place.invariant.0
           (λ n values. DoFollow c.roll.new.self.changed (rolled_at s.kept.now.rolled (slice_index nodes n)).hops values.hops)
@@ -184,7 +184,7 @@ returns-then-marks-gt-MARK_LIMIT-clause-refused g c fit =
     let P : OwnValues → Type 0 = λ o. o.weight < 2 ^ 128 in
     let small : (own node).weight < 2 ^ 128 = subst P own_is c.in_ok-new.ensures.own in
     let weighs : List Rolled → OwnValues → List BillLine → Option ℕ = λ kept o l. weighed (λ child. Some (known (place_at s.places.now child) kept new child).weight) o.weight l in
-    let weighs_so : option_map (λ values. values.weight) c.in_ok-new.field-0 ≡ weighs s.kept.now.rolled (own node) (lines_of bill.lines node) =
+    let weighs_so : option_map (λ values. values.weight) c.in_ok-new.field-0 ≡ weighs s.kept.now.rolled (own node) (lines_of_node bill.lines node) =
     c.in_ok-new.ensures.weight ∙ ap (λ k. weighs k c.own-own.result.now list) c.values.ensures.values ∙ ap (λ o. weighs s.kept.now.rolled o list) own_is ∙ ap (weighs s.kept.now.rolled (own node)) lines in
     let followed : (spot : ℕ) → spot < place → DoFollow c.loop-place.roller.changed (rolled_at s.kept.now.rolled (slice_index nodes spot)).hops (rolled_at new spot).hops = λ spot h.
     subst (λ l. DoFollow c.loop-place.roller.changed (rolled_at s.kept.now.rolled (slice_index nodes spot)).hops (rolled_at l spot).hops) (sym c.as_slice.ensures.value) (c.loop-place.invariant.5 spot h) in
@@ -194,15 +194,15 @@ returns-then-marks-gt-MARK_LIMIT-clause-refused g c fit =
     let found_hops : hops c.values.result.now c.own-own.result.now list (slice_index c.as_slice-node-items.result.now place) =
     subst (λ o. IfSome o (λ values. hops_of c.values.result.now c.own-own.result.now list (slice_index c.as_slice-node-items.result.now place) values.hops)) c.in-Some.is c.in_ok-new.ensures.hops in
     let node_is : slice_index c.as_slice-node-items.result.now place ≡ node = ap (λ l. slice_index l place) c.as_slice-node-items.ensures in
-    let hops_so : hops s.kept.now.rolled (own node) (lines_of bill.lines node) node =
-    subst (hops s.kept.now.rolled (own node) (lines_of bill.lines node)) node_is
+    let hops_so : hops s.kept.now.rolled (own node) (lines_of_node bill.lines node) node =
+    subst (hops s.kept.now.rolled (own node) (lines_of_node bill.lines node)) node_is
     (subst (λ l. hops s.kept.now.rolled (own node) l (slice_index c.as_slice-node-items.result.now place)) lines
     (subst (λ o. hops s.kept.now.rolled o list (slice_index c.as_slice-node-items.result.now place)) own_is
     (subst (λ k. hops k c.own-own.result.now list (slice_index c.as_slice-node-items.result.now place)) c.values.ensures.values found_hops))) in
     let loads : List Rolled → OwnValues → List BillLine → List Load = λ kept o l. all_loads (λ child. known (place_at s.places.now child) kept new child) o.loads l in
     let found_loads : c.in-Some.new.loads ≡ loads c.values.result.now c.own-own.result.now list =
     subst (λ o. IfSome o (λ values. values.loads ≡ loads c.values.result.now c.own-own.result.now list)) c.in-Some.is c.in_ok-new.ensures.loads in
-    let loads_so : c.in-Some.new.loads ≡ loads s.kept.now.rolled (own node) (lines_of bill.lines node) =
+    let loads_so : c.in-Some.new.loads ≡ loads s.kept.now.rolled (own node) (lines_of_node bill.lines node) =
     found_loads ∙ ap (λ k. loads k c.own-own.result.now list) c.values.ensures.values ∙ ap (λ o. loads s.kept.now.rolled o list) own_is ∙ ap (loads s.kept.now.rolled (own node)) lines in
     let none : c.is_given-is_given.result ≡ false → has_node (nodes_of_owns s.owns.now) node ≡ false = λ e. ap (has_node (nodes_of_owns s.owns.now)) (sym node_is) ∙ sym c.is_given-is_given.ensures ∙ e in
     let right = found_values bill s.owns.now s.kept.now s.of_owns.now s.places.now _ c.requires place low new before c.loop-place.invariant.2 small c.loop-place.roller.changed followed c.in-Some.new c.is_given-is_given.result none

@@ -3,7 +3,7 @@ use Rattle.std.proofs.Common.{◌≡◌, ◌++◌, ◌∷◌, ◌∙◌, ℕ, Li
 use Rattle.std.specs.Prelude.{if◌then◌else◌}
 use Rattle.desk_law.specs.declared.rule.Rule.{Rule}
 use Rattle.desk_law.specs.Limit.{is_over, limit_of}
-use Rattle.desk_law.specs.Rule.{all_rules}
+use Rattle.desk_law.specs.Rule.{restricting_rules}
 use Rattle.desk_model.specs.declared.rows.material.MaterialRow.{MaterialRow}
 use Rattle.desk_model.specs.Lists.{Lists}
 use Rattle.desk_findings.specs.Findings.{Finding, over}
@@ -24,7 +24,7 @@ loop-rule-preserved c =
     record {
       rules = refl;
       list =
-          line-added (λ rule. if is_over_limit t rule material then over material.code rule ∷ [] else []) all_rules c.loop-rule.rule-index _ (map finding_of c.args.list.now.items) (map finding_of c.loop-rule.list.items)
+          line-added (λ rule. if is_over_limit t rule material then over material.code rule ∷ [] else []) restricting_rules c.loop-rule.rule-index _ (map finding_of c.args.list.now.items) (map finding_of c.loop-rule.list.items)
           (map finding_of c.push_if_over.new.list.items) (omega arith) c.loop-rule.invariant.list (over_step t material _ _ _ _ share c.in_ok-push_if_over.ensures);
     }
 
@@ -34,4 +34,4 @@ returns c =
     let material = c.args.material.now in
     let all : c.loop-rule.rule-index ≡ 10 = omega arith in
     (rw all at c.loop-rule.invariant.list)
-    ∙ ap (λ list. map finding_of c.args.list.now.items ++ list) (sym (map-filter (over material.code) (λ rule. is_over_limit t rule material) all_rules))
+    ∙ ap (λ list. map finding_of c.args.list.now.items ++ list) (sym (map-filter (over material.code) (λ rule. is_over_limit t rule material) restricting_rules))

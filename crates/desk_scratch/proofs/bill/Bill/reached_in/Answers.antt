@@ -7,7 +7,7 @@ use Rattle.desk_findings.specs.Reaches.{is_or_reaches}
 use Rattle.desk_history.proofs.SoundClauses.{bill_of}
 use Rattle.desk_history.specs.Sound.{Sound}
 use Rattle.desk_tables.proofs.FindingSums.{range_push}
-use Rattle.desk_totals.specs.Linked.{IsBillOf}
+use Rattle.desk_totals.specs.Linked.{IsLinkedOf}
 use Rattle.desk_totals.specs.Places.{node_at}
 use Rattle.desk_totals.proofs.Walks.{no_part}
 use Rattle.desk_model.specs.Lists.{nodes_of}
@@ -32,14 +32,14 @@ loop-place-preserved c =
 
 pub reached_among-requires-clause-places : goal.reached_among-requires-clause-places
 reached_among-requires-clause-places c =
-    let of = subst (IsBillOf c.self.inside.links) c.self.view_is c.self.invariant.1 in
+    let of = subst (IsLinkedOf c.self.inside.links) c.self.view_is c.self.invariant.1 in
     inside_range c.as_slice.result.now c.args.first c.loop-place.place (length c.self.inside.links.nodes) (c.as_slice.ensures.value ∙ c.loop-place.invariant.places) c.loop-place.invariant.low
     (omega (arith, c.loop-place.auto.place-end c.requires.order, c.requires.within, ap length of.nodes))
 
 pub unreachable-requires : goal.unreachable-requires
 unreachable-requires c =
     both_ways (is_part c.args.self.now c.args.part.now)
-    (no_part c.args.self.now c.self.inside.links (subst (IsBillOf c.self.inside.links) c.self.view_is c.self.invariant.1) c.args.part.now c.in-None.ensures) c.requires.kept
+    (no_part c.args.self.now c.self.inside.links (subst (IsLinkedOf c.self.inside.links) c.self.view_is c.self.invariant.1) c.args.part.now c.in-None.ensures) c.requires.kept
 
 pub returns : goal.returns
 returns c =
@@ -47,7 +47,7 @@ returns c =
     let part = c.args.part.now in
     let nodes = c.self.inside.links.nodes in
     let targets = c.as_slice.result.now in
-    let of = subst (IsBillOf c.self.inside.links) c.self.view_is c.self.invariant.1 in
+    let of = subst (IsLinkedOf c.self.inside.links) c.self.view_is c.self.invariant.1 in
     let s = subst Sound c.self.view_is c.self.invariant.0 in
     let whole : c.loop-place.place ≡ c.args.end = omega (arith, c.loop-place.auto.place-end c.requires.order, c.loop-place-test.false) in
     IfOk-weaker c.reached_among.result _ _
