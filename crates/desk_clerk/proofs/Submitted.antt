@@ -11,7 +11,7 @@ use Rattle.desk_model.proofs.Kept.{code_cmp_total}
 use Rattle.desk_history.specs.Step.{kept_number, step, step_from}
 use Rattle.desk_tables.specs.Desk.{Desk}
 use Rattle.desk_tables.specs.Judged.{IsRefusal}
-use Rattle.desk_tables.specs.Plan.{CanCommit, IsPlan, plan_number, planned}
+use Rattle.desk_tables.specs.Plan.{CanCommit, IsPlan, plan_number, tables_planned}
 use Rattle.desk_tables.specs.declared.edit_fault.EditFault.{EditFault}
 use Rattle.desk_tables.specs.declared.edit_fault.EditFault.TheVariants as edit_fault
 use Rattle.desk_tables.specs.declared.plan.TablesPlan.{TablesPlan}
@@ -55,7 +55,7 @@ none_some e = cc
 
 -- the plan of an edit that is kept is to change nothing
 pub kept_plan : (desk : Desk) (edit : Edit) (made : TablesPlan) (n : ℕ) → IsPlan desk edit made → kept_number desk.lists edit ≡ Some n → (m : ℕ) × (made ≡ plan.Kept m)
-unfolding planned CanCommit
+unfolding tables_planned CanCommit
 kept_plan desk edit (plan.Kept m) n is kept = (m, refl)
 kept_plan desk edit (plan.New change ticket room) n is kept =
     let tickets : desk.lists.tickets ≡ with_row (λ row. row.code) code_cmp ticket desk.lists.tickets = ap (λ t. t.tickets) (sym (kept_step desk.lists edit n kept) ∙ ap (λ done. done.1) is.0) in
@@ -65,11 +65,11 @@ kept_plan desk edit (plan.New change ticket room) n is kept =
 ok_err : (n : ℕ) (fault : RuleFault) {G : Type 0} → ◌≡◌ {A = Result ℕ RuleFault} (Ok n) (Err fault) → G
 ok_err n fault e = cc
 
--- an edit that has a plan breaks no rule
+-- an edit that has a plan meets no refusal
 pub not_refused : (desk : Desk) (edit : Edit) (made : TablesPlan) (fault : RuleFault) {G : Type 0} → IsPlan desk edit made → (step desk.lists edit).0 ≡ Err fault → G
 not_refused desk edit made fault is refused = ok_err (plan_number made) fault (sym (ap (λ done. done.0) is.0) ∙ refused)
 
--- an edit whose plan changes something is new, and breaks no rule
+-- an edit whose plan changes something is new, and meets no refusal
 module _ (desk : Desk) (edit : Edit) (made : TablesPlan) (is : IsPlan desk edit made) (changes : (n : ℕ) → made ≡ plan.Kept n → ⊥) where
   is_new : (found : Option ℕ) → kept_number desk.lists edit ≡ found → kept_number desk.lists edit ≡ None
   is_new None e = e

@@ -22,8 +22,8 @@ pub record Clerked (K : Type 0) : Type 0 where
   pub accepted : List Edit
 
 -- the tables after all edits that the clerk has accepted
-abbrev pub whole : {K : Type 0} → Clerked K → Lists
-whole clerk = tables_of clerk.desk
+abbrev pub current_tables : {K : Type 0} → Clerked K → Lists
+current_tables clerk = tables_of clerk.desk
 
 -- the store that the clerk writes
 abbrev pub keeper_of : {K : Type 0} → Clerked K → K

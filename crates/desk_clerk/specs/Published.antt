@@ -6,7 +6,7 @@ use Rattle.desk_model.specs.Lists.{Lists}
 use Rattle.desk_model.specs.declared.edit.Edit.{Edit}
 use Rattle.desk_model.specs.declared.rule_fault.RuleFault.{RuleFault}
 
--- the edit, where it isn't kept and no rule refuses it
+-- the edit, where it isn't kept and it meets no refusal
 abbrev pub if_new : Edit → Option ℕ → Option RuleFault → List Edit
 if_new made (Some number) broken = []
 if_new made None (Some cause) = []

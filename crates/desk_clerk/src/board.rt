@@ -75,7 +75,7 @@ impl Board for DeskBoard {
     }
 }
 
-/// Takes in the edit, where no rule refuses it. `OutOfMemory`: none was left for its plan; then nothing has changed.
+/// Takes in the edit, where it meets no refusal. `OutOfMemory`: none was left for its plan; then nothing has changed.
 pub fn absorb_into(engine: &mut Engine, alloc: Global, entry: &Edit) -> Result<(), OutOfMemory>
     ensures ok { OnOk result (lists_of engine.new ≡ (step (lists_of engine.old) entry.now).1) }
     ensures err { OnErr result (lists_of engine.new ≡ lists_of engine.old) }

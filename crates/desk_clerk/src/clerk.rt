@@ -1,6 +1,6 @@
 ghost use Rattle.std.specs.Prelude.{◌≡◌, ◌≢◌, ◌≤◌, ◌++◌, ◌⊎◌, ℕ, [], Ok, Err, None, Some, All, is_ok, length, true, IfOk, IfErr, OnOk, OnErr, IsErrOf};
 ghost use mathlib.Core.List.{IsPrefix};
-ghost use Rattle.desk_clerk.specs.Clerk.{keeper_of, list_from, tables_of, whole};
+ghost use Rattle.desk_clerk.specs.Clerk.{keeper_of, list_from, tables_of, current_tables};
 ghost use Rattle.desk_clerk.specs.Published.{IsKeptUnpublished, IsTakenIn};
 ghost use Rattle.desk_edge.specs.Content.{IsSame};
 ghost use Rattle.desk_edge.specs.Faults.{CountsFaults};
@@ -125,9 +125,9 @@ impl<K: Keeper, J: Naming<DeskBoard>> Clerk<K, J> {
 
     /// Takes an edit: publishes what waits, judges the edit, keeps what it changes in the store, in one commit, makes it in the tables
     /// and publishes it. An edit that was accepted before is told by its kept number, and the store isn't asked; nor is it for an edit
-    /// that breaks a rule. It may wait for a reader that is looking.
+    /// that meets a refusal. It may wait for a reader that is looking.
     ///
-    /// `Rule`: the first rule that it breaks. `KeeperFault`: it is new and breaks no rule, and the keeper refused the commit.
+    /// `Rule`: the first refusal that it meets. `KeeperFault`: it is new and meets no refusal, and the keeper refused the commit.
     /// `OutOfMemory`: none was left to publish what waits, to judge the edit or to keep it, and nothing of it is kept; or it is kept,
     /// and none was left to publish it. After a refusal the list and what the store keeps are else as they were.
     pub fn submit<R: Wait>(
@@ -136,29 +136,29 @@ impl<K: Keeper, J: Naming<DeskBoard>> Clerk<K, J> {
         alloc: Global,
         edit: Edit,
     ) -> Result<Accepted, SubmitFault>
-        ensures number { IfOk result (λ accepted. (step (whole self.old) edit).0 ≡ Ok accepted.number) }
-        ensures list { IfOk result (λ accepted. accepted.whole ≡ number_at (whole self.new)) }
-        ensures ok { OnOk result (IsTakenIn self.old.accepted (whole self.old) edit self.new.accepted (whole self.new)) }
+        ensures number { IfOk result (λ accepted. (step (current_tables self.old) edit).0 ≡ Ok accepted.number) }
+        ensures list { IfOk result (λ accepted. accepted.whole ≡ number_at (current_tables self.new)) }
+        ensures ok { OnOk result (IsTakenIn self.old.accepted (current_tables self.old) edit self.new.accepted (current_tables self.new)) }
         ensures published { OnOk result (self.new.published ≡ self.new.accepted) }
 
         // After a refusal the list is as it was, or has the one edit behind.
-        ensures err { OnErr result (((self.new.accepted ≡ self.old.accepted) × (whole self.new ≡ whole self.old))
-            ⊎ IsKeptUnpublished self.old.accepted (whole self.old) edit self.new.published self.new.accepted (whole self.new)) }
-        ensures memory { OnErr result (result ≢ Err SubmitFault.OutOfMemory → (self.new.accepted ≡ self.old.accepted) × (whole self.new ≡ whole self.old)
+        ensures err { OnErr result (((self.new.accepted ≡ self.old.accepted) × (current_tables self.new ≡ current_tables self.old))
+            ⊎ IsKeptUnpublished self.old.accepted (current_tables self.old) edit self.new.published self.new.accepted (current_tables self.new)) }
+        ensures memory { OnErr result (result ≢ Err SubmitFault.OutOfMemory → (self.new.accepted ≡ self.old.accepted) × (current_tables self.new ≡ current_tables self.old)
             × (self.new.published ≡ self.new.accepted)) }
         ensures rule { (fault : Fault) (n : ℕ) → result ≡ Err (SubmitFault.Rule fault n)
-            → ((step (whole self.old) edit).0 ≡ Err fault) × (n ≡ number_at (whole self.old)) }
+            → ((step (current_tables self.old) edit).0 ≡ Err fault) × (n ≡ number_at (current_tables self.old)) }
 
         // An edit that is kept already doesn't touch the store.
-        ensures again { (n : ℕ) → kept_number (whole self.old) edit ≡ Some n → keeper_of self.new ≡ keeper_of self.old }
+        ensures again { (n : ℕ) → kept_number (current_tables self.old) edit ≡ Some n → keeper_of self.new ≡ keeper_of self.old }
 
         // Nor does an edit that a rule refuses.
-        ensures refused { (fault : Fault) → (step (whole self.old) edit).0 ≡ Err fault → keeper_of self.new ≡ keeper_of self.old }
+        ensures refused { (fault : Fault) → (step (current_tables self.old) edit).0 ≡ Err fault → keeper_of self.new ≡ keeper_of self.old }
         ensures told { K.Tells (keeper_of self.new) → K.Tells (keeper_of self.old) }
         ensures faults { CountsFaults (IsErrOf result SubmitFault.KeeperFault) (K.faults (keeper_of self.old)) (K.faults (keeper_of self.new)) }
         ensures sure { K.NeverFails → result ≢ Err SubmitFault.KeeperFault }
         ensures asked { IsErrOf result SubmitFault.KeeperFault
-            → (kept_number (whole self.old) edit ≡ None) × (is_ok (step (whole self.old) edit).0 ≡ true) }
+            → (kept_number (current_tables self.old) edit ≡ None) × (is_ok (step (current_tables self.old) edit).0 ≡ true) }
     {
         self.catch_up(rt)?;
         let accepted = self.take_in(alloc, edit)?;
@@ -169,20 +169,20 @@ impl<K: Keeper, J: Naming<DeskBoard>> Clerk<K, J> {
     /// Judges an edit where nothing waits, keeps it in the store and makes it in the tables. It is published by `catch_up`.
     fn take_in(&mut self, alloc: Global, edit: Edit) -> Result<Accepted, SubmitFault>
         requires { self.old.published ≡ self.old.accepted }
-        ensures number { IfOk result (λ accepted. (step (whole self.old) edit).0 ≡ Ok accepted.number) }
-        ensures list { IfOk result (λ accepted. accepted.whole ≡ number_at (whole self.new)) }
-        ensures ok { OnOk result (IsTakenIn self.old.accepted (whole self.old) edit self.new.accepted (whole self.new)) }
+        ensures number { IfOk result (λ accepted. (step (current_tables self.old) edit).0 ≡ Ok accepted.number) }
+        ensures list { IfOk result (λ accepted. accepted.whole ≡ number_at (current_tables self.new)) }
+        ensures ok { OnOk result (IsTakenIn self.old.accepted (current_tables self.old) edit self.new.accepted (current_tables self.new)) }
         ensures published { self.new.published ≡ self.old.published }
-        ensures err { OnErr result ((self.new.accepted ≡ self.old.accepted) × (whole self.new ≡ whole self.old)) }
+        ensures err { OnErr result ((self.new.accepted ≡ self.old.accepted) × (current_tables self.new ≡ current_tables self.old)) }
         ensures rule { (fault : Fault) (n : ℕ) → result ≡ Err (SubmitFault.Rule fault n)
-            → ((step (whole self.old) edit).0 ≡ Err fault) × (n ≡ number_at (whole self.old)) }
-        ensures again { (n : ℕ) → kept_number (whole self.old) edit ≡ Some n → keeper_of self.new ≡ keeper_of self.old }
-        ensures refused { (fault : Fault) → (step (whole self.old) edit).0 ≡ Err fault → keeper_of self.new ≡ keeper_of self.old }
+            → ((step (current_tables self.old) edit).0 ≡ Err fault) × (n ≡ number_at (current_tables self.old)) }
+        ensures again { (n : ℕ) → kept_number (current_tables self.old) edit ≡ Some n → keeper_of self.new ≡ keeper_of self.old }
+        ensures refused { (fault : Fault) → (step (current_tables self.old) edit).0 ≡ Err fault → keeper_of self.new ≡ keeper_of self.old }
         ensures told { K.Tells (keeper_of self.new) → K.Tells (keeper_of self.old) }
         ensures faults { CountsFaults (IsErrOf result SubmitFault.KeeperFault) (K.faults (keeper_of self.old)) (K.faults (keeper_of self.new)) }
         ensures sure { K.NeverFails → result ≢ Err SubmitFault.KeeperFault }
         ensures asked { IsErrOf result SubmitFault.KeeperFault
-            → (kept_number (whole self.old) edit ≡ None) × (is_ok (step (whole self.old) edit).0 ≡ true) }
+            → (kept_number (current_tables self.old) edit ≡ None) × (is_ok (step (current_tables self.old) edit).0 ≡ true) }
     {
         let taken = take_into(alloc, &mut self.desk, &mut self.kept, edit);
         self.is_published = self.kept.is_none();
@@ -218,7 +218,7 @@ impl<K: Keeper, J: Naming<DeskBoard>> Clerk<K, J> {
     pub fn engine(&self) -> &Engine
         ensures engine { result.now ≡ self.now.desk.engine }
         ensures history { IsHistory (list_from (lists_of J.opening.engine) self.now.accepted) }
-        ensures after { whole self.now ≡ after (list_from (lists_of J.opening.engine) self.now.accepted) }
+        ensures after { current_tables self.now ≡ after (list_from (lists_of J.opening.engine) self.now.accepted) }
         ensures begins { IsPrefix self.now.published self.now.accepted }
     {
         self.desk.engine()
@@ -226,7 +226,7 @@ impl<K: Keeper, J: Naming<DeskBoard>> Clerk<K, J> {
 
     /// The number of the whole list: how many edits were accepted, in the store's whole life. It takes no memory.
     pub fn number(&self) -> u64
-        ensures { result ≡ number_at (whole self.now) }
+        ensures { result ≡ number_at (current_tables self.now) }
     {
         self.desk.number()
     }
@@ -234,7 +234,7 @@ impl<K: Keeper, J: Naming<DeskBoard>> Clerk<K, J> {
     /// Ends the desk and gives the keeper back. It may wait for a reader that is looking; it takes no memory and is never refused.
     pub fn close<R: Wait>(self, rt: &R) -> K
         ensures keeper { result ≡ keeper_of self }
-        ensures kept { K.Tells result → IsSame (tables_content (whole self)) (K.content result) }
+        ensures kept { K.Tells result → IsSame (tables_content (current_tables self)) (K.content result) }
     {
         let Clerk {
             desk,

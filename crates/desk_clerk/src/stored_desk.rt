@@ -83,9 +83,9 @@ impl<K: Keeper> StoredDesk<K> {
     }
 
     /// Takes in an edit: judges it, keeps what it changes in the store, in one commit, and then makes it in the tables. An edit that was
-    /// accepted before is told by its kept number, and the store isn't asked; nor is it for an edit that breaks a rule.
+    /// accepted before is told by its kept number, and the store isn't asked; nor is it for an edit that meets a refusal.
     ///
-    /// `Rule`: the first rule that it breaks. `KeeperFault`: it is new and breaks no rule, and the keeper refused the commit.
+    /// `Rule`: the first refusal that it meets. `KeeperFault`: it is new and meets no refusal, and the keeper refused the commit.
     /// `OutOfMemory`: none was left to judge it or to keep it. After a refusal the tables and what the store keeps are as they were.
     pub fn accept(&mut self, alloc: Global, edit: &Edit) -> Result<Accepted, SubmitFault>
         ensures number { IfOk result (λ accepted. (step (tables_of self.old) edit.now).0 ≡ Ok accepted.number) }

@@ -5,7 +5,7 @@ use desk_text::OutOfMemory;
 /// Why an edit isn't taken. The tables and what the store keeps are as they were.
 #[derive(Debug, Drop)]
 pub enum SubmitFault {
-    /// It breaks a rule.
+    /// It meets a refusal.
     Rule {
         /// The first that it breaks.
         fault: RuleFault,

@@ -9,7 +9,7 @@ use Rattle.csv.specs.declared.parser.Action.{Action}
 use Rattle.csv.specs.declared.parser.Action.TheVariants as act
 use Rattle.csv.specs.declared.parser.State.{State}
 use Rattle.csv.specs.declared.parser.State.TheVariants as st
-use Rattle.desk_declare.specs.Rows.{IsPlain, Row, bytes_left, rows_from, rows_left, rows_of}
+use Rattle.desk_declare.specs.Rows.{IsPlain, Row, bytes_left, rows_from, rows_left, csv_rows_of}
 
 -- a step that ends a row leaves the machine between two rows
 abbrev EndsBetween : State × Action → Type 0
@@ -197,7 +197,7 @@ one-taken a b fields plain reads flexible first =
         )
 
 -- a new reader has all rows of its text left
-pub start-rows : (a : Source) (text : List ℕ) → reader_state a ≡ st.StartRecord → bytes_left a ≡ Some (strip_bom text) → rows_left a ≡ rows_of text
+pub start-rows : (a : Source) (text : List ℕ) → reader_state a ≡ st.StartRecord → bytes_left a ≡ Some (strip_bom text) → rows_left a ≡ csv_rows_of text
 unfolding rows_left
 start-rows a text e f = rw (e, f) refl
 
@@ -230,7 +230,7 @@ strip-room (a ∷ b ∷ c ∷ rest) = by (is_bom a b c)
     by true = omega arith
     by false = omega arith
 
-pub rows-room : (text : List ℕ) → length (rows_of text) ≤ length text
+pub rows-room : (text : List ℕ) → length (csv_rows_of text) ≤ length text
 rows-room text =
     let rows = from-room (length (strip_bom text) + 1) st.StartRecord (strip_bom text) refl in
     let strip = strip-room text in

@@ -22,8 +22,8 @@ pub record Columns (A : Type 0) : Type 0 where
   pub read : ℕ → Row → Result A DeclareFault
 
 -- columns that are looked at elsewhere, up to a last one
-abbrev pub after : {A : Type 0} → ℕ → A → Columns A
-after last a = record { last = last; read = λ place row. Ok a }
+abbrev pub columns_after : {A : Type 0} → ℕ → A → Columns A
+columns_after last a = record { last = last; read = λ place row. Ok a }
 
 -- columns, and then one more of a form
 infixl 10 ◌then◌
@@ -39,5 +39,5 @@ ending last place row (Err fault) = Err fault
 ending last place row (Ok a) = if nat_lt last (length row) then Err (BadField place (last + 1)) else Ok a
 
 -- what a row of these columns makes, or its first bad column
-abbrev pub made_by : {A : Type 0} → Columns A → ℕ → Row → Result A DeclareFault
-made_by columns place row = ending columns.last place row (columns.read place row)
+abbrev pub row_made_by : {A : Type 0} → Columns A → ℕ → Row → Result A DeclareFault
+row_made_by columns place row = ending columns.last place row (columns.read place row)

@@ -9,11 +9,11 @@ use Rattle.desk_model.specs.Declaring.{claim_added, declaration_start, empty_mat
 use Rattle.desk_model.specs.declared.decl_error.DeclError.{DeclError}
 use Rattle.desk_model.specs.declared.edit.Edit.{Edit}
 use Rattle.desk_model.specs.declared.edit.Edit.TheVariants.{Declare}
-use Rattle.desk_declare.specs.Columns.{Columns, after, ◌then◌, field_in, made_by}
+use Rattle.desk_declare.specs.Columns.{Columns, columns_after, ◌then◌, field_in, row_made_by}
 use Rattle.desk_declare.specs.Faults.{unfit}
 use Rattle.desk_text.specs.Forms.{a_code, a_day, a_name, an_exemption_number}
 use Rattle.desk_declare.specs.Forms.{a_declaration_number, a_mass, a_rule, a_substance_mass}
-use Rattle.desk_declare.specs.Rows.{Row, rows_of}
+use Rattle.desk_declare.specs.Rows.{Row, csv_rows_of}
 use Rattle.desk_declare.specs.declared.declare_fault.DeclareFault.{DeclareFault}
 use Rattle.desk_declare.specs.declared.declare_fault.DeclareFault.TheVariants.{NotText, NoHead, BadField, RepeatedMaterial, RepeatedRow}
 
@@ -23,22 +23,22 @@ Addition = Declared → Result Declared DeclError
 
 -- the columns of the head: `D`, `1`, the supplier, the declaration's number, its day
 abbrev pub head_columns : Columns Declared
-head_columns = after 2 declaration_start then a_code then a_declaration_number then a_day
+head_columns = columns_after 2 declaration_start then a_code then a_declaration_number then a_day
 
 -- the columns of a material: `M`, its code, its name, its mass
 abbrev pub material_columns : Columns Addition
-material_columns = after 1 (λ code name mass. material_added (empty_material code name mass)) then a_code then a_name then a_mass
+material_columns = columns_after 1 (λ code name mass. material_added (empty_material code name mass)) then a_code then a_name then a_mass
 
 -- the columns of a substance: `S`, the material that holds it, its code, its mass
 abbrev pub substance_columns : Columns Addition
 substance_columns =
-    after 1 (λ material code mass. substance_added material (record { substance = code; mass = mass }))
+    columns_after 1 (λ material code mass. substance_added material (record { substance = code; mass = mass }))
     then a_code then a_code then a_substance_mass
 
 -- the columns of a claim of exemption: `E`, the material that it is for, the rule, the exemption's number
 abbrev pub claim_columns : Columns Addition
 claim_columns =
-    after 1 (λ material rule number. claim_added material (record { rule = rule; number = number }))
+    columns_after 1 (λ material rule number. claim_added material (record { rule = rule; number = number }))
     then a_code then a_rule then an_exemption_number
 
 -- there is a field, and it is this word
@@ -53,7 +53,7 @@ if_text place row read = if list_all is_utf8 row then read else Err (NotText pla
 -- the declaration that the first row begins, all of whose fields are text
 abbrev pub begun_by : Row → Result Declared DeclareFault
 begun_by row =
-    if is_word (codes "D") (field_in 1 row) && is_word (codes "1") (field_in 2 row) then made_by head_columns 1 row else Err NoHead
+    if is_word (codes "D") (field_in 1 row) && is_word (codes "1") (field_in 2 row) then row_made_by head_columns 1 row else Err NoHead
 
 -- the declaration that the first row begins
 unfoldable pub head_of : Row → Result Declared DeclareFault
@@ -67,9 +67,9 @@ with_addition repeated place (Ok addition) d = result_map_both (λ new. new) (un
 -- the declaration with what a row under the head adds, by the word in its first column, all of whose fields are text
 abbrev pub extended_by : ℕ → Row → Declared → Result Declared DeclareFault
 extended_by place row d =
-    if is_word (codes "M") (field_in 1 row) then with_addition (RepeatedMaterial place) place (made_by material_columns place row) d
-    else if is_word (codes "S") (field_in 1 row) then with_addition (RepeatedRow place) place (made_by substance_columns place row) d
-    else if is_word (codes "E") (field_in 1 row) then with_addition (RepeatedRow place) place (made_by claim_columns place row) d
+    if is_word (codes "M") (field_in 1 row) then with_addition (RepeatedMaterial place) place (row_made_by material_columns place row) d
+    else if is_word (codes "S") (field_in 1 row) then with_addition (RepeatedRow place) place (row_made_by substance_columns place row) d
+    else if is_word (codes "E") (field_in 1 row) then with_addition (RepeatedRow place) place (row_made_by claim_columns place row) d
     else Err (BadField place 1)
 
 -- the declaration with what a row under the head adds
@@ -93,7 +93,7 @@ declaration_in (first ∷ rows) = read_on (rows_added 2 rows) (head_of first)
 
 -- the declaration that bytes spell, or their first fault
 abbrev pub declared_of : List ℕ → Result Declared DeclareFault
-declared_of bytes = declaration_in (rows_of bytes)
+declared_of bytes = declaration_in (csv_rows_of bytes)
 
 -- the edit of the declaration that bytes spell, or their first fault
 abbrev pub declaration_of : List ℕ → Result Edit DeclareFault

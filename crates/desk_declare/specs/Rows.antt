@@ -13,8 +13,8 @@ Row = List (List ℕ)
 
 -- the rows of a text: fields between commas, quoted by double quotes where need be, with no header
 -- row and of any length each; one byte-order mark at the start of the text is no part of it
-abbrev pub rows_of : List ℕ → List Row
-rows_of bytes = records default_config (strip_bom bytes)
+abbrev pub csv_rows_of : List ℕ → List Row
+csv_rows_of bytes = records default_config (strip_bom bytes)
 
 -- the rows that a text holds from a state of the reader on
 abbrev pub rows_from : State → Option (List ℕ) → List Row

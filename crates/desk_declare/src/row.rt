@@ -1,6 +1,6 @@
 ghost use Rattle.std.specs.Prelude.{◌≡◌, ◌≢◌, Err, IfErr, Ok, OnOk};
 ghost use Rattle.csv.specs.Records.{fields_of};
-ghost use Rattle.desk_declare.specs.Columns.{made_by, read_in};
+ghost use Rattle.desk_declare.specs.Columns.{row_made_by, read_in};
 ghost use Rattle.desk_declare.specs.Declaration.{claim_columns, head_of, material_columns, row_added, substance_columns, with_addition};
 ghost use Rattle.desk_text.specs.Forms.{a_code};
 
@@ -72,9 +72,9 @@ fn add_material(
     fields: &Fields<'_>,
 ) -> Result<(), DeclareFault>
     ensures ok { OnOk result (with_addition (DeclareFault.RepeatedMaterial fields.now.place) fields.now.place
-        (made_by material_columns fields.now.place (fields_of fields.now.row.now)) declaration.old ≡ Ok declaration.new) }
+        (row_made_by material_columns fields.now.place (fields_of fields.now.row.now)) declaration.old ≡ Ok declaration.new) }
     ensures error { IfErr result (λ fault. fault ≢ DeclareFault.OutOfMemory → with_addition (DeclareFault.RepeatedMaterial fields.now.place)
-        fields.now.place (made_by material_columns fields.now.place (fields_of fields.now.row.now)) declaration.old ≡ Err fault) }
+        fields.now.place (row_made_by material_columns fields.now.place (fields_of fields.now.row.now)) declaration.old ≡ Err fault) }
 {
     let place = fields.place;
     let code = fields.code(2)?;
@@ -107,9 +107,9 @@ fn material_of(declaration: &Declaration, fields: &Fields<'_>) -> Result<Code, D
 #[tactic(auto, unfolding(crate::specs::Forms::a_substance_mass))]
 fn add_substance(declaration: &mut Declaration, fields: &Fields<'_>) -> Result<(), DeclareFault>
     ensures ok { OnOk result (with_addition (DeclareFault.RepeatedRow fields.now.place) fields.now.place
-        (made_by substance_columns fields.now.place (fields_of fields.now.row.now)) declaration.old ≡ Ok declaration.new) }
+        (row_made_by substance_columns fields.now.place (fields_of fields.now.row.now)) declaration.old ≡ Ok declaration.new) }
     ensures error { IfErr result (λ fault. fault ≢ DeclareFault.OutOfMemory → with_addition (DeclareFault.RepeatedRow fields.now.place)
-        fields.now.place (made_by substance_columns fields.now.place (fields_of fields.now.row.now)) declaration.old ≡ Err fault) }
+        fields.now.place (row_made_by substance_columns fields.now.place (fields_of fields.now.row.now)) declaration.old ≡ Err fault) }
 {
     let place = fields.place;
     let material = material_of(declaration, fields)?;
@@ -125,9 +125,9 @@ fn add_substance(declaration: &mut Declaration, fields: &Fields<'_>) -> Result<(
 /// Adds the claim of exemption that a record lists.
 fn add_claim(declaration: &mut Declaration, fields: &Fields<'_>) -> Result<(), DeclareFault>
     ensures ok { OnOk result (with_addition (DeclareFault.RepeatedRow fields.now.place) fields.now.place
-        (made_by claim_columns fields.now.place (fields_of fields.now.row.now)) declaration.old ≡ Ok declaration.new) }
+        (row_made_by claim_columns fields.now.place (fields_of fields.now.row.now)) declaration.old ≡ Ok declaration.new) }
     ensures error { IfErr result (λ fault. fault ≢ DeclareFault.OutOfMemory → with_addition (DeclareFault.RepeatedRow fields.now.place)
-        fields.now.place (made_by claim_columns fields.now.place (fields_of fields.now.row.now)) declaration.old ≡ Err fault) }
+        fields.now.place (row_made_by claim_columns fields.now.place (fields_of fields.now.row.now)) declaration.old ≡ Err fault) }
 {
     let place = fields.place;
     let material = material_of(declaration, fields)?;

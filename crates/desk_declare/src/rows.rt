@@ -1,6 +1,6 @@
 ghost use Rattle.std.specs.Prelude.{◌≡◌, ◌≤◌, [], ◌∷◌, IfOk, MatchBool, length};
 ghost use Rattle.csv.specs.Records.{fields_of};
-ghost use Rattle.desk_declare.specs.Rows.{rows_of};
+ghost use Rattle.desk_declare.specs.Rows.{csv_rows_of};
 
 use csv::{ByteRecord, ErrorKind, Reader, ReaderBuilder};
 use desk_text::OutOfMemory;
@@ -28,7 +28,7 @@ impl<'a> Model for Rows<'a> {
 impl<'a> Rows<'a> {
     /// The rows of a text, without its byte-order mark.
     pub(crate) fn new(alloc: Global, text: &'a [u8]) -> Rows<'a>
-        ensures rows { result ≡ rows_of text.now }
+        ensures rows { result ≡ csv_rows_of text.now }
         ensures room { length result ≤ length text.now }
     {
         let reader = ReaderBuilder::new()

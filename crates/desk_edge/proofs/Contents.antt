@@ -6,7 +6,7 @@ use Rattle.std.specs.Prelude.{IfSome, option_map}
 use Rattle.std.proofs.lemmas.Bool.{cases_Bool, false≢true}
 use Rattle.std.proofs.lemmas.Cmp.{alike_right, tied_itself}
 use Rattle.desk_edge.specs.Content.{Content, IsChanged, IsFirstPast, body_after, body_after_all, is_past, key_cmp, key_of, same_key}
-use Rattle.desk_edge.specs.Stores.{KeeperInMemory, after_call, after_fault, records_with, records_with_all}
+use Rattle.desk_edge.specs.Stores.{KeeperInMemory, keeper_after_call, keeper_after_fault, records_with, records_with_all}
 use Rattle.desk_edge.specs.declared.change.Change.{Change}
 use Rattle.desk_edge.specs.declared.change.Change.TheVariants.{Put, Drop}
 use Rattle.desk_edge.specs.declared.key.Key.{Key}
@@ -142,6 +142,6 @@ unfolding body_at
 is_first after records found h e = subst (IsFirstPast (body_at records) after) (sym e) (first_of after records h)
 
 -- a call that is counted leaves the records
-pub records_stay : (fails : Bool) (old new : KeeperInMemory) → new ≡ cond fails (after_fault old) (after_call old) → new.records ≡ old.records
+pub records_stay : (fails : Bool) (old new : KeeperInMemory) → new ≡ cond fails (keeper_after_fault old) (keeper_after_call old) → new.records ≡ old.records
 records_stay true old new e = ap (λ kept. kept.records) e
 records_stay false old new e = ap (λ kept. kept.records) e

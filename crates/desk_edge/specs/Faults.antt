@@ -6,12 +6,12 @@ abbrev pub last_count : ℕ
 last_count = 2 ^ 64 - 1
 
 -- a count after one more
-abbrev pub counted : ℕ → ℕ
-counted n = min (n + 1) last_count
+abbrev pub one_more : ℕ → ℕ
+one_more n = min (n + 1) last_count
 
 -- at least one fault was counted: the count rose, or it stood at its last value before
 abbrev pub Rose : ℕ → ℕ → Type 0
-Rose old new = counted old ≤ new
+Rose old new = one_more old ≤ new
 
 -- A call counts faults so: their count never falls, it stays as it is where the call hasn't failed, and it rises where it has.
 pub record CountsFaults (fails : Type 0) (old new : ℕ) : Type 0 where

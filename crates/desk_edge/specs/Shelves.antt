@@ -6,7 +6,7 @@ use Rattle.std.specs.List.{list_any}
 use Rattle.std.specs.Ordering.{nat_cmp}
 use Rattle.std.specs.declared.cmp.Ordering.{Ordering}
 use Rattle.desk_edge.specs.Content.{Content}
-use Rattle.desk_edge.specs.Faults.{counted}
+use Rattle.desk_edge.specs.Faults.{one_more}
 use Rattle.desk_edge.specs.Stores.{KeeperInMemory, blank, content_of}
 use Rattle.desk_rows.specs.Rows.{row_of, without_row}
 
@@ -64,8 +64,8 @@ abbrev pub opened : Shelved → List ℕ → KeeperInMemory
 opened s name = option_map_or (λ store. record store.1 { faults = 0 }) (store_named s name) blank
 
 -- whether the next opening is one of those that fail
-abbrev pub fails_next : Shelved → Bool
-fails_next s = list_any (λ n. n == counted s.calls) s.failing
+abbrev pub shelf_fails_next : Shelved → Bool
+shelf_fails_next s = list_any (λ n. n == one_more s.calls) s.failing
 
 -- the same stores are kept, and the same are lent
 abbrev pub LendsTheSame : Shelved → Shelved → Type 0

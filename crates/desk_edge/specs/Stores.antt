@@ -2,7 +2,7 @@
 use Rattle.std.specs.Prelude.{ℕ, ◌==◌, Bool, List, [], ◌∷◌, Option, option_map}
 use Rattle.std.specs.List.{list_any, find}
 use Rattle.desk_edge.specs.Content.{Content, is_past, key_cmp, key_of}
-use Rattle.desk_edge.specs.Faults.{counted}
+use Rattle.desk_edge.specs.Faults.{one_more}
 use Rattle.desk_edge.specs.declared.change.Change.{Change}
 use Rattle.desk_edge.specs.declared.change.Change.TheVariants.{Put, Drop}
 use Rattle.desk_edge.specs.declared.record.Record.{Record}
@@ -29,16 +29,16 @@ abbrev pub content_of : KeeperInMemory → Content
 content_of k key = option_map (λ kept. kept.body) (row_of key_of key_cmp key k.records)
 
 -- whether the next call is one of those that fail
-abbrev pub fails_next : KeeperInMemory → Bool
-fails_next k = list_any (λ n. n == counted k.calls) k.failing
+abbrev pub keeper_fails_next : KeeperInMemory → Bool
+keeper_fails_next k = list_any (λ n. n == one_more k.calls) k.failing
 
 -- the keeper after a call that failed, which is counted twice, as a call and as a fault
-abbrev pub after_fault : KeeperInMemory → KeeperInMemory
-after_fault k = record k { calls = counted k.calls; faults = counted k.faults }
+abbrev pub keeper_after_fault : KeeperInMemory → KeeperInMemory
+keeper_after_fault k = record k { calls = one_more k.calls; faults = one_more k.faults }
 
 -- the keeper after a call that didn't fail and changed nothing
-abbrev pub after_call : KeeperInMemory → KeeperInMemory
-after_call k = record k { calls = counted k.calls }
+abbrev pub keeper_after_call : KeeperInMemory → KeeperInMemory
+keeper_after_call k = record k { calls = one_more k.calls }
 
 -- the first record past a key
 abbrev pub first_past : KeeperInMemory → Option Key → Option Record

@@ -1,7 +1,7 @@
 ghost use Rattle.std.specs.Prelude.{◌≡◌, ◌≤◌, true, Err, IfOk, IfSome, OnOk, OnErr, IsErrOf, IsPermutation, option_copied, Ok, if◌then◌else◌};
 ghost use Rattle.desk_edge.specs.Content.{HaveDistinctKeys, IsChanged, IsFirstPast, IsSame, is_past, key_cmp, key_of};
 ghost use Rattle.desk_edge.specs.Faults.{CountsFaults};
-ghost use Rattle.desk_edge.specs.Stores.{KeeperInMemory, after_call, after_fault, blank, content_of, fails_next, first_past, records_with_all};
+ghost use Rattle.desk_edge.specs.Stores.{KeeperInMemory, keeper_after_call, keeper_after_fault, blank, content_of, keeper_fails_next, first_past, records_with_all};
 ghost use Rattle.desk_rows.specs.Rows.{IsByKey};
 
 use crate::change::Change;
@@ -108,8 +108,8 @@ impl MapKeeper {
 
     /// Counts a call, and where it is one that fails, the fault.
     fn count_call(&mut self) -> Result<(), KeepFault>
-        ensures answer { result ≡ (if fails_next self.old then Err KeepFault.Failed else Ok tt) }
-        ensures after { self.new ≡ (if fails_next self.old then after_fault self.old else after_call self.old) }
+        ensures answer { result ≡ (if keeper_fails_next self.old then Err KeepFault.Failed else Ok tt) }
+        ensures after { self.new ≡ (if keeper_fails_next self.old then keeper_after_fault self.old else keeper_after_call self.old) }
         ensures never_falls { self.old.faults ≤ self.new.faults }
     {
         self.calls = self.calls.saturating_add(1);
@@ -141,9 +141,9 @@ impl Keeper for MapKeeper {
         ensures later { IfOk result (λ found. IfSome found (λ kept. is_past (option_copied after.entry) (key_of kept) ≡ true)) }
         ensures faults { CountsFaults (IsErrOf result KeepFault.Failed) self.old.faults self.new.faults }
         ensures answer { IfOk result (λ found. found ≡ first_past self.old (option_copied after.entry)) }
-        ensures listed { fails_next self.old ≡ true → result ≡ Err KeepFault.Failed }
-        ensures no_other { IsErrOf result KeepFault.Failed → fails_next self.old ≡ true }
-        ensures after { self.new ≡ (if fails_next self.old then after_fault self.old else after_call self.old) }
+        ensures listed { keeper_fails_next self.old ≡ true → result ≡ Err KeepFault.Failed }
+        ensures no_other { IsErrOf result KeepFault.Failed → keeper_fails_next self.old ≡ true }
+        ensures after { self.new ≡ (if keeper_fails_next self.old then keeper_after_fault self.old else keeper_after_call self.old) }
     {
         self.count_call()?;
         Ok(copied_past(alloc, self.records.as_slice(), after)?)
@@ -154,10 +154,10 @@ impl Keeper for MapKeeper {
         ensures ok { OnOk result (Unit {0} → IsChanged batch.now (content_of self.old) (content_of self.new)) }
         ensures err { OnErr result (Unit {0} → IsSame (content_of self.old) (content_of self.new)) }
         ensures faults { CountsFaults (IsErrOf result KeepFault.Failed) self.old.faults self.new.faults }
-        ensures listed { fails_next self.old ≡ true → result ≡ Err KeepFault.Failed }
-        ensures no_other { IsErrOf result KeepFault.Failed → fails_next self.old ≡ true }
-        ensures made { OnOk result (self.new ≡ after_call (record self.old { records = records_with_all batch.now self.old.records })) }
-        ensures refused { OnErr result (self.new ≡ (if fails_next self.old then after_fault self.old else after_call self.old)) }
+        ensures listed { keeper_fails_next self.old ≡ true → result ≡ Err KeepFault.Failed }
+        ensures no_other { IsErrOf result KeepFault.Failed → keeper_fails_next self.old ≡ true }
+        ensures made { OnOk result (self.new ≡ keeper_after_call (record self.old { records = records_with_all batch.now self.old.records })) }
+        ensures refused { OnErr result (self.new ≡ (if keeper_fails_next self.old then keeper_after_fault self.old else keeper_after_call self.old)) }
     {
         self.count_call()?;
         let changes = copied_all(alloc, batch)?;

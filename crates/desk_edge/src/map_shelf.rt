@@ -1,8 +1,8 @@
 ghost use Rattle.std.specs.Prelude.{◌≡◌, ◌≢◌, ◌+◌, ◌<◌, ◌≤◌, ◌∷◌, [], ℕ, List, true, Err, IfOk, OnOk, OnErr, Ok, IsErrOf, if◌then◌else◌, vec_capacity, vec_len};
 ghost use Rattle.std.specs.Option.{option_map_or};
 ghost use Rattle.desk_edge.specs.Content.{IsSame};
-ghost use Rattle.desk_edge.specs.Faults.{CountsFaults, counted};
-ghost use Rattle.desk_edge.specs.Shelves.{IsPutBack, Lends, LendsTheSame, Shelved, shelf_content, count_in, fails_next, is_lent, name_cmp, opened};
+ghost use Rattle.desk_edge.specs.Faults.{CountsFaults, one_more};
+ghost use Rattle.desk_edge.specs.Shelves.{IsPutBack, Lends, LendsTheSame, Shelved, shelf_content, count_in, shelf_fails_next, is_lent, name_cmp, opened};
 ghost use Rattle.desk_edge.specs.Stores.{blank, content_of};
 ghost use Rattle.desk_rows.specs.Rows.{row_of, without_row};
 
@@ -77,10 +77,10 @@ impl MapShelf {
 
     /// Counts an opening, and where it is one that fails, the fault.
     fn count_opening(&mut self) -> Result<(), KeepFault>
-        ensures answer { result ≡ (if fails_next self.old then Err KeepFault.Failed else Ok tt) }
+        ensures answer { result ≡ (if shelf_fails_next self.old then Err KeepFault.Failed else Ok tt) }
         ensures stores { (self.new.stores ≡ self.old.stores) × (self.new.lent ≡ self.old.lent) }
-        ensures after { (self.new.calls ≡ counted self.old.calls) × (self.new.failing ≡ self.old.failing) }
-        ensures faults { CountsFaults (fails_next self.old ≡ true) self.old.faults self.new.faults }
+        ensures after { (self.new.calls ≡ one_more self.old.calls) × (self.new.failing ≡ self.old.failing) }
+        ensures faults { CountsFaults (shelf_fails_next self.old ≡ true) self.old.faults self.new.faults }
     {
         let is_refused = self.fails_next();
         self.calls = self.calls.saturating_add(1);
@@ -93,7 +93,7 @@ impl MapShelf {
 
     /// Whether the next opening is one that fails.
     fn fails_next(&self) -> bool
-        ensures { result ≡ fails_next self.now }
+        ensures { result ≡ shelf_fails_next self.now }
     {
         self.failing.contains(&self.calls.saturating_add(1))
     }
@@ -159,9 +159,9 @@ impl Shelf for MapShelf {
         ensures answer { IfOk result (λ store. store ≡ opened self.old name.now) }
         ensures opened { OnOk result (Lends name.now self.old self.new) }
         ensures left { OnErr result (LendsTheSame self.old self.new) }
-        ensures refused { IsErrOf result KeepFault.Failed → fails_next self.old ≡ true }
-        ensures listed { fails_next self.old ≡ true → result ≡ Err KeepFault.Failed }
-        ensures after { (self.new.calls ≡ counted self.old.calls) × (self.new.failing ≡ self.old.failing) }
+        ensures refused { IsErrOf result KeepFault.Failed → shelf_fails_next self.old ≡ true }
+        ensures listed { shelf_fails_next self.old ≡ true → result ≡ Err KeepFault.Failed }
+        ensures after { (self.new.calls ≡ one_more self.old.calls) × (self.new.failing ≡ self.old.failing) }
     {
         self.count_opening()?;
         let store = copied_store(alloc, self.stores.as_slice(), name)?;

@@ -1,5 +1,5 @@
 ghost use Rattle.std.specs.Prelude.{◌≡◌, ◌≤◌, false};
-ghost use Rattle.desk_edge.specs.Faults.{counted};
+ghost use Rattle.desk_edge.specs.Faults.{one_more};
 
 use crate::doors::Doors;
 use crate::failed::Failed;
@@ -54,7 +54,7 @@ impl<R: Net<Listener = TcpListener, Stream = TcpStream>> TcpDoors<R> {
     fn refused(&mut self) -> Failed
         ensures taken_stays { self.new.taken ≡ self.old.taken }
         ensures never_falls { self.old.faults ≤ self.new.faults }
-        ensures counted { self.new.faults ≡ counted self.old.faults }
+        ensures one_more { self.new.faults ≡ one_more self.old.faults }
     {
         self.faults = self.faults.saturating_add(1);
         Failed

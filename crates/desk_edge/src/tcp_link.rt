@@ -1,5 +1,5 @@
 ghost use Rattle.std.specs.Prelude.{◌≡◌, ◌≤◌, None};
-ghost use Rattle.desk_edge.specs.Faults.{counted};
+ghost use Rattle.desk_edge.specs.Faults.{one_more};
 
 use crate::failed::Failed;
 use crate::link::Link;
@@ -34,7 +34,7 @@ impl TcpLink {
     fn refused(&mut self) -> Failed
         ensures reads_stay { self.new.read_faults ≡ self.old.read_faults }
         ensures never_falls { self.old.faults ≤ self.new.faults }
-        ensures counted { self.new.faults ≡ counted self.old.faults }
+        ensures one_more { self.new.faults ≡ one_more self.old.faults }
     {
         self.faults = self.faults.saturating_add(1);
         Failed

@@ -19,11 +19,11 @@ use Rattle.desk_edits.specs.Edit.{edit_of_word, json_of, word_in}
 use Rattle.desk_edits.specs.Examples.{FaultExamples, WordExamples}
 use Rattle.desk_edits.specs.Keys.{key_name}
 use Rattle.desk_edits.specs.Shape.{has_extra_key, missing_key, needed, optional}
-use Rattle.desk_edits.specs.Values.{a_cas, a_code, a_count, a_day, a_factor, a_kind, a_name, a_ppm, a_rule, a_sort, a_year, an_annex, an_exemption_number, some_kinds, some_units}
+use Rattle.desk_edits.specs.Values.{cas_value, code_value, a_count, day_value, a_factor, a_kind, name_value, a_ppm, rule_value, a_sort, a_year, annex_value, exemption_number_value, kinds_value, some_units}
 
 -- what the examples compute with
 unfoldable pub examples : Bool
-unfolding serde_json_on_literals chars is_utf8 digits cas_of code_of exemption_number_of day_of name_of number_below annex_number kind_code kind_of kind_place has_kind set_of rule_code rule_number rule_of sort_of edit_word_of edit_of_word json_of word_in key_name has_extra_key missing_key needed optional a_cas a_code a_count a_day a_factor a_kind a_name a_ppm a_rule a_sort a_year an_annex an_exemption_number some_kinds some_units cas_in code_in day_in name_in exemption_number_in
+unfolding serde_json_on_literals chars is_utf8 digits cas_of code_of exemption_number_of day_of name_of number_below annex_number kind_code kind_of kind_place has_kind set_of rule_code rule_number rule_of sort_of edit_word_of edit_of_word json_of word_in key_name has_extra_key missing_key needed optional cas_value code_value a_count day_value a_factor a_kind name_value a_ppm rule_value a_sort a_year annex_value exemption_number_value kinds_value some_units cas_in code_in day_in name_in exemption_number_in
 examples = true
 
 pub word_examples : WordExamples

@@ -16,7 +16,7 @@ use Rattle.desk_edits.specs.declared.edit_key.EditKey.{EditKey}
 use Rattle.desk_edits.specs.declared.json_fault.JsonFault.TheVariants.{BadValue}
 use Rattle.desk_edits.specs.Keys.{key_name}
 use Rattle.desk_edits.specs.Shape.{needed}
-use Rattle.desk_edits.specs.Values.{are_distinct, distinct_set, kinds_of, some_kinds}
+use Rattle.desk_edits.specs.Values.{are_kinds_distinct, distinct_set, kinds_of, kinds_value}
 
 set_of-set_of : (kinds : List Kind) → set_of kinds ≡ set_of (set_of kinds)
 unfolding set_of
@@ -46,14 +46,14 @@ none-some P b e = cc
 
 distinct-are_kinds : (kinds set : List Kind) → distinct_set kinds ≡ Some set → are_kinds set ≡ true
 distinct-are_kinds [] set e = none-some _ set e
-distinct-are_kinds (kind ∷ kinds) set e = by (nat_lt 0 (length (kind ∷ kinds)) && are_distinct (kind ∷ kinds)) e
+distinct-are_kinds (kind ∷ kinds) set e = by (nat_lt 0 (length (kind ∷ kinds)) && are_kinds_distinct (kind ∷ kinds)) e
   where
     by : (b : Bool) → cond b (Some (set_of (kind ∷ kinds))) None ≡ Some set → are_kinds set ≡ true
     by true e = rw (← some-same _ set e) (set-are_kinds kind kinds)
     by false e = none-some _ set e
 
-some_kinds-are_kinds : (d : Data) (set : List Kind) → some_kinds d ≡ Some set → are_kinds set ≡ true
-unfolding some_kinds
+some_kinds-are_kinds : (d : Data) (set : List Kind) → kinds_value d ≡ Some set → are_kinds set ≡ true
+unfolding kinds_value
 some_kinds-are_kinds d set e = by (option_and_then kinds_of (as_array d)) e
   where
     by : (o : Option (List Kind)) → option_and_then distinct_set o ≡ Some set → are_kinds set ≡ true
@@ -61,7 +61,7 @@ some_kinds-are_kinds d set e = by (option_and_then kinds_of (as_array d)) e
     by (Some kinds) e = distinct-are_kinds kinds set e
 
 -- what a key's value is read as
-pub needed_are_kinds : (key : EditKey) (d : Data) (set : List Kind) → needed some_kinds key d ≡ Ok set → are_kinds set ≡ true
+pub needed_are_kinds : (key : EditKey) (d : Data) (set : List Kind) → needed kinds_value key d ≡ Ok set → are_kinds set ≡ true
 unfolding needed
 needed_are_kinds key d set e = by (get (key_name key) d) e
   where
@@ -69,6 +69,6 @@ needed_are_kinds key d set e = by (get (key_name key) d) e
     of None e = cc
     of (Some kinds) e = cc
 
-    by : (o : Option Data) → ok_or (option_and_then some_kinds o) (BadValue key) ≡ Ok set → are_kinds set ≡ true
+    by : (o : Option Data) → ok_or (option_and_then kinds_value o) (BadValue key) ≡ Ok set → are_kinds set ≡ true
     by None e = none-some _ set (of None e)
-    by (Some value) e = some_kinds-are_kinds value set (of (some_kinds value) e)
+    by (Some value) e = some_kinds-are_kinds value set (of (kinds_value value) e)

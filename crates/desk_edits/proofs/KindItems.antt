@@ -15,7 +15,7 @@ use Rattle.desk_law.specs.Kind.{same_kind}
 use Rattle.desk_law.specs.KindSet.{has_kind, set_of}
 use Rattle.desk_law.proofs.KindMarks.{has_kind-set_of, same_filter}
 use Rattle.desk_law.proofs.KindSets.{set_of-none}
-use Rattle.desk_edits.specs.Values.{a_kind, are_distinct, distinct_set, kinds_of}
+use Rattle.desk_edits.specs.Values.{a_kind, are_kinds_distinct, distinct_set, kinds_of}
 
 -- the set with the kinds of the items, each of which is new to it
 abbrev pub set_with : List Kind → Items → Option (List Kind)
@@ -28,7 +28,7 @@ are_new before kinds = list_all (λ kind. not (has_kind before kind)) kinds
 
 -- the set of kinds with those before, where none is among them or stands twice
 abbrev new_set : List Kind → List Kind → Option (List Kind)
-new_set before kinds = if are_new before kinds && are_distinct kinds then Some (set_of (before ++ kinds)) else None
+new_set before kinds = if are_new before kinds && are_kinds_distinct kinds then Some (set_of (before ++ kinds)) else None
 
 has_kind-push : (before : List Kind) (kind asked : Kind) → has_kind (before ++ kind ∷ []) asked ≡ has_kind before asked || (same_kind asked kind || false)
 unfolding has_kind
@@ -75,11 +75,11 @@ and_assoc true b c = refl
 and_assoc false b c = refl
 
 new_set-push : (before : List Kind) (kind : Kind) (kinds : List Kind)
-    → new_set (before ++ kind ∷ []) kinds ≡ (if are_new before kinds && (not (has_kind kinds kind) && are_distinct kinds) then Some (set_of (before ++ kind ∷ kinds)) else None)
+    → new_set (before ++ kind ∷ []) kinds ≡ (if are_new before kinds && (not (has_kind kinds kind) && are_kinds_distinct kinds) then Some (set_of (before ++ kind ∷ kinds)) else None)
 new_set-push before kind kinds =
-    ap (λ b. if b && are_distinct kinds then Some (set_of ((before ++ kind ∷ []) ++ kinds)) else None) (are_new-push before kind kinds)
-    ∙ ap (λ b. if b then Some (set_of ((before ++ kind ∷ []) ++ kinds)) else None) (and_assoc (are_new before kinds) (not (has_kind kinds kind)) (are_distinct kinds))
-    ∙ ap (λ (ks : List Kind). if are_new before kinds && (not (has_kind kinds kind) && are_distinct kinds) then Some (set_of ks) else None) (append_assoc before (kind ∷ []) kinds)
+    ap (λ b. if b && are_kinds_distinct kinds then Some (set_of ((before ++ kind ∷ []) ++ kinds)) else None) (are_new-push before kind kinds)
+    ∙ ap (λ b. if b then Some (set_of ((before ++ kind ∷ []) ++ kinds)) else None) (and_assoc (are_new before kinds) (not (has_kind kinds kind)) (are_kinds_distinct kinds))
+    ∙ ap (λ (ks : List Kind). if are_new before kinds && (not (has_kind kinds kind) && are_kinds_distinct kinds) then Some (set_of ks) else None) (append_assoc before (kind ∷ []) kinds)
 
 new_set-more : (before : List Kind) (kind : Kind) (kinds : List Kind) (b : Bool) → has_kind before kind ≡ b
     → cond b None (new_set (before ++ kind ∷ []) kinds) ≡ new_set before (kind ∷ kinds)

@@ -29,13 +29,13 @@ unfoldable pub needed : {A : Type 0} → (Data → Option A) → EditKey → Dat
 needed form key d = ok_or (option_and_then form (get (key_name key) d)) (BadValue key)
 
 -- what a form reads of a value, if there is one
-abbrev pub optional_by : {A : Type 0} → (Data → Option A) → EditKey → Option Data → Result (Option A) JsonFault
-optional_by form key None = Ok None
-optional_by form key (Some d) = ok_or (option_map Some (form d)) (BadValue key)
+abbrev pub optional_value_by : {A : Type 0} → (Data → Option A) → EditKey → Option Data → Result (Option A) JsonFault
+optional_value_by form key None = Ok None
+optional_value_by form key (Some d) = ok_or (option_map Some (form d)) (BadValue key)
 
 -- the value of a key that may be absent or null, as its form reads it
 unfoldable pub optional : {A : Type 0} → (Data → Option A) → EditKey → Data → Result (Option A) JsonFault
-optional form key d = optional_by form key (option_and_then unless_null (get (key_name key) d))
+optional form key d = optional_value_by form key (option_and_then unless_null (get (key_name key) d))
 
 -- a shape of a key that has to be there
 abbrev pub needs : {A : Type 0} → EditKey → (Data → Option A) → Shape A
@@ -55,9 +55,9 @@ abbrev pub ◌then◌ : {A B : Type 0} → Shape (A → B) → Shape A → Shape
 f then a = record { keys = f.keys ++ a.keys; values = λ d. applied (f.values d) (a.values d) }
 
 -- the key itself
-abbrev pub key_of : ShapeKey → EditKey
-key_of (Needed key) = key
-key_of (Optional key) = key
+abbrev pub json_key_of : ShapeKey → EditKey
+json_key_of (Needed key) = key
+json_key_of (Optional key) = key
 
 -- the key has to be there, and isn't
 abbrev pub is_missing : Data → ShapeKey → Bool
@@ -66,11 +66,11 @@ is_missing d (Optional key) = false
 
 -- the first key of a shape that has to be there and isn't
 unfoldable pub missing_key : List ShapeKey → Data → Option EditKey
-missing_key keys d = option_map key_of (find (is_missing d) keys)
+missing_key keys d = option_map json_key_of (find (is_missing d) keys)
 
 -- a name is that of a key, or `edit`
 abbrev pub is_known : List ShapeKey → List ℕ → Bool
-is_known keys name = bytes_eq word_key name || list_any (λ key. bytes_eq (key_name (key_of key)) name) keys
+is_known keys name = bytes_eq word_key name || list_any (λ key. bytes_eq (key_name (json_key_of key)) name) keys
 
 -- there is a member whose name isn't known
 abbrev pub has_unknown : List ShapeKey → Members → Bool
@@ -87,5 +87,5 @@ by_keys (Some key) has_extra values = Err (MissingKey key)
 by_keys None has_extra values = if has_extra then Err ExtraKey else values
 
 -- what an object of a shape makes, or its first fault: a missing key, an extra key, a bad value
-abbrev pub made_by : {A : Type 0} → Shape A → Data → Result A JsonFault
-made_by shape d = by_keys (missing_key shape.keys d) (has_extra_key shape.keys d) (shape.values d)
+abbrev pub edit_made_by : {A : Type 0} → Shape A → Data → Result A JsonFault
+edit_made_by shape d = by_keys (missing_key shape.keys d) (has_extra_key shape.keys d) (shape.values d)

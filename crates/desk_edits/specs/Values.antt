@@ -18,28 +18,28 @@ use Rattle.desk_model.specs.Forms.{are_units, is_count, is_factor, is_year}
 use Rattle.desk_model.specs.Terms.{is_ppm}
 
 -- a code
-unfoldable pub a_code : Data → Option (List ℕ)
-a_code d = option_and_then text.a_code (as_str d)
+unfoldable pub code_value : Data → Option (List ℕ)
+code_value d = option_and_then text.a_code (as_str d)
 
 -- a name
-unfoldable pub a_name : Data → Option (List ℕ)
-a_name d = option_and_then text.a_name (as_str d)
+unfoldable pub name_value : Data → Option (List ℕ)
+name_value d = option_and_then text.a_name (as_str d)
 
 -- a CAS number
-unfoldable pub a_cas : Data → Option (List ℕ)
-a_cas d = option_and_then text.a_cas (as_str d)
+unfoldable pub cas_value : Data → Option (List ℕ)
+cas_value d = option_and_then text.a_cas (as_str d)
 
 -- the number of an exemption
-unfoldable pub an_exemption_number : Data → Option (List ℕ)
-an_exemption_number d = option_and_then text.an_exemption_number (as_str d)
+unfoldable pub exemption_number_value : Data → Option (List ℕ)
+exemption_number_value d = option_and_then text.an_exemption_number (as_str d)
 
 -- a day
-unfoldable pub a_day : Data → Option Date
-a_day d = option_and_then text.a_day (as_str d)
+unfoldable pub day_value : Data → Option Date
+day_value d = option_and_then text.a_day (as_str d)
 
 -- a rule, by its code
-unfoldable pub a_rule : Data → Option Rule
-a_rule d = option_and_then rule_of (as_str d)
+unfoldable pub rule_value : Data → Option Rule
+rule_value d = option_and_then rule_of (as_str d)
 
 -- a kind of equipment, by its code
 unfoldable pub a_kind : Data → Option Kind
@@ -54,32 +54,32 @@ abbrev pub a_whole_number : Data → Option ℕ
 a_whole_number d = option_and_then as_u64 (as_number d)
 
 -- a whole number of a range
-abbrev pub a_number : (ℕ → Bool) → Data → Option ℕ
-a_number is_in_range d = option_and_then (λ n. if is_in_range n then Some n else None) (a_whole_number d)
+abbrev pub number_value : (ℕ → Bool) → Data → Option ℕ
+number_value is_in_range d = option_and_then (λ n. if is_in_range n then Some n else None) (a_whole_number d)
 
 -- the count of a line
 unfoldable pub a_count : Data → Option ℕ
-a_count = a_number is_count
+a_count = number_value is_count
 
 -- a factor in millionths
 unfoldable pub a_factor : Data → Option ℕ
-a_factor = a_number is_factor
+a_factor = number_value is_factor
 
 -- the year of a shipment
 unfoldable pub a_year : Data → Option ℕ
-a_year = a_number is_year
+a_year = number_value is_year
 
 -- the units of a shipment
 unfoldable pub some_units : Data → Option ℕ
-some_units = a_number are_units
+some_units = number_value are_units
 
 -- a floor or a cap in ppm
 unfoldable pub a_ppm : Data → Option ℕ
-a_ppm = a_number (λ n. is_ppm (Some n))
+a_ppm = number_value (λ n. is_ppm (Some n))
 
 -- an annex, by its number
-unfoldable pub an_annex : Data → Option Annex
-an_annex d = option_and_then annex_of (a_whole_number d)
+unfoldable pub annex_value : Data → Option Annex
+annex_value d = option_and_then annex_of (a_whole_number d)
 
 -- the kinds of equipment that items are the codes of, where each is one's
 abbrev pub kinds_of : Items → Option (List Kind)
@@ -87,14 +87,14 @@ kinds_of no_items = Some []
 kinds_of (item d ds) = option_and_then (λ kind. option_map (λ kinds. kind ∷ kinds) (kinds_of ds)) (a_kind d)
 
 -- no kind stands twice in the list
-abbrev pub are_distinct : List Kind → Bool
-are_distinct [] = true
-are_distinct (kind ∷ kinds) = not (has_kind kinds kind) && are_distinct kinds
+abbrev pub are_kinds_distinct : List Kind → Bool
+are_kinds_distinct [] = true
+are_kinds_distinct (kind ∷ kinds) = not (has_kind kinds kind) && are_kinds_distinct kinds
 
 -- the set of these kinds, where there is one and none stands twice; so there are at most fourteen
 abbrev pub distinct_set : List Kind → Option (List Kind)
-distinct_set kinds = if nat_lt 0 (length kinds) && are_distinct kinds then Some (set_of kinds) else None
+distinct_set kinds = if nat_lt 0 (length kinds) && are_kinds_distinct kinds then Some (set_of kinds) else None
 
 -- a set of kinds, by an array of their codes
-unfoldable pub some_kinds : Data → Option (List Kind)
-some_kinds d = option_and_then distinct_set (option_and_then kinds_of (as_array d))
+unfoldable pub kinds_value : Data → Option (List Kind)
+kinds_value d = option_and_then distinct_set (option_and_then kinds_of (as_array d))

@@ -22,55 +22,55 @@ pub(crate) trait FromJson: Sized + Drop {
 }
 
 impl FromJson for Code {
-    ghost use Rattle.desk_edits.specs.Values.{a_code};
+    ghost use Rattle.desk_edits.specs.Values.{code_value};
 
-    ghost form = { a_code };
+    ghost form = { code_value };
 
-    #[tactic(auto, unfolding(crate::specs::Values::a_code, desk_text::specs::Forms::a_code))]
+    #[tactic(auto, unfolding(crate::specs::Values::code_value, desk_text::specs::Forms::a_code))]
     fn from_json(value: &Value) -> Option<Code> {
         Code::read(value.as_str()?.as_bytes()).ok()
     }
 }
 
 impl FromJson for ExemptionNumber {
-    ghost use Rattle.desk_edits.specs.Values.{an_exemption_number};
+    ghost use Rattle.desk_edits.specs.Values.{exemption_number_value};
 
-    ghost form = { an_exemption_number };
+    ghost form = { exemption_number_value };
 
-    #[tactic(auto, unfolding(crate::specs::Values::an_exemption_number, desk_text::specs::Forms::an_exemption_number))]
+    #[tactic(auto, unfolding(crate::specs::Values::exemption_number_value, desk_text::specs::Forms::an_exemption_number))]
     fn from_json(value: &Value) -> Option<ExemptionNumber> {
         ExemptionNumber::read(value.as_str()?.as_bytes()).ok()
     }
 }
 
 impl FromJson for Cas {
-    ghost use Rattle.desk_edits.specs.Values.{a_cas};
+    ghost use Rattle.desk_edits.specs.Values.{cas_value};
 
-    ghost form = { a_cas };
+    ghost form = { cas_value };
 
-    #[tactic(auto, unfolding(crate::specs::Values::a_cas, desk_text::specs::Forms::a_cas))]
+    #[tactic(auto, unfolding(crate::specs::Values::cas_value, desk_text::specs::Forms::a_cas))]
     fn from_json(value: &Value) -> Option<Cas> {
         Cas::read(value.as_str()?.as_bytes()).ok()
     }
 }
 
 impl FromJson for Day {
-    ghost use Rattle.desk_edits.specs.Values.{a_day};
+    ghost use Rattle.desk_edits.specs.Values.{day_value};
 
-    ghost form = { a_day };
+    ghost form = { day_value };
 
-    #[tactic(auto, unfolding(crate::specs::Values::a_day, desk_text::specs::Forms::a_day))]
+    #[tactic(auto, unfolding(crate::specs::Values::day_value, desk_text::specs::Forms::a_day))]
     fn from_json(value: &Value) -> Option<Day> {
         Day::read(value.as_str()?.as_bytes()).ok()
     }
 }
 
 impl FromJson for Rule {
-    ghost use Rattle.desk_edits.specs.Values.{a_rule};
+    ghost use Rattle.desk_edits.specs.Values.{rule_value};
 
-    ghost form = { a_rule };
+    ghost form = { rule_value };
 
-    #[tactic(auto, unfolding(crate::specs::Values::a_rule))]
+    #[tactic(auto, unfolding(crate::specs::Values::rule_value))]
     fn from_json(value: &Value) -> Option<Rule> {
         Rule::read(value.as_str()?.as_bytes())
     }
@@ -99,11 +99,11 @@ impl FromJson for PartSort {
 }
 
 impl FromJson for Annex {
-    ghost use Rattle.desk_edits.specs.Values.{an_annex};
+    ghost use Rattle.desk_edits.specs.Values.{annex_value};
 
-    ghost form = { an_annex };
+    ghost form = { annex_value };
 
-    #[tactic(auto, unfolding(crate::specs::Values::an_annex))]
+    #[tactic(auto, unfolding(crate::specs::Values::annex_value))]
     fn from_json(value: &Value) -> Option<Annex> {
         Annex::with_number(value.as_u64()?)
     }

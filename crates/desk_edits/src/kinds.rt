@@ -7,11 +7,11 @@ use desk_law::{Kind, KindSet};
 use serde_json::Value;
 
 impl FromJson for KindSet {
-    ghost use Rattle.desk_edits.specs.Values.{some_kinds};
+    ghost use Rattle.desk_edits.specs.Values.{kinds_value};
 
-    ghost form = { some_kinds };
+    ghost form = { kinds_value };
 
-    #[tactic(auto, unfolding(crate::specs::Values::some_kinds))]
+    #[tactic(auto, unfolding(crate::specs::Values::kinds_value))]
     fn from_json(value: &Value) -> Option<KindSet> {
         kinds_of(value.as_array()?.as_slice())
     }

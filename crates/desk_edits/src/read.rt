@@ -1,6 +1,6 @@
 ghost use Rattle.std.specs.Prelude.{◌≡◌, ◌≢◌, ◌<◌, length, Some, None, Err, IfOk, IfErr};
 ghost use Rattle.serde_json.specs.View.{view};
-ghost use Rattle.desk_edits.specs.Edit.{edit_of, edit_of_word, json_of, word_in};
+ghost use Rattle.desk_edits.specs.Edit.{edit_of_json, edit_of_word, json_of, word_in};
 
 use crate::edit_key::WORD_KEY;
 use crate::{JsonFault, rows};
@@ -14,7 +14,7 @@ use std::alloc::Global;
 /// The faults are looked for in the order in which [`JsonFault`] lists them, so each comes exactly where the bytes
 /// have it and none before it. `OutOfMemory` may come for any bytes, unless there are none.
 pub fn read_edit(alloc: Global, bytes: &[u8]) -> Result<Edit, JsonFault>
-    ensures edit { result ≢ Err JsonFault.OutOfMemory → result ≡ edit_of bytes.now }
+    ensures edit { result ≢ Err JsonFault.OutOfMemory → result ≡ edit_of_json bytes.now }
     ensures memory { result ≡ Err JsonFault.OutOfMemory → 0 < length bytes.now }
 {
     let value = value_of(alloc, bytes)?;

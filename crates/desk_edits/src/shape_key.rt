@@ -5,7 +5,7 @@ ghost use Rattle.std.specs.String.{string_bytes};
 ghost use Rattle.std.specs.Str.{bytes_eq};
 ghost use Rattle.serde_json.specs.View.{view};
 ghost use Rattle.desk_edits.specs.Keys.{key_name};
-ghost use Rattle.desk_edits.specs.Shape.{by_keys, has_extra_key, is_known, is_missing, key_of, missing_key};
+ghost use Rattle.desk_edits.specs.Shape.{by_keys, has_extra_key, is_known, is_missing, json_key_of, missing_key};
 
 use crate::edit_key::WORD_KEY;
 use crate::value_at::value_at;
@@ -24,7 +24,7 @@ pub(crate) enum ShapeKey {
 impl ShapeKey {
     /// The key itself.
     fn key(self) -> EditKey
-        ensures { result ≡ key_of self }
+        ensures { result ≡ json_key_of self }
     {
         match self {
             ShapeKey::Needed(key) | ShapeKey::Optional(key) => key,
@@ -33,7 +33,7 @@ impl ShapeKey {
 
     /// Whether the key has the name.
     fn is_named(self, name: &str) -> bool
-        ensures { result ≡ bytes_eq (key_name (key_of self)) name.now }
+        ensures { result ≡ bytes_eq (key_name (json_key_of self)) name.now }
     {
         self.key().name() == name
     }
@@ -107,7 +107,7 @@ fn is_known(keys: &[ShapeKey], name: &str) -> bool
 
 /// Whether a name is that of a key.
 fn is_named_by(keys: &[ShapeKey], name: &str) -> bool
-    ensures { result ≡ list_any (λ key. bytes_eq (key_name (key_of key)) name.now) keys.now }
+    ensures { result ≡ list_any (λ key. bytes_eq (key_name (json_key_of key)) name.now) keys.now }
 {
     keys.iter().any(|key| key.is_named(name))
 }

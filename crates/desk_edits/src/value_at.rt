@@ -4,7 +4,7 @@ ghost use Rattle.serde_json.specs.View.{view};
 ghost use Rattle.desk_model.specs.Terms.{are_kinds, is_ppm};
 ghost use Rattle.desk_edits.specs.Keys.{key_name};
 ghost use Rattle.desk_edits.specs.Shape.{needed, optional, unless_null};
-ghost use Rattle.desk_edits.specs.Values.{a_name, a_ppm, some_kinds};
+ghost use Rattle.desk_edits.specs.Values.{name_value, a_ppm, kinds_value};
 
 use crate::from_json::FromJson;
 use crate::{EditKey, JsonFault, Ppm};
@@ -54,10 +54,10 @@ pub(crate) fn optional<T: FromJson>(object: &Value, key: EditKey) -> Result<Opti
 }
 
 /// The name that the value of a key is, which has to be there. Memory is wanting only for a value that is a name.
-#[tactic(auto, unfolding(crate::specs::Shape::needed, crate::specs::Values::a_name, desk_text::specs::Forms::a_name))]
+#[tactic(auto, unfolding(crate::specs::Shape::needed, crate::specs::Values::name_value, desk_text::specs::Forms::a_name))]
 pub(crate) fn needed_name(alloc: Global, object: &Value, key: EditKey) -> Result<Name, JsonFault>
-    ensures name { result ≢ Err JsonFault.OutOfMemory → result ≡ needed a_name key (view object.now) }
-    ensures memory { result ≡ Err JsonFault.OutOfMemory → is_ok (needed a_name key (view object.now)) ≡ true }
+    ensures name { result ≢ Err JsonFault.OutOfMemory → result ≡ needed name_value key (view object.now) }
+    ensures memory { result ≡ Err JsonFault.OutOfMemory → is_ok (needed name_value key (view object.now)) ≡ true }
 {
     let Some(value) = value_at(object, key) else {
         return Err(JsonFault::BadValue { key });
@@ -75,7 +75,7 @@ pub(crate) fn needed_name(alloc: Global, object: &Value, key: EditKey) -> Result
 /// The set of kinds that the value of a key is, which has to be there.
 #[tactic(auto, using(crate::proofs::KindForms::needed_are_kinds))]
 pub(crate) fn needed_kinds(object: &Value, key: EditKey) -> Result<KindSet, JsonFault>
-    ensures value { result ≡ needed some_kinds key (view object.now) }
+    ensures value { result ≡ needed kinds_value key (view object.now) }
     ensures range { IfOk result (λ kinds. are_kinds kinds ≡ true) }
 {
     needed(object, key)

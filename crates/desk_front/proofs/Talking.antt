@@ -8,7 +8,7 @@ use Rattle.desk_clerk.proofs.Growing.{Grows, accepted_on, after_on, grows_at}
 use Rattle.desk_edge.specs.Faults.{Rose}
 use Rattle.desk_edits.specs.declared.json_fault.JsonFault.{JsonFault}
 use Rattle.desk_declare.specs.Declaration.{declaration_of}
-use Rattle.desk_edits.specs.Edit.{edit_of}
+use Rattle.desk_edits.specs.Edit.{edit_of_json}
 use Rattle.desk_history.specs.History.{AreAccepted, Begins, History, IsHistory, after, number_of, tables_after, up_to}
 use Rattle.desk_history.specs.Refused.{refused}
 use Rattle.desk_history.specs.Sound.{Sound}
@@ -198,7 +198,7 @@ csv_not_of_store (Err cause) = λ e. absurd (omega (arith, e))
 
 pub route_not_of_store : (body : List ℕ) (x : Result Ask HttpFault) → IsNotOfStore (of_route body x)
 route_not_of_store body (Ok (ask.Question asked)) = tt
-route_not_of_store body (Ok ask.Edit) = json_not_of_store (edit_of body)
+route_not_of_store body (Ok ask.Edit) = json_not_of_store (edit_of_json body)
 route_not_of_store body (Ok ask.Declaration) = csv_not_of_store (declaration_of body)
 route_not_of_store body (Err fault.NoRoute) = λ e. absurd (omega (arith, e))
 route_not_of_store body (Err (fault.WrongMethod allow)) = λ e. absurd (omega (arith, e))

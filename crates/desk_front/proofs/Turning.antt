@@ -100,7 +100,7 @@ says_unmade old new asked close refused e left met steady =
       fixed_bytes refusal.Memory close,
     )
 
--- the store failed to keep an edit that is new and that no rule refuses
+-- the store failed to keep an edit that is new and that meets no refusal
 pub says_failed : (old new : Standing) (made : Edit) (close : Bool) → new.whole ≡ old.whole → new.met ≡ old.met → old.faults ≤ new.faults → Rose old.faults new.faults
     → (kept_number old.whole made ≡ None) × (is_ok (step old.whole made).0 ≡ true) → Says Turn old (edit made) close (fixed_reply refusal.StoreFault close) new
 says_failed old new made close left met falls rose asked = (

@@ -2,7 +2,7 @@
 use Rattle.std.specs.Prelude.{ℕ, List, Result, Ok, Err}
 use Rattle.desk_declare.specs.Declaration.{declaration_of}
 use Rattle.desk_declare.specs.declared.declare_fault.DeclareFault.{DeclareFault}
-use Rattle.desk_edits.specs.Edit.{edit_of}
+use Rattle.desk_edits.specs.Edit.{edit_of_json}
 use Rattle.desk_edits.specs.declared.json_fault.JsonFault.{JsonFault}
 use Rattle.desk_http.specs.Rest.{Message}
 use Rattle.desk_http.specs.Routes.{route_of}
@@ -41,7 +41,7 @@ of_csv (Err cause) = nothing (with_body 400 (bad_declaration_body cause))
 -- what is asked with this body where the route was read so
 abbrev pub of_route : List ℕ → Result Ask HttpFault → Asked
 of_route body (Ok (ask.Question asked)) = question asked
-of_route body (Ok ask.Edit) = of_json (edit_of body)
+of_route body (Ok ask.Edit) = of_json (edit_of_json body)
 of_route body (Ok ask.Declaration) = of_csv (declaration_of body)
 of_route body (Err cause) = nothing (no_ask cause)
 

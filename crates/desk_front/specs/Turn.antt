@@ -42,7 +42,7 @@ LacksMemory old asked reply added new =
     ⊎ ((made : Edit) × (asked ≡ edit made) × (is_edit_in_form made ≡ true) × (added ≡ added_to_list old.whole made)
     × (new ≡ record old { whole = (step old.whole made).1 })))
 
--- the store failed to keep an edit that is new and that no rule refuses: its count rose in this turn, and nothing else has changed
+-- the store failed to keep an edit that is new and that meets no refusal: its count rose in this turn, and nothing else has changed
 abbrev pub FailsToKeep : Standing → Asked → Reply → List Edit → Standing → Type 0
 FailsToKeep old asked reply added new =
     (made : Edit) × (asked ≡ edit made) × (reply ≡ fixed refusal.StoreFault) × (added ≡ [])

@@ -1,6 +1,6 @@
 ghost use Rattle.std.specs.Prelude.{◌≡◌, ◌≢◌, ◌≤◌, ℕ, List, length};
 ghost use Rattle.std.specs.Io.KnownBytes.{Consumes};
-ghost use Rattle.desk_clerk.specs.Clerk.{keeper_of, whole};
+ghost use Rattle.desk_clerk.specs.Clerk.{keeper_of, current_tables};
 ghost use Rattle.desk_model.specs.Lists.{number_at};
 ghost use Rattle.desk_edge.specs.Faults.{CountsFaults};
 ghost use Rattle.desk_front.specs.Served.{Serves, stream_limit};
@@ -37,8 +37,8 @@ pub fn serve_alone<R: Wait + Sync, L: Link, K: Keeper, J: Naming<DeskBoard>>(
 ) -> Served
     ensures served { result ≢ Served.OutOfMemory → (bytes : List ℕ) × Consumes (L.unread link.old) (L.unread link.new) bytes × (length bytes ≤ stream_limit)
         × Serves (Converses
-        (record { whole = whole clerk.old; met = number_at (whole clerk.old); faults = K.faults (keeper_of clerk.old) })
-        (whole clerk.new) (K.faults (keeper_of clerk.new)))
+        (record { whole = current_tables clerk.old; met = number_at (current_tables clerk.old); faults = K.faults (keeper_of clerk.old) })
+        (current_tables clerk.new) (K.faults (keeper_of clerk.new)))
         result bytes (L.unread link.new) (L.written link.old) (L.written link.new) }
     ensures nothing { result ≡ Served.OutOfMemory → (clerk.new ≡ clerk.old) × (link.new ≡ link.old) }
     ensures told { K.Tells (keeper_of clerk.new) → K.Tells (keeper_of clerk.old) }
@@ -62,8 +62,8 @@ fn serve_by<R: Wait + Sync, L: Link, K: Keeper, J: Naming<DeskBoard>>(
 ) -> Served
     ensures served { result ≢ Served.OutOfMemory → (bytes : List ℕ) × Consumes (L.unread link.old) (L.unread link.new) bytes × (length bytes ≤ stream_limit)
         × Serves (Converses
-        (record { whole = whole clerk.old; met = number_at (whole clerk.old); faults = K.faults (keeper_of clerk.old) })
-        (whole clerk.new) (K.faults (keeper_of clerk.new)))
+        (record { whole = current_tables clerk.old; met = number_at (current_tables clerk.old); faults = K.faults (keeper_of clerk.old) })
+        (current_tables clerk.new) (K.faults (keeper_of clerk.new)))
         result bytes (L.unread link.new) (L.written link.old) (L.written link.new) }
     ensures nothing { result ≡ Served.OutOfMemory → (clerk.new ≡ clerk.old) × (link.new ≡ link.old) }
     ensures told { K.Tells (keeper_of clerk.new) → K.Tells (keeper_of clerk.old) }
@@ -87,12 +87,12 @@ fn serve_over<R: Wait + Sync, L: Link, K: Keeper, J: Naming<DeskBoard>>(
     body: &mut Bytes,
     link: &mut L,
 ) -> Served
-    requires sound { Sound (whole clerk.old) }
-    requires met { met ≡ number_at (whole clerk.old) }
+    requires sound { Sound (current_tables clerk.old) }
+    requires met { met ≡ number_at (current_tables clerk.old) }
     ensures served { result ≢ Served.OutOfMemory → (bytes : List ℕ) × Consumes (L.unread link.old) (L.unread link.new) bytes × (length bytes ≤ stream_limit)
         × Serves (Converses
-        (record { whole = whole clerk.old; met = number_at (whole clerk.old); faults = K.faults (keeper_of clerk.old) })
-        (whole clerk.new) (K.faults (keeper_of clerk.new)))
+        (record { whole = current_tables clerk.old; met = number_at (current_tables clerk.old); faults = K.faults (keeper_of clerk.old) })
+        (current_tables clerk.new) (K.faults (keeper_of clerk.new)))
         result bytes (L.unread link.new) (L.written link.old) (L.written link.new) }
     ensures nothing { result ≡ Served.OutOfMemory → (clerk.new ≡ clerk.old) × (link.new ≡ link.old) }
     ensures told { K.Tells (keeper_of clerk.new) → K.Tells (keeper_of clerk.old) }
@@ -115,13 +115,13 @@ fn serve_connection<R: Wait + Sync, L: Link, K: Keeper, J: Naming<DeskBoard>>(
     link: &mut L,
     connection: &mut Connection<'_, '_, K, J>,
 ) -> Served
-    requires sound { Sound (whole connection.old.clerk.now) }
-    requires met { connection.old.met ≡ number_at (whole connection.old.clerk.now) }
+    requires sound { Sound (current_tables connection.old.clerk.now) }
+    requires met { connection.old.met ≡ number_at (current_tables connection.old.clerk.now) }
     ensures same_clerk { connection.new.clerk.ghost_name ≡ connection.old.clerk.ghost_name }
     ensures served { result ≢ Served.OutOfMemory → (bytes : List ℕ) × Consumes (L.unread link.old) (L.unread link.new) bytes × (length bytes ≤ stream_limit)
         × Serves (Converses
-        (record { whole = whole connection.old.clerk.now; met = number_at (whole connection.old.clerk.now); faults = K.faults (keeper_of connection.old.clerk.now) })
-        (whole connection.new.clerk.now) (K.faults (keeper_of connection.new.clerk.now)))
+        (record { whole = current_tables connection.old.clerk.now; met = number_at (current_tables connection.old.clerk.now); faults = K.faults (keeper_of connection.old.clerk.now) })
+        (current_tables connection.new.clerk.now) (K.faults (keeper_of connection.new.clerk.now)))
         result bytes (L.unread link.new) (L.written link.old) (L.written link.new) }
     ensures nothing { result ≡ Served.OutOfMemory → (connection.new.clerk.now ≡ connection.old.clerk.now) × (link.new ≡ link.old) }
     ensures told { K.Tells (keeper_of connection.new.clerk.now) → K.Tells (keeper_of connection.old.clerk.now) }

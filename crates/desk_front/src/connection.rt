@@ -1,7 +1,7 @@
 ghost use Rattle.std.specs.Prelude.{◌≡◌, ◌≢◌, ◌++◌, ℕ, List, true, Some, IfErr, OnErr, OnOk};
-ghost use Rattle.desk_clerk.specs.Clerk.{keeper_of, whole};
+ghost use Rattle.desk_clerk.specs.Clerk.{keeper_of, current_tables};
 ghost use Rattle.desk_declare.specs.Declaration.{declaration_of};
-ghost use Rattle.desk_edits.specs.Edit.{edit_of};
+ghost use Rattle.desk_edits.specs.Edit.{edit_of_json};
 ghost use Rattle.desk_front.specs.Asked.{a_question, an_edit, of_csv, of_json};
 ghost use Rattle.desk_http.specs.Reply.{allow_of, fixed_reply};
 ghost use Rattle.desk_front.specs.Told.{Says};
@@ -40,14 +40,14 @@ pub(crate) struct Connection<'a, 'c, K: Keeper, J: Naming<DeskBoard>> {
 
 impl<K: Keeper, J: Naming<DeskBoard>> Answerer for Connection<'_, '_, K, J> {
     ghost use Rattle.std.specs.Prelude.{◌≡◌, ℕ, List};
-    ghost use Rattle.desk_clerk.specs.Clerk.{keeper_of, whole};
+    ghost use Rattle.desk_clerk.specs.Clerk.{keeper_of, current_tables};
     ghost use Rattle.desk_front.specs.Told.{Turns};
     ghost use Rattle.desk_front.specs.Turn.{Turn};
 
     ghost replies = { λ old request said new. (new.clerk.ghost_name ≡ old.clerk.ghost_name)
         × (K.Tells (keeper_of new.clerk.now) → K.Tells (keeper_of old.clerk.now))
-        × Turns Turn (record { whole = whole old.clerk.now; met = old.met; faults = K.faults (keeper_of old.clerk.now) }) request said
-        (record { whole = whole new.clerk.now; met = new.met; faults = K.faults (keeper_of new.clerk.now) }) };
+        × Turns Turn (record { whole = current_tables old.clerk.now; met = old.met; faults = K.faults (keeper_of old.clerk.now) }) request said
+        (record { whole = current_tables new.clerk.now; met = new.met; faults = K.faults (keeper_of new.clerk.now) }) };
 
     fn reply<R: Wait + Sync>(
         &mut self,
@@ -84,11 +84,11 @@ fn answer<R: Wait + Sync, K: Keeper, J: Naming<DeskBoard>>(
 ) -> Result<(), Fixed>
     requires { is_question_in_range question.now ≡ true }
     ensures ok { OnOk result ((said : List ℕ) × (out.new ≡ out.old ++ said)
-        × Says Turn (record { whole = whole clerk.old; met = met.old; faults = K.faults (keeper_of clerk.old) }) (a_question question.now) close said
-        (record { whole = whole clerk.new; met = met.new; faults = K.faults (keeper_of clerk.new) })) }
+        × Says Turn (record { whole = current_tables clerk.old; met = met.old; faults = K.faults (keeper_of clerk.old) }) (a_question question.now) close said
+        (record { whole = current_tables clerk.new; met = met.new; faults = K.faults (keeper_of clerk.new) })) }
     ensures fixed { IfErr result (λ fixed.
-        Says Turn (record { whole = whole clerk.old; met = met.old; faults = K.faults (keeper_of clerk.old) }) (a_question question.now) close (fixed_reply fixed close)
-        (record { whole = whole clerk.new; met = met.new; faults = K.faults (keeper_of clerk.new) })) }
+        Says Turn (record { whole = current_tables clerk.old; met = met.old; faults = K.faults (keeper_of clerk.old) }) (a_question question.now) close (fixed_reply fixed close)
+        (record { whole = current_tables clerk.new; met = met.new; faults = K.faults (keeper_of clerk.new) })) }
     ensures allow { IfErr result (λ fixed. allow_of fixed ≢ Some method.Other) }
     ensures err { OnErr result (out.new ≡ out.old) }
     ensures told { K.Tells (keeper_of clerk.new) → K.Tells (keeper_of clerk.old) }
@@ -116,11 +116,11 @@ fn enter_json<R: Wait + Sync, K: Keeper, J: Naming<DeskBoard>>(
     out: &mut Bytes,
 ) -> Result<(), Fixed>
     ensures ok { OnOk result ((said : List ℕ) × (out.new ≡ out.old ++ said)
-        × Says Turn (record { whole = whole clerk.old; met = met.old; faults = K.faults (keeper_of clerk.old) }) (of_json (edit_of body.now)) close said
-        (record { whole = whole clerk.new; met = met.new; faults = K.faults (keeper_of clerk.new) })) }
+        × Says Turn (record { whole = current_tables clerk.old; met = met.old; faults = K.faults (keeper_of clerk.old) }) (of_json (edit_of_json body.now)) close said
+        (record { whole = current_tables clerk.new; met = met.new; faults = K.faults (keeper_of clerk.new) })) }
     ensures fixed { IfErr result (λ fixed.
-        Says Turn (record { whole = whole clerk.old; met = met.old; faults = K.faults (keeper_of clerk.old) }) (of_json (edit_of body.now)) close (fixed_reply fixed close)
-        (record { whole = whole clerk.new; met = met.new; faults = K.faults (keeper_of clerk.new) })) }
+        Says Turn (record { whole = current_tables clerk.old; met = met.old; faults = K.faults (keeper_of clerk.old) }) (of_json (edit_of_json body.now)) close (fixed_reply fixed close)
+        (record { whole = current_tables clerk.new; met = met.new; faults = K.faults (keeper_of clerk.new) })) }
     ensures allow { IfErr result (λ fixed. allow_of fixed ≢ Some method.Other) }
     ensures err { OnErr result (out.new ≡ out.old) }
     ensures told { K.Tells (keeper_of clerk.new) → K.Tells (keeper_of clerk.old) }
@@ -142,11 +142,11 @@ fn enter_csv<R: Wait + Sync, K: Keeper, J: Naming<DeskBoard>>(
     out: &mut Bytes,
 ) -> Result<(), Fixed>
     ensures ok { OnOk result ((said : List ℕ) × (out.new ≡ out.old ++ said)
-        × Says Turn (record { whole = whole clerk.old; met = met.old; faults = K.faults (keeper_of clerk.old) }) (of_csv (declaration_of body.now)) close said
-        (record { whole = whole clerk.new; met = met.new; faults = K.faults (keeper_of clerk.new) })) }
+        × Says Turn (record { whole = current_tables clerk.old; met = met.old; faults = K.faults (keeper_of clerk.old) }) (of_csv (declaration_of body.now)) close said
+        (record { whole = current_tables clerk.new; met = met.new; faults = K.faults (keeper_of clerk.new) })) }
     ensures fixed { IfErr result (λ fixed.
-        Says Turn (record { whole = whole clerk.old; met = met.old; faults = K.faults (keeper_of clerk.old) }) (of_csv (declaration_of body.now)) close (fixed_reply fixed close)
-        (record { whole = whole clerk.new; met = met.new; faults = K.faults (keeper_of clerk.new) })) }
+        Says Turn (record { whole = current_tables clerk.old; met = met.old; faults = K.faults (keeper_of clerk.old) }) (of_csv (declaration_of body.now)) close (fixed_reply fixed close)
+        (record { whole = current_tables clerk.new; met = met.new; faults = K.faults (keeper_of clerk.new) })) }
     ensures allow { IfErr result (λ fixed. allow_of fixed ≢ Some method.Other) }
     ensures err { OnErr result (out.new ≡ out.old) }
     ensures told { K.Tells (keeper_of clerk.new) → K.Tells (keeper_of clerk.old) }
@@ -168,11 +168,11 @@ fn enter<R: Wait + Sync, K: Keeper, J: Naming<DeskBoard>>(
     out: &mut Bytes,
 ) -> Result<(), Fixed>
     ensures ok { OnOk result ((said : List ℕ) × (out.new ≡ out.old ++ said)
-        × Says Turn (record { whole = whole clerk.old; met = met.old; faults = K.faults (keeper_of clerk.old) }) (an_edit edit) close said
-        (record { whole = whole clerk.new; met = met.new; faults = K.faults (keeper_of clerk.new) })) }
+        × Says Turn (record { whole = current_tables clerk.old; met = met.old; faults = K.faults (keeper_of clerk.old) }) (an_edit edit) close said
+        (record { whole = current_tables clerk.new; met = met.new; faults = K.faults (keeper_of clerk.new) })) }
     ensures fixed { IfErr result (λ fixed.
-        Says Turn (record { whole = whole clerk.old; met = met.old; faults = K.faults (keeper_of clerk.old) }) (an_edit edit) close (fixed_reply fixed close)
-        (record { whole = whole clerk.new; met = met.new; faults = K.faults (keeper_of clerk.new) })) }
+        Says Turn (record { whole = current_tables clerk.old; met = met.old; faults = K.faults (keeper_of clerk.old) }) (an_edit edit) close (fixed_reply fixed close)
+        (record { whole = current_tables clerk.new; met = met.new; faults = K.faults (keeper_of clerk.new) })) }
     ensures allow { IfErr result (λ fixed. allow_of fixed ≢ Some method.Other) }
     ensures err { OnErr result (out.new ≡ out.old) }
     ensures told { K.Tells (keeper_of clerk.new) → K.Tells (keeper_of clerk.old) }

@@ -1,6 +1,6 @@
 ghost use Rattle.std.specs.Prelude.{◌≡◌, ◌≢◌, ◌≤◌, ◌++◌, ◌⊎◌, None, Err, is_ok, true, IfOk, OnErr, OnOk, IsErrOf};
 ghost use mathlib.Core.List.{IsPrefix};
-ghost use Rattle.desk_clerk.specs.Clerk.{keeper_of, list_from, whole};
+ghost use Rattle.desk_clerk.specs.Clerk.{keeper_of, list_from, current_tables};
 ghost use Rattle.desk_clerk.specs.Published.{IsTakenIn};
 ghost use Rattle.desk_edge.specs.Faults.{CountsFaults};
 ghost use Rattle.desk_engine.specs.Engine.{lists_of};
@@ -36,18 +36,18 @@ pub fn answer_edit<R: Wait, K: Keeper, J: Naming<DeskBoard>>(
     edit: Edit,
     out: &mut Bytes,
 ) -> Result<Edited, EditFailed>
-    requires { number_of (list_from (lists_of J.opening.engine) seat.old.list) ≤ number_at (whole clerk.old) }
+    requires { number_of (list_from (lists_of J.opening.engine) seat.old.list) ≤ number_at (current_tables clerk.old) }
     ensures begins { OnOk result (IsPrefix seat.old.list seat.new.list) }
     ensures learnt { OnOk result (seat.new.list ≡ clerk.new.accepted) }
-    ensures taken_in { OnOk result (IsTakenIn clerk.old.accepted (whole clerk.old) edit clerk.new.accepted (whole clerk.new)) }
+    ensures taken_in { OnOk result (IsTakenIn clerk.old.accepted (current_tables clerk.old) edit clerk.new.accepted (current_tables clerk.new)) }
     ensures published { OnOk result (clerk.new.published ≡ clerk.new.accepted) }
-    ensures answer { IfOk result (λ answer. answer ≡ edited_of (step (whole clerk.old) edit).0) }
+    ensures answer { IfOk result (λ answer. answer ≡ edited_of (step (current_tables clerk.old) edit).0) }
     ensures body { OnOk result (out.new ≡ out.old
-        ++ (reply_to_edit (number_at (whole clerk.new)) (number_of (list_from (lists_of J.opening.engine) seat.old.list)) (step (whole clerk.old) edit).0).body) }
-    ensures clerk_stays { OnErr result (((clerk.new.accepted ≡ clerk.old.accepted) × (whole clerk.new ≡ whole clerk.old))
-        ⊎ IsTakenIn clerk.old.accepted (whole clerk.old) edit clerk.new.accepted (whole clerk.new)) }
-    ensures kept_out { result ≡ Err EditFailed.KeeperFault → (clerk.new.accepted ≡ clerk.old.accepted) × (whole clerk.new ≡ whole clerk.old)
-        × (clerk.new.published ≡ clerk.new.accepted) × (kept_number (whole clerk.old) edit ≡ None) × (is_ok (step (whole clerk.old) edit).0 ≡ true) }
+        ++ (reply_to_edit (number_at (current_tables clerk.new)) (number_of (list_from (lists_of J.opening.engine) seat.old.list)) (step (current_tables clerk.old) edit).0).body) }
+    ensures clerk_stays { OnErr result (((clerk.new.accepted ≡ clerk.old.accepted) × (current_tables clerk.new ≡ current_tables clerk.old))
+        ⊎ IsTakenIn clerk.old.accepted (current_tables clerk.old) edit clerk.new.accepted (current_tables clerk.new)) }
+    ensures kept_out { result ≡ Err EditFailed.KeeperFault → (clerk.new.accepted ≡ clerk.old.accepted) × (current_tables clerk.new ≡ current_tables clerk.old)
+        × (clerk.new.published ≡ clerk.new.accepted) × (kept_number (current_tables clerk.old) edit ≡ None) × (is_ok (step (current_tables clerk.old) edit).0 ≡ true) }
     ensures seat_stays { OnErr result (seat.new ≡ seat.old) }
     ensures err { OnErr result (out.new ≡ out.old) }
     ensures told { K.Tells (keeper_of clerk.new) → K.Tells (keeper_of clerk.old) }
@@ -76,14 +76,14 @@ fn edit_clerk<R: Wait, K: Keeper, J: Naming<DeskBoard>>(
     edit: Edit,
     out: &mut Bytes,
 ) -> Result<Edited, EditFailed>
-    ensures taken_in { OnOk result (IsTakenIn clerk.old.accepted (whole clerk.old) edit clerk.new.accepted (whole clerk.new)) }
+    ensures taken_in { OnOk result (IsTakenIn clerk.old.accepted (current_tables clerk.old) edit clerk.new.accepted (current_tables clerk.new)) }
     ensures published { OnOk result (clerk.new.published ≡ clerk.new.accepted) }
-    ensures answer { IfOk result (λ answer. answer ≡ edited_of (step (whole clerk.old) edit).0) }
-    ensures body { OnOk result (out.new ≡ out.old ++ (reply_to_edit (number_at (whole clerk.new)) seen (step (whole clerk.old) edit).0).body) }
-    ensures clerk_stays { OnErr result (((clerk.new.accepted ≡ clerk.old.accepted) × (whole clerk.new ≡ whole clerk.old))
-        ⊎ IsTakenIn clerk.old.accepted (whole clerk.old) edit clerk.new.accepted (whole clerk.new)) }
-    ensures kept_out { result ≡ Err EditFailed.KeeperFault → (clerk.new.accepted ≡ clerk.old.accepted) × (whole clerk.new ≡ whole clerk.old)
-        × (clerk.new.published ≡ clerk.new.accepted) × (kept_number (whole clerk.old) edit ≡ None) × (is_ok (step (whole clerk.old) edit).0 ≡ true) }
+    ensures answer { IfOk result (λ answer. answer ≡ edited_of (step (current_tables clerk.old) edit).0) }
+    ensures body { OnOk result (out.new ≡ out.old ++ (reply_to_edit (number_at (current_tables clerk.new)) seen (step (current_tables clerk.old) edit).0).body) }
+    ensures clerk_stays { OnErr result (((clerk.new.accepted ≡ clerk.old.accepted) × (current_tables clerk.new ≡ current_tables clerk.old))
+        ⊎ IsTakenIn clerk.old.accepted (current_tables clerk.old) edit clerk.new.accepted (current_tables clerk.new)) }
+    ensures kept_out { result ≡ Err EditFailed.KeeperFault → (clerk.new.accepted ≡ clerk.old.accepted) × (current_tables clerk.new ≡ current_tables clerk.old)
+        × (clerk.new.published ≡ clerk.new.accepted) × (kept_number (current_tables clerk.old) edit ≡ None) × (is_ok (step (current_tables clerk.old) edit).0 ≡ true) }
     ensures err { OnErr result (out.new ≡ out.old) }
     ensures told { K.Tells (keeper_of clerk.new) → K.Tells (keeper_of clerk.old) }
     ensures faults { CountsFaults (IsErrOf result EditFailed.KeeperFault) (K.faults (keeper_of clerk.old)) (K.faults (keeper_of clerk.new)) }
@@ -114,7 +114,7 @@ pub(crate) fn answer_as_editor<R: Wait, K: Keeper, J: Naming<DeskBoard>>(
     edit: Edit,
     out: &mut Bytes,
 ) -> Result<Edited, EditFailed>
-    requires { number_of (list_from (lists_of J.opening.engine) seat.old.list) ≤ number_at (whole clerk.old) }
+    requires { number_of (list_from (lists_of J.opening.engine) seat.old.list) ≤ number_at (current_tables clerk.old) }
     ensures grown { OnOk result (Begins (list_from (lists_of J.opening.engine) seat.old.list) (list_from (lists_of J.opening.engine) seat.new.list)) }
     ensures answer { IfOk result (λ answer. AnswersEdit (list_from (lists_of J.opening.engine) seat.old.list) (list_from (lists_of J.opening.engine) seat.new.list)
         edit answer out.old out.new) }

@@ -1,6 +1,6 @@
 ghost use Rattle.std.specs.Prelude.{◌≡◌, ◌≢◌, ◌++◌, ℕ, List, true, Some, IfErr, OnErr, OnOk};
 ghost use Rattle.desk_declare.specs.Declaration.{declaration_of};
-ghost use Rattle.desk_edits.specs.Edit.{edit_of};
+ghost use Rattle.desk_edits.specs.Edit.{edit_of_json};
 ghost use Rattle.desk_front.specs.Asked.{an_edit, of_csv, of_json};
 ghost use Rattle.desk_front.specs.Replies.{answer_at};
 ghost use Rattle.desk_front.specs.Sitting.{SeatTurn, sitting};
@@ -133,9 +133,9 @@ fn enter_json<E: Editor<S>, S: Seat>(
     body: &mut Bytes,
     out: &mut Bytes,
 ) -> Result<(), Fixed>
-    ensures ok { OnOk result ((said : List ℕ) × (out.new ≡ out.old ++ said) × (Says (SeatTurn E.NeverFails) (sitting (S.list seat.old) (E.faults editor.old) (E.given editor.old)) (of_json (edit_of text.now)) close said
+    ensures ok { OnOk result ((said : List ℕ) × (out.new ≡ out.old ++ said) × (Says (SeatTurn E.NeverFails) (sitting (S.list seat.old) (E.faults editor.old) (E.given editor.old)) (of_json (edit_of_json text.now)) close said
         (sitting (S.list seat.new) (E.faults editor.new) (E.given editor.new)))) }
-    ensures fixed { IfErr result (λ fixed. Says (SeatTurn E.NeverFails) (sitting (S.list seat.old) (E.faults editor.old) (E.given editor.old)) (of_json (edit_of text.now)) close (fixed_reply fixed close)
+    ensures fixed { IfErr result (λ fixed. Says (SeatTurn E.NeverFails) (sitting (S.list seat.old) (E.faults editor.old) (E.given editor.old)) (of_json (edit_of_json text.now)) close (fixed_reply fixed close)
         (sitting (S.list seat.new) (E.faults editor.new) (E.given editor.new))) }
     ensures allow { IfErr result (λ fixed. allow_of fixed ≢ Some method.Other) }
     ensures err { OnErr result (out.new ≡ out.old) }

@@ -1,5 +1,5 @@
 ghost use Rattle.std.specs.Prelude.{◌≡◌, ◌+◌, ◌<◌, [], IfOk};
-ghost use Rattle.desk_graph.specs.Planned.{IsBillPlan, planned};
+ghost use Rattle.desk_graph.specs.Planned.{IsBillPlan, graph_after};
 ghost use Rattle.desk_rollup.specs.Laws.{ChangesOne, IsLight};
 
 use desk_graph::{Bill, BillPlan, NodeId, PlannedBill, Steps};
@@ -81,7 +81,7 @@ fn enter<L: Ledger>(
     requires parts { blank.parts ≡ L.parts }
     requires some { 0 < L.parts }
     requires plan { IsBillPlan desk.old plan }
-    requires one { ChangesOne desk.old (planned plan desk.old) own.node }
+    requires one { ChangesOne desk.old (graph_after plan desk.old) own.node }
     requires light { IsLight own }
 {
     let before = desk.bill.node_count();

@@ -13,9 +13,9 @@ use Rattle.desk_http.specs.declared.lines.BodyLength.TheVariants.{Missing, TooLo
 use Rattle.desk_http.specs.declared.request.Request.{Request}
 use Rattle.desk_http.specs.declared.taken.Taken.{Taken}
 use Rattle.desk_http.specs.declared.taken.Taken.TheVariants.{Whole, NotYet, BadHead, HeadTooLong, NoLength, BodyTooLong}
-use Rattle.desk_http.specs.Lines.{Line, header_lines, is_named, values_of, stated_length, bounded_length, method_of, body_length, is_closing}
+use Rattle.desk_http.specs.Lines.{Line, header_lines, is_named, line_values, stated_length, bounded_length, method_of, body_length, is_closing}
 use Rattle.desk_http.specs.Rest.{front, HasHead, HasHeadWith, IsHopeless, IsUnfinished, IsInDoubt, IsNotYet, Message, BeginsWith}
-use Rattle.desk_http.specs.Taken.{message_of, IsTakenFrom, Takes, PlainAnswer, whole, not_yet, bad_head, head_too_long, no_length, body_too_long, answer_of, may_replace}
+use Rattle.desk_http.specs.Taken.{message_of, IsTakenFrom, Takes, PlainAnswer, whole, not_yet, bad_head, head_too_long, no_length, body_too_long, taken_answer, may_replace}
 use Rattle.desk_http.proofs.HeadLemmas.{print_request_len}
 use Rattle.desk_http.proofs.RestLemmas.{head_begins}
 
@@ -104,12 +104,12 @@ used_is rest r x =
     let sum = ap length b.bytes ∙ length-append (print_request b.h ++ m.body) (drop r.used rest) in
     omega (arith, sum, length-append (print_request b.h) m.body, length-drop r.used rest, x.used)
 
-answer_taken : (rest : List ℕ) (r : Request) (x : IsTakenFrom rest r) → answer_of rest (Whole r) ≡ head_answer rest x.begins.h
+answer_taken : (rest : List ℕ) (r : Request) (x : IsTakenFrom rest r) → taken_answer rest (Whole r) ≡ head_answer rest x.begins.h
 answer_taken rest r x =
     ap (whole (message_of rest r)) (used_is rest r x) ∙ sym (answer_whole rest (message_of rest r) (drop r.used rest) x.begins)
 
 -- a rest with a whole head has the answer that its head gives
-pub headed : (rest : List ℕ) (h : RequestHead) (taken : Taken) → HasHead rest h → Takes rest taken → answer_of rest taken ≡ head_answer rest h
+pub headed : (rest : List ℕ) (h : RequestHead) (taken : Taken) → HasHead rest h → Takes rest taken → taken_answer rest taken ≡ head_answer rest h
 headed rest h (Whole r) at x =
     answer_taken rest r x ∙ ap (head_answer rest) (same_head rest x.begins.h h x.begins.head.head at)
 headed rest h NotYet at (inl x) = absurd (x.1.0 h at.0 at.1)
@@ -131,7 +131,7 @@ abbrev open_answer : List ℕ → PlainAnswer
 open_answer rest = cond (ltb (length rest) head_limit) not_yet head_too_long
 
 unfinished : (rest : List ℕ) (taken : Taken) → IsUnfinished rest → Takes rest taken
-    → (answer_of rest taken ≡ open_answer rest) ⊎ ((taken ≡ BadHead) × IsInDoubt rest)
+    → (taken_answer rest taken ≡ open_answer rest) ⊎ ((taken ≡ BadHead) × IsInDoubt rest)
 unfinished rest (Whole r) unread x = absurd (unread.0 x.begins.h x.begins.head.head.0 x.begins.head.head.1)
 unfinished rest NotYet unread (inl x) = inl (sym (cond-true _ _ _ (lt-ltb _ _ x.0)))
 unfinished rest NotYet unread (inr x) = absurd (unread.0 x.0 x.2.head.0 x.2.head.1)
@@ -145,7 +145,7 @@ pub no_head : (rest : List ℕ) (h : RequestHead) → IsHopeless rest → HasHea
 no_head rest h never x = never [] h _ (ReadsRequest-append (front rest) h x.0 [] x.1)
 
 hopeless : (rest : List ℕ) (taken : Taken) → IsHopeless rest → Takes rest taken
-    → (bad_head ≡ answer_of rest taken) ⊎ (IsInDoubt rest × IsTrue (may_replace BadHead taken))
+    → (bad_head ≡ taken_answer rest taken) ⊎ (IsInDoubt rest × IsTrue (may_replace BadHead taken))
 hopeless rest (Whole r) never x = absurd (no_head rest x.begins.h never x.begins.head.head)
 hopeless rest NotYet never (inl x) = inr (in_doubt rest never x.1, refl)
 hopeless rest NotYet never (inr x) = absurd (no_head rest x.0 never x.2.head)
@@ -157,11 +157,11 @@ hopeless rest BodyTooLong never x = absurd (no_head rest x.0 never x.1.head)
 
 abbrev IsSameAnswer : List ℕ → Taken → Taken → Type 0
 IsSameAnswer rest taken other =
-    (answer_of rest taken ≡ answer_of rest other) ⊎ (IsInDoubt rest × IsTrue (may_replace taken other))
+    (taken_answer rest taken ≡ taken_answer rest other) ⊎ (IsInDoubt rest × IsTrue (may_replace taken other))
 
 -- an answer of an unfinished head, beside any other
-beside : (rest : List ℕ) (taken other : Taken) → IsTrue (may_replace taken BadHead) → answer_of rest taken ≡ open_answer rest
-    → (answer_of rest other ≡ open_answer rest) ⊎ ((other ≡ BadHead) × IsInDoubt rest) → IsSameAnswer rest taken other
+beside : (rest : List ℕ) (taken other : Taken) → IsTrue (may_replace taken BadHead) → taken_answer rest taken ≡ open_answer rest
+    → (taken_answer rest other ≡ open_answer rest) ⊎ ((other ≡ BadHead) × IsInDoubt rest) → IsSameAnswer rest taken other
 beside rest taken other may is (inl x) = inl (is ∙ sym x)
 beside rest taken other may is (inr x) = inr (x.1, rw x.0 may)
 
@@ -193,7 +193,7 @@ bounded (Some k) n e = elim (chosen (leb k body_limit) (Known k) TooLong (Known 
 
 body_bound : (method : Method) (lines : List Line) (n : ℕ) → body_length method lines ≡ Known n → n ≤ body_limit
 body_bound method lines n e =
-    let stated = stated_length method (values_of (codes "content-length") lines) in
+    let stated = stated_length method (line_values (codes "content-length") lines) in
     elim (chosen (list_any (is_named (codes "transfer-encoding")) lines) Missing (bounded_length stated) (Known n) e) [
       | inl x ↦ cc
       | inr x ↦ bounded stated n x.1

@@ -11,7 +11,7 @@ use Rattle.desk_http.specs.declared.request.Request.{Request}
 use Rattle.desk_http.specs.declared.taken.Taken.{Taken}
 use Rattle.desk_http.specs.declared.taken.Taken.TheVariants.{Whole, NotYet, BadHead, HeadTooLong, NoLength, BodyTooLong}
 use Rattle.desk_http.specs.Rest.{front, HasHead, HasHeadWith, IsHopeless, IsTooLong, Message, BeginsWith}
-use Rattle.desk_http.specs.Taken.{message_of, IsTakenFrom, Takes, whole, answer_of}
+use Rattle.desk_http.specs.Taken.{message_of, IsTakenFrom, Takes, whole, taken_answer}
 use Rattle.desk_http.proofs.RestLemmas.{slice_range-append}
 
 -- the front of a longer rest begins with that of the rest, and is the same where that is full
@@ -78,7 +78,7 @@ IsTakenFrom_later buffer more r x =
 
 -- an answer other than NotYet is right for every longer buffer, and says the same of it
 pub answer_later : (buffer more : List ℕ) (taken : Taken) → taken ≢ NotYet → Takes buffer taken
-    → Takes (buffer ++ more) taken × (answer_of (buffer ++ more) taken ≡ answer_of buffer taken)
+    → Takes (buffer ++ more) taken × (taken_answer (buffer ++ more) taken ≡ taken_answer buffer taken)
 answer_later buffer more (Whole r) other x =
     (IsTakenFrom_later buffer more r x, ap (λ m. whole m r.used) (same_message buffer more r x))
 answer_later buffer more NotYet other x = absurd (other refl)

@@ -21,22 +21,22 @@ use Rattle.desk_http.specs.declared.query.Field.TheVariants.{Absent, Said}
 use Rattle.desk_http.specs.declared.query.Query.{Query}
 use Rattle.desk_http.specs.Fields.{IsAsked, IsField, is_absent, IsQueryOf, is_other, key_named, names_of}
 use Rattle.desk_text.specs.Forms.{an_askable_day}
-use Rattle.desk_http.specs.Query.{Pair, values_of}
+use Rattle.desk_http.specs.Query.{Pair, query_values}
 use Rattle.desk_http.specs.Routes.{are_named}
 
 -- a pair adds its value to those of its name
-more : (name : List ℕ) (pairs : List Pair) (pair : Pair) → values_of name (pairs ++ pair ∷ []) ≡ values_of name pairs ++ values_of name (pair ∷ [])
+more : (name : List ℕ) (pairs : List Pair) (pair : Pair) → query_values name (pairs ++ pair ∷ []) ≡ query_values name pairs ++ query_values name (pair ∷ [])
 more name pairs pair =
     ap (map (λ (p : Pair). p.1)) (filter-append (λ p. bytes_eq p.0 name) pairs (pair ∷ []))
     ∙ map-append (λ (p : Pair). p.1) (filter (λ p. bytes_eq p.0 name) pairs) (filter (λ p. bytes_eq p.0 name) (pair ∷ []))
 
 module _ (sought name value : List ℕ) (pairs : List Pair) where
-  named : bytes_eq name sought ≡ true → values_of sought (pairs ++ (name, value) ∷ []) ≡ values_of sought pairs ++ value ∷ []
-  named e = more sought pairs (name, value) ∙ ap (λ b. values_of sought pairs ++ map (λ (p : Pair). p.1) (cond b ((name, value) ∷ []) [])) e
+  named : bytes_eq name sought ≡ true → query_values sought (pairs ++ (name, value) ∷ []) ≡ query_values sought pairs ++ value ∷ []
+  named e = more sought pairs (name, value) ∙ ap (λ b. query_values sought pairs ++ map (λ (p : Pair). p.1) (cond b ((name, value) ∷ []) [])) e
 
-  unnamed : bytes_eq name sought ≡ false → values_of sought (pairs ++ (name, value) ∷ []) ≡ values_of sought pairs
+  unnamed : bytes_eq name sought ≡ false → query_values sought (pairs ++ (name, value) ∷ []) ≡ query_values sought pairs
   unnamed e =
-      more sought pairs (name, value) ∙ ap (λ b. values_of sought pairs ++ map (λ (p : Pair). p.1) (cond b ((name, value) ∷ []) [])) e ∙ append-nil (values_of sought pairs)
+      more sought pairs (name, value) ∙ ap (λ b. query_values sought pairs ++ map (λ (p : Pair). p.1) (cond b ((name, value) ∷ []) [])) e ∙ append-nil (query_values sought pairs)
 
 -- which names a key has
 abbrev Says : QueryKey → Bool → Bool → Type 0
@@ -75,7 +75,7 @@ module _ (query : Query) (pairs : List Pair) (name value : List ℕ) (is : IsQue
   same_other true = refl
   same_other false = refl
 
-  pub kind_added : (field : Field Kind) → key_named name ≡ key.Kind → IsField kind_of (values_of (codes "kind") pairs ++ value ∷ []) field
+  pub kind_added : (field : Field Kind) → key_named name ≡ key.Kind → IsField kind_of (query_values (codes "kind") pairs ++ value ∷ []) field
       → IsQueryOf (record { kind = field; day = query.day; other = query.other }) (pairs ++ (name, value) ∷ [])
   kind_added field e f =
       let names : Says key.Kind (bytes_eq name (codes "kind")) (bytes_eq name (codes "day")) = by_key e in
@@ -85,7 +85,7 @@ module _ (query : Query) (pairs : List Pair) (name value : List ℕ) (is : IsQue
         other = sym (others false (other_by true false names.0 names.1) ∙ same_other query.other);
       }
 
-  pub day_added : (field : Field Date) → key_named name ≡ key.Day → IsField an_askable_day (values_of (codes "day") pairs ++ value ∷ []) field
+  pub day_added : (field : Field Date) → key_named name ≡ key.Day → IsField an_askable_day (query_values (codes "day") pairs ++ value ∷ []) field
       → IsQueryOf (record { kind = query.kind; day = field; other = query.other }) (pairs ++ (name, value) ∷ [])
   day_added field e f =
       let names : Says key.Day (bytes_eq name (codes "kind")) (bytes_eq name (codes "day")) = by_key e in
@@ -113,20 +113,20 @@ abbrev is_empty : List (List ℕ) → Bool
 is_empty [] = true
 is_empty (value ∷ values) = false
 
-no_values : (name : List ℕ) (pairs : List Pair) → is_empty (values_of name pairs) ≡ not (list_any (λ pair. bytes_eq pair.0 name) pairs)
+no_values : (name : List ℕ) (pairs : List Pair) → is_empty (query_values name pairs) ≡ not (list_any (λ pair. bytes_eq pair.0 name) pairs)
 no_values name [] = refl
 no_values name (pair ∷ pairs) = by (bytes_eq pair.0 name) (no_values name pairs)
   where
-    by : (b : Bool) → is_empty (values_of name pairs) ≡ not (list_any (λ p. bytes_eq p.0 name) pairs)
+    by : (b : Bool) → is_empty (query_values name pairs) ≡ not (list_any (λ p. bytes_eq p.0 name) pairs)
         → is_empty (map (λ (p : Pair). p.1) (cond b (pair ∷ filter (λ p. bytes_eq p.0 name) pairs) (filter (λ p. bytes_eq p.0 name) pairs))) ≡ not (b || list_any (λ p. bytes_eq p.0 name) pairs)
     by true rest = refl
     by false rest = rest
 
 -- a field is absent where no pair has the name
-absent : {T : Type 0} (read : List ℕ → Option T) (name : List ℕ) (pairs : List Pair) (field : Field T) → IsField read (values_of name pairs) field
+absent : {T : Type 0} (read : List ℕ → Option T) (name : List ℕ) (pairs : List Pair) (field : Field T) → IsField read (query_values name pairs) field
     → is_absent field ≡ not (list_any (λ pair. bytes_eq pair.0 name) pairs)
 absent read name pairs Absent f = sym (ap is_empty f) ∙ no_values name pairs
-absent read name pairs (Said value) f = some (values_of name pairs) f.0 ∙ no_values name pairs
+absent read name pairs (Said value) f = some (query_values name pairs) f.0 ∙ no_values name pairs
   where
     some : (values : List (List ℕ)) → values ≢ [] → false ≡ is_empty values
     some [] empty = absurd (empty refl)

@@ -17,7 +17,7 @@ use Rattle.desk_http.specs.declared.http_fault.HttpFault.TheVariants.{BadQuery, 
 use Rattle.desk_http.specs.declared.http_fault.QueryKey.TheVariants as key
 use Rattle.desk_http.specs.declared.method.Method.{Method}
 use Rattle.desk_text.specs.Forms.{an_askable_day, if_askable}
-use Rattle.desk_http.specs.Query.{Pair, day_in, kind_in, only, pairs_of, values_of}
+use Rattle.desk_http.specs.Query.{Pair, day_in, kind_in, only, pairs_of, query_values}
 use Rattle.desk_http.specs.Routes.{FromPath, FromQuery, RouteRow, are_named, asked_by, asked_with, asks, behind_word, code, code_in, day, ends, if_year, is_ask_in_range, kind, path_of, path_taken, query_of, route_of, routes, route_row, same_method, taken_from_path, path_word, year, year_in}
 
 -- what is asked in the end is in range, whatever is taken from the query
@@ -111,7 +111,7 @@ asked_good names (kind next) pairs a good e =
     (λ k is h. asked_good (codes "kind" ∷ names) (next k) pairs a (good k) h) e
 asked_good names (day next) pairs a good e =
     by_value (day_in pairs) (λ d. asked_by (codes "day" ∷ names) (next d) pairs) (BadQuery key.Day) a
-    (λ d is h. asked_good (codes "day" ∷ names) (next d) pairs a (good d (askable_found (only (values_of (codes "day") pairs)) d is)) h) e
+    (λ d is h. asked_good (codes "day" ∷ names) (next d) pairs a (good d (askable_found (only (query_values (codes "day") pairs)) d is)) h) e
 
 -- what is left to take is good, where a path is taken
 taken_good : (path : FromPath) (bytes : List ℕ) (next : FromQuery) → IsGoodPath path → taken_from_path path bytes ≡ Some next → IsGood next

@@ -14,7 +14,7 @@ use Rattle.desk_http.specs.declared.query.Field.{Field}
 use Rattle.desk_http.specs.declared.query.Field.TheVariants.{Absent, Said}
 use Rattle.desk_http.specs.declared.query.Query.{Query}
 use Rattle.desk_text.specs.Forms.{an_askable_day}
-use Rattle.desk_http.specs.Query.{Pair, only, values_of}
+use Rattle.desk_http.specs.Query.{Pair, only, query_values}
 use Rattle.desk_http.specs.Routes.{FromQuery, asks, day, kind}
 
 -- the field is right for the values of its name: there is none, or it says what the only one of them is
@@ -37,8 +37,8 @@ is_other pair = not (list_any (bytes_eq pair.0) (codes "day" ∷ codes "kind" �
 
 -- what is kept is right for these pairs
 pub record IsQueryOf (query : Query) (pairs : List Pair) : Type 0 where
-  pub kind : IsField kind_of (values_of (codes "kind") pairs) query.kind
-  pub day : IsField an_askable_day (values_of (codes "day") pairs) query.day
+  pub kind : IsField kind_of (query_values (codes "kind") pairs) query.kind
+  pub day : IsField an_askable_day (query_values (codes "day") pairs) query.day
   pub other : query.other ≡ list_any is_other pairs
 
 -- the names that a row takes which takes the kind, the day, both or none

@@ -26,8 +26,8 @@ abbrev pub is_named : List ℕ → Line → Bool
 is_named name line = str_eq_ignore_ascii_case line.0 name
 
 -- the values of the lines with the name, in order
-abbrev pub values_of : List ℕ → List Line → List (List ℕ)
-values_of name lines = map (λ line. line.1) (filter (is_named name) lines)
+abbrev pub line_values : List ℕ → List Line → List (List ℕ)
+line_values name lines = map (λ line. line.1) (filter (is_named name) lines)
 
 -- the method that a word names
 abbrev pub method_of : List ℕ → Method
@@ -57,7 +57,7 @@ bounded_length (Some n) = if nat_le n body_limit then Known n else TooLong
 abbrev pub body_length : Method → List Line → BodyLength
 body_length method lines =
     if list_any (is_named (codes "transfer-encoding")) lines then Missing
-    else bounded_length (stated_length method (values_of (codes "content-length") lines))
+    else bounded_length (stated_length method (line_values (codes "content-length") lines))
 
 -- one of the value's parts between commas, without the blanks around it, is the word close, in any case
 abbrev pub lists_close : List ℕ → Bool
@@ -66,4 +66,4 @@ lists_close value =
 
 -- the connection ends after the answer: in HTTP/1.0, and where a Connection line says so
 abbrev pub is_closing : ℕ → List Line → Bool
-is_closing minor lines = minor == 0 || list_any lists_close (values_of (codes "connection") lines)
+is_closing minor lines = minor == 0 || list_any lists_close (line_values (codes "connection") lines)

@@ -31,8 +31,8 @@ abbrev pub pairs_of : List ℕ → List Pair
 pairs_of query = decoded (raw_pairs query)
 
 -- the values of the pairs with a name, in order
-abbrev pub values_of : List ℕ → List Pair → List (List ℕ)
-values_of name pairs = map (λ pair. pair.1) (filter (λ pair. bytes_eq pair.0 name) pairs)
+abbrev pub query_values : List ℕ → List Pair → List (List ℕ)
+query_values name pairs = map (λ pair. pair.1) (filter (λ pair. bytes_eq pair.0 name) pairs)
 
 -- the value of a name that stands exactly once
 abbrev pub only : List (List ℕ) → Option (List ℕ)
@@ -42,8 +42,8 @@ only (value ∷ second ∷ values) = None
 
 -- the kind of equipment that a query names, exactly once
 abbrev pub kind_in : List Pair → Option Kind
-kind_in pairs = option_and_then kind_of (only (values_of (codes "kind") pairs))
+kind_in pairs = option_and_then kind_of (only (query_values (codes "kind") pairs))
 
 -- the day that a query names, exactly once
 abbrev pub day_in : List Pair → Option Date
-day_in pairs = option_and_then an_askable_day (only (values_of (codes "day") pairs))
+day_in pairs = option_and_then an_askable_day (only (query_values (codes "day") pairs))

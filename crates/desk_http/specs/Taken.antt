@@ -54,10 +54,10 @@ pub data PlainAnswer : Type 0 where
   not_yet bad_head head_too_long no_length body_too_long : PlainAnswer
 
 -- what the answer of `take_request` says of the buffer, with the request itself in place of where it lies
-abbrev pub answer_of : List ℕ → Taken → PlainAnswer
-answer_of buffer (Whole r) = whole (message_of buffer r) r.used
-answer_of buffer NotYet = not_yet
-answer_of buffer BadHead = bad_head
-answer_of buffer HeadTooLong = head_too_long
-answer_of buffer NoLength = no_length
-answer_of buffer BodyTooLong = body_too_long
+abbrev pub taken_answer : List ℕ → Taken → PlainAnswer
+taken_answer buffer (Whole r) = whole (message_of buffer r) r.used
+taken_answer buffer NotYet = not_yet
+taken_answer buffer BadHead = bad_head
+taken_answer buffer HeadTooLong = head_too_long
+taken_answer buffer NoLength = no_length
+taken_answer buffer BodyTooLong = body_too_long

@@ -12,7 +12,7 @@ ghost use Rattle.desk_http.specs.Front.{LeadsTo, last_reply, open_end, refusal_a
 ghost use Rattle.desk_http.specs.Reply.{fixed_reply};
 ghost use Rattle.desk_http.specs.Stream.{End, EndsAs, IsStream, HasRequests, IsSameEnd, is_ended};
 ghost use Rattle.desk_http.specs.declared.fixed.Fixed.{Fixed};
-ghost use Rattle.desk_http.specs.Taken.{Takes, answer_of, may_replace};
+ghost use Rattle.desk_http.specs.Taken.{Takes, taken_answer, may_replace};
 
 use crate::take::take_request;
 use crate::taken::Taken;
@@ -27,14 +27,14 @@ pub fn no_head_begins_another()
 /// `NotYet` or `HeadTooLong` come in place of `BadHead`.
 pub fn one_answer()
     ensures { (buffer : List ℕ) (taken other : Taken) → Takes buffer taken → Takes buffer other
-        → (answer_of buffer taken ≡ answer_of buffer other)
+        → (taken_answer buffer taken ≡ taken_answer buffer other)
         ⊎ (IsInDoubt buffer × IsTrue (may_replace taken other)) }
 {}
 
 /// What `take_request` says of a buffer it says of every longer one that begins so, but for `NotYet`.
 pub fn answers_last()
     ensures { (buffer more : List ℕ) (taken : Taken) → taken ≢ Taken.NotYet → Takes buffer taken
-        → Takes (buffer ++ more) taken × (answer_of (buffer ++ more) taken ≡ answer_of buffer taken) }
+        → Takes (buffer ++ more) taken × (taken_answer (buffer ++ more) taken ≡ taken_answer buffer taken) }
 {}
 
 /// A whole request takes at least one byte, and at most those of the longest head and body. A buffer

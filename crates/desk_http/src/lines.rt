@@ -5,7 +5,7 @@ ghost use Rattle.std.specs.List.{list_any};
 ghost use Rattle.std.specs.Str.{str_eq_ignore_ascii_case};
 ghost use Rattle.httparse.specs.Grammar.{skip_ows, trim_ows};
 ghost use Rattle.httparse.specs.Spans.{header_bytes, IsHeaderWithin};
-ghost use Rattle.desk_http.specs.Lines.{is_named, number_written, bounded_length, body_length, lists_close, values_of};
+ghost use Rattle.desk_http.specs.Lines.{is_named, number_written, bounded_length, body_length, lists_close, line_values};
 
 use crate::limits::BODY_BYTES;
 use crate::method::Method;
@@ -84,7 +84,7 @@ impl<'a> HeadLines<'a> {
 
     /// Whether a `Connection` line lists `close`.
     pub(crate) fn lists_close(&self) -> bool
-        ensures { result ≡ list_any lists_close (values_of (codes "connection") self.now) }
+        ensures { result ≡ list_any lists_close (line_values (codes "connection") self.now) }
     {
         for line in self.spans {
             if is_word(line.name.of(self.front), b"connection")

@@ -1,6 +1,6 @@
 ghost use Rattle.std.specs.Prelude.{◌≡◌, ◌<◌, true, IfOk};
 ghost use Rattle.std.specs.List.{All, list_all};
-ghost use Rattle.desk_totals.specs.Linked.{are_distinct, has_ends_in, is_among};
+ghost use Rattle.desk_totals.specs.Linked.{are_codes_distinct, has_ends_in, is_among};
 
 use crate::model_helpers::code;
 use desk_model::{Codes, LineRow};
@@ -24,7 +24,7 @@ fn is_among(code: &Code, codes: &[Code]) -> bool
 
 /// Whether no code stands twice.
 fn are_distinct(codes: &[Code]) -> bool
-    ensures { result ≡ true → are_distinct codes.now ≡ true }
+    ensures { result ≡ true → are_codes_distinct codes.now ≡ true }
 {
     for place in 0..codes.len() {
         if is_among(&codes[place], &codes[place + 1..]) {

@@ -20,7 +20,7 @@ pub struct BlankBook<B: Board> {
 impl<B: Board> Model for BlankBook<B> {
     ghost use Rattle.std.specs.Prelude.{◌≡◌, []};
     ghost use Rattle.logbook.specs.Pages.{Book, book_coded};
-    ghost use Rattle.desk_publish.specs.Rules.{head_of};
+    ghost use Rattle.desk_publish.specs.Rules.{entry_count_word};
 
     ghost Value = { Book };
 
@@ -28,7 +28,7 @@ impl<B: Board> Model for BlankBook<B> {
 
     ghost view = { λ b. b.seen.book };
 
-    ghost invariant = { λ b. (b.seen.log ≡ []) × (b.head ≡ head_of b.seen.book) };
+    ghost invariant = { λ b. (b.seen.log ≡ []) × (b.head ≡ entry_count_word b.seen.book) };
 }
 
 impl<B: Board> BlankBook<B> {

@@ -10,13 +10,13 @@ use Rattle.desk_model.specs.Declaring.{substance_added}
 use Rattle.desk_model.specs.declared.substance_mass.SubstanceMass.{SubstanceMass}
 use Rattle.desk_model.proofs.Kept.{code_cmp_total}
 use Rattle.desk_sample.specs.Codes.{material_code}
-use Rattle.desk_sample.specs.Sample.{cadmium, declaring, dehp, held, lead, metals}
+use Rattle.desk_sample.specs.Sample.{cadmium, declaring, dehp, mass_held, lead, metals}
 
 -- one that it doesn't hold yet, where there is room for it
-pub added : (i : ℕ) (held : List SubstanceMass) (new : SubstanceMass) → row_of (λ h. h.substance) code_cmp new.substance held ≡ None → nat_lt (length held) 64 ≡ true
-    → substance_added (material_code i) new (declaring i held) ≡ Ok (declaring i (with_row (λ h. h.substance) code_cmp new held))
+pub added : (i : ℕ) (mass_held : List SubstanceMass) (new : SubstanceMass) → row_of (λ h. h.substance) code_cmp new.substance mass_held ≡ None → nat_lt (length mass_held) 64 ≡ true
+    → substance_added (material_code i) new (declaring i mass_held) ≡ Ok (declaring i (with_row (λ h. h.substance) code_cmp new mass_held))
 unfolding substance_added
-added i held new absent room = rw (tied_itself code_cmp_total (material_code i)) (rw absent (rw room (rw (tied_itself code_cmp_total (material_code i)) refl)))
+added i mass_held new absent room = rw (tied_itself code_cmp_total (material_code i)) (rw absent (rw room (rw (tied_itself code_cmp_total (material_code i)) refl)))
 
 -- lead is the first
 pub lead_added : (i : ℕ) → substance_added (material_code i) (lead i) (declaring i []) ≡ Ok (declaring i (lead i ∷ []))
@@ -45,5 +45,5 @@ dehp_code = refl
 
 -- a substance goes into a declaration where it goes into an equal one
 pub same_fits : (code code' substance substance' : List ℕ) (mass : ℕ) (d d' made : Declared) → code ≡ code' → substance ≡ substance' → d ≡ d'
-    → substance_added code' (held substance' mass) d' ≡ Ok made → substance_added code (held substance mass) d ≡ Ok made
-same_fits code code' substance substance' mass d d' made e f g added = (λ i. substance_added (e i) (held (f i) mass) (g i)) ∙ added
+    → substance_added code' (mass_held substance' mass) d' ≡ Ok made → substance_added code (mass_held substance mass) d ≡ Ok made
+same_fits code code' substance substance' mass d d' made e f g added = (λ i. substance_added (e i) (mass_held (f i) mass) (g i)) ∙ added

@@ -18,20 +18,20 @@ each_to zero of = []
 each_to (suc n) of = each_to n of ++ of (suc n)
 
 -- a mass of a substance
-abbrev pub held : List ℕ → ℕ → SubstanceMass
-held substance mass = record { substance = substance; mass = mass }
+abbrev pub mass_held : List ℕ → ℕ → SubstanceMass
+mass_held substance mass = record { substance = substance; mass = mass }
 
 -- how much cadmium material i holds
 abbrev pub cadmium : ℕ → SubstanceMass
-cadmium i = held (codes "cadmium") (i * 11 % 130)
+cadmium i = mass_held (codes "cadmium") (i * 11 % 130)
 
 -- how much lead material i holds
 abbrev pub lead : ℕ → SubstanceMass
-lead i = held (codes "lead") (i * 37 % 1500)
+lead i = mass_held (codes "lead") (i * 37 % 1500)
 
 -- how much DEHP material i holds
 abbrev pub dehp : ℕ → SubstanceMass
-dehp i = held (codes "dehp") (i * 53 % 1400)
+dehp i = mass_held (codes "dehp") (i * 53 % 1400)
 
 -- the metals that each material holds, in order of code
 abbrev pub metals : ℕ → List SubstanceMass
@@ -43,12 +43,12 @@ substances i = if i % 5 == 0 then cadmium i ∷ dehp i ∷ lead i ∷ [] else me
 
 -- declaration i, of 2024-01-15: of one material, which holds this
 abbrev pub declaring : ℕ → List SubstanceMass → Declared
-declaring i held =
+declaring i mass_held =
     record {
       supplier = supplier i;
       number = i;
       day = record { year = 2024; month = 1; day = 15 };
-      materials = record { code = material_code i; name = codes "Material"; mass = 1000000 + i; substances = held; claims = [] } ∷ [];
+      materials = record { code = material_code i; name = codes "Material"; mass = 1000000 + i; substances = mass_held; claims = [] } ∷ [];
     }
 
 -- declaration i
@@ -56,8 +56,8 @@ abbrev pub declaration : ℕ → Declared
 declaration i = declaring i (substances i)
 
 -- declaration i as an edit
-abbrev pub declared : ℕ → Edit
-declared i = Declare (declaration i)
+abbrev pub declaration_edit : ℕ → Edit
+declaration_edit i = Declare (declaration i)
 
 -- article i of n, with its lines: to its own material, and where there are two to the next one
 abbrev pub article : ℕ → ℕ → List Making
@@ -112,4 +112,4 @@ others n =
 
 -- the edits of a sample of n: the declarations, and then those that have tickets
 abbrev pub sample_edits : ℕ → List Edit
-sample_edits n = each_to n (λ i. declared i ∷ []) ++ ticketed 1 (others n)
+sample_edits n = each_to n (λ i. declaration_edit i ∷ []) ++ ticketed 1 (others n)

@@ -1,5 +1,5 @@
 ghost use Rattle.std.specs.Prelude.{◌≡◌, ◌<◌, IfOk, true};
-ghost use Rattle.desk_sample.specs.Codes.{digit, numbered, supplier, ticket};
+ghost use Rattle.desk_sample.specs.Codes.{digit, letter_code, supplier, ticket};
 ghost use Rattle.desk_text.specs.Code.{is_code_byte};
 
 use desk_text::{Code, OutOfMemory};
@@ -8,7 +8,7 @@ use std::alloc::Global;
 /// The code of the letter and the number, of which the last four digits are written, with zeros in front.
 pub(crate) fn numbered(letter: u8, number: u64) -> Code
     requires { is_code_byte letter ≡ true }
-    ensures { result ≡ numbered letter number }
+    ensures { result ≡ letter_code letter number }
 {
     let bytes = [
         letter,

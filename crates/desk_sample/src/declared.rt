@@ -1,7 +1,7 @@
 ghost use Rattle.std.specs.Prelude.{◌≡◌, ◌≤◌, [], IfOk, Ok, OnOk, is_ok, true};
 ghost use Rattle.desk_model.specs.Declaring.{substance_added};
 ghost use Rattle.desk_sample.specs.Codes.{material_code};
-ghost use Rattle.desk_sample.specs.Sample.{declaration, declared, declaring, held, metals};
+ghost use Rattle.desk_sample.specs.Sample.{declaration, declaration_edit, declaring, mass_held, metals};
 ghost use Rattle.desk_text.specs.Code.{code_of};
 ghost use Rattle.desk_text.specs.Name.{name_of};
 
@@ -14,7 +14,7 @@ use std::alloc::Global;
 pub(crate) fn declared(alloc: Global, number: u64) -> Result<Edit, OutOfMemory>
     requires least { 1 ≤ number }
     requires greatest { number ≤ 2000 }
-    ensures { IfOk result (λ edit. edit ≡ declared number) }
+    ensures { IfOk result (λ edit. edit ≡ declaration_edit number) }
 {
     let declaration = declaration(alloc, number)?;
     Ok(Edit::Declare { declaration })
@@ -78,8 +78,8 @@ fn add(
     mass: u64,
 ) -> Result<(), OutOfMemory>
     requires mass { mass ≤ 1500 }
-    requires fits { is_ok (substance_added material.now (held substance mass) declaration.old) ≡ true }
-    ensures { OnOk result (substance_added material.now (held substance mass) declaration.old ≡ Ok declaration.new) }
+    requires fits { is_ok (substance_added material.now (mass_held substance mass) declaration.old) ≡ true }
+    ensures { OnOk result (substance_added material.now (mass_held substance mass) declaration.old ≡ Ok declaration.new) }
 {
     match declaration.add_substance(material, substance, mass) {
         Ok(()) => Ok(()),

@@ -1,5 +1,5 @@
 ghost use Rattle.std.specs.Prelude.{◌≡◌, ◌≤◌, [], ◌∷◌, IfOk, OnOk};
-ghost use Rattle.desk_sample.specs.Sample.{article, assembly, candidates, declared, each_to, others, product, sample_edits, shipment};
+ghost use Rattle.desk_sample.specs.Sample.{article, assembly, candidates, declaration_edit, each_to, others, product, sample_edits, shipment};
 ghost use Rattle.desk_sample.specs.Ticketed.{HasGainedAll};
 
 use crate::assembly::{push_article, push_assembly};
@@ -56,7 +56,7 @@ fn push_others(alloc: Global, edits: &mut Vec<Edit>, n: u64) -> Result<(), OutOf
 #[tactic(auto, using(crate::proofs::Gained::each_more))]
 fn declarations(alloc: Global, n: u64) -> Result<Vec<Edit>, OutOfMemory>
     requires { n ≤ 2000 }
-    ensures { IfOk result (λ edits. edits.items ≡ each_to n (λ i. declared i ∷ [])) }
+    ensures { IfOk result (λ edits. edits.items ≡ each_to n (λ i. declaration_edit i ∷ [])) }
 {
     let mut edits = Vec::new(alloc);
     let mut number = 0;

@@ -5,7 +5,7 @@ use Rattle.desk_law.specs.declared.kind.Kind.{Kind}
 use Rattle.desk_model.specs.Declaration.{Declared}
 use Rattle.desk_model.specs.declared.edit.Edit.{Edit}
 use Rattle.desk_model.specs.declared.edit.Edit.TheVariants.{Declare}
-use Rattle.desk_model.specs.Effect.{entered, made}
+use Rattle.desk_model.specs.Effect.{with_edit_entered, with_edit_made}
 use Rattle.desk_model.specs.Lists.{Lists}
 use Rattle.desk_model.specs.Start.{start}
 use Rattle.desk_findings.specs.Share.{share}
@@ -17,8 +17,8 @@ use Rattle.desk_top.specs.Check.{text_unless}
 use Rattle.desk_law.specs.declared.kind_on_day.KindOnDay.{KindOnDay}
 
 -- the text on a declaration is the same before it and after it
-pub text_after : (t : Lists) (kind : Kind) (day : Date) (d : Declared) → check_text (entered t (Declare d)) kind day d ≡ check_text t kind day d
-unfolding entered made check_text material_block rule_line share verdict_on
+pub text_after : (t : Lists) (kind : Kind) (day : Date) (d : Declared) → check_text (with_edit_entered t (Declare d)) kind day d ≡ check_text t kind day d
+unfolding with_edit_entered with_edit_made check_text material_block rule_line share verdict_on
 text_after t kind day d = refl
 
 -- so the text over the start tables is the one that is meant

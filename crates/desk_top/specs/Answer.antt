@@ -9,7 +9,7 @@ use Rattle.desk_model.specs.Refusals.{refusal_words}
 use Rattle.desk_scratch.specs.Summary.{summary_text}
 use Rattle.desk_clerk.specs.declared.open_fault.OpenFault.{OpenFault}
 use Rattle.desk_clerk.specs.declared.open_fault.OpenFault.TheVariants as opening
-use Rattle.desk_top.specs.Check.{checked}
+use Rattle.desk_top.specs.Check.{check_outcome}
 use Rattle.desk_law.specs.declared.kind_on_day.KindOnDay.{KindOnDay}
 use Rattle.desk_top.specs.declared.refusal.Refusal.{Refusal}
 use Rattle.desk_top.specs.declared.refusal.Refusal.TheVariants.{InputTooLong, BadDeclaration, Rule}
@@ -111,7 +111,7 @@ IsInput (Some told) input = input ≡ told
 
 -- the answer to a check for the bytes that come
 abbrev pub answer_to_check : KindOnDay → List ℕ → Answer
-answer_to_check check bytes = answer_of_check (checked check bytes)
+answer_to_check check bytes = answer_of_check (check_outcome check bytes)
 
 -- where a check ends with the status of a console's fault a read has failed, or what was to be written is the text of a success: the line
 -- of a refusal that can't be written changes no status

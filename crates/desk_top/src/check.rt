@@ -5,7 +5,7 @@ ghost use Rattle.desk_model.specs.Declaration.{Declared};
 ghost use Rattle.desk_model.specs.declared.edit.Edit.TheVariants.{Declare};
 ghost use Rattle.desk_edge.specs.Faults.{CountsFaults, Rose};
 ghost use Rattle.desk_top.specs.Answer.{Answers, IsInput, IsReadingTold, answer_of_check, answer_to_check, status_code};
-ghost use Rattle.desk_top.specs.Check.{Agrees, checked, input_limit, judged};
+ghost use Rattle.desk_top.specs.Check.{Agrees, check_outcome, input_limit, judged};
 ghost use Rattle.desk_top.specs.Console.{TellsFaults};
 
 use crate::refusal::Refusal;
@@ -119,7 +119,7 @@ pub fn check_input<L: Link>(
 ) -> Result<Bytes, CheckFault>
     requires { is_askable check.now.day ≡ true }
     ensures answer { (input : List ℕ) × IsInput (L.unread console.old) input
-        × (result ≢ Err CheckFault.Failed → Agrees result (checked check.now input)) }
+        × (result ≢ Err CheckFault.Failed → Agrees result (check_outcome check.now input)) }
     ensures end { OnOk result (IsAtEnd (L.unread console.new)) }
     ensures taken { (bytes : List ℕ) × Consumes (L.unread console.old) (L.unread console.new) bytes × (length bytes ≤ input_limit + 1) }
     ensures within { OnOk result ((bytes : List ℕ) × Consumes (L.unread console.old) (L.unread console.new) bytes × (length bytes ≤ input_limit)) }
@@ -134,10 +134,10 @@ pub fn check_input<L: Link>(
 }
 
 /// The answer to `check` for these bytes.
-#[tactic(auto, unfolding(crate::specs::Check::checked))]
+#[tactic(auto, unfolding(crate::specs::Check::check_outcome))]
 pub fn check_bytes(alloc: Global, check: &KindOnDay, bytes: &[u8]) -> Result<Bytes, CheckFault>
     requires { is_askable check.now.day ≡ true }
-    ensures answer { Agrees result (checked check.now bytes.now) }
+    ensures answer { Agrees result (check_outcome check.now bytes.now) }
     ensures within { OnOk result (length bytes.now ≤ input_limit) }
 {
     if bytes.len() > INPUT_LIMIT {

@@ -10,7 +10,7 @@ use Rattle.clap.specs.declared.parser.matches.Found.{Found}
 use Rattle.clap.specs.declared.parser.matches.SubCommand.{SubCommand}
 use Rattle.clap.proofs.WalkLemmas.{find-map, first_value-rows, list_any-map}
 use Rattle.std.specs.Box.{box_value}
-use Rattle.desk_words.specs.Commands.{answer_of, command_named, command_of}
+use Rattle.desk_words.specs.Commands.{command_answer, command_named, command_of}
 use Rattle.desk_words.specs.Forms.{Given, Word, has_one_dash, command_line_of, value_in}
 use Rattle.desk_words.specs.Parsed.{Parses, line_rows, row_for, rows_for}
 use Rattle.desk_words.specs.Table.{forms}
@@ -53,12 +53,12 @@ command_is : (words : List Word) → Undashed words → command_of words ≡ com
 unfolding command_of
 command_is words ok = ap (λ b. cond b None (command_at (command_line_of forms words))) ok
 
-pub dashed_answer : (words : List Word) → list_any has_one_dash words ≡ true → ◌≡◌ {A = Result Command CommandFault} (Err NoCommand) (answer_of words)
+pub dashed_answer : (words : List Word) → list_any has_one_dash words ≡ true → ◌≡◌ {A = Result Command CommandFault} (Err NoCommand) (command_answer words)
 unfolding command_of
 dashed_answer words dashed = sym (ap (λ b. ok_or (cond b None (command_at (command_line_of forms words))) NoCommand) dashed)
 
 pub no_answer : (words : List Word) (m : ArgMatches) → Undashed words → subcommand_rows_of m ≡ option_map line_rows (command_line_of forms words)
-    → None ≡ subcommand_name_of m → ◌≡◌ {A = Result Command CommandFault} (Err NoCommand) (answer_of words)
+    → None ≡ subcommand_name_of m → ◌≡◌ {A = Result Command CommandFault} (Err NoCommand) (command_answer words)
 no_answer words m ok rows none =
     go (command_line_of forms words) (none ∙ name_of_rows m ∙ ap (option_map (λ line. line.0)) rows) ∙ sym (ap (λ o. ok_or o NoCommand) (command_is words ok))
   where
@@ -68,7 +68,7 @@ no_answer words m ok rows none =
 
 pub an_answer : (words : List Word) (m : ArgMatches) (name : Word) (f : Found) → Undashed words
     → subcommand_rows_of m ≡ option_map line_rows (command_line_of forms words) → Some name ≡ subcommand_name_of m
-    → Some (rows_of f) ≡ option_map (λ line. line.1) (subcommand_rows_of m) → ok_or (command_named name (first_value f)) NoCommand ≡ answer_of words
+    → Some (rows_of f) ≡ option_map (λ line. line.1) (subcommand_rows_of m) → ok_or (command_named name (first_value f)) NoCommand ≡ command_answer words
 an_answer words m name f ok rows named found =
     go (command_line_of forms words) (named ∙ name_of_rows m ∙ ap (option_map (λ line. line.0)) rows) (found ∙ ap (option_map (λ line. line.1)) rows)
     ∙ sym (ap (λ o. ok_or o NoCommand) (command_is words ok))
@@ -83,7 +83,7 @@ an_answer words m name f ok rows named found =
         λ i. ok_or (command_named (is i) (λ id. at id i)) NoCommand
 
 pub failed_answer : (words : List Word) (told : CommandFault) (r : Result Command CommandFault) → Undashed words → Parses (command_line_of forms words) (Err told)
-    → IsErrAnd r (λ e. e ≡ told) → r ≢ Err OutOfMemory → r ≡ answer_of words
+    → IsErrAnd r (λ e. e ≡ told) → r ≢ Err OutOfMemory → r ≡ command_answer words
 failed_answer words told (Ok command) ok parsed is other = absurd is
 failed_answer words NoCommand (Err e) ok none is other =
     let same : ◌≡◌ {A = Result Command CommandFault} (Err e) (Err NoCommand) = ap Err is in

@@ -16,7 +16,7 @@ use Rattle.clap.specs.declared.parser.matches.ArgMatches.{ArgMatches}
 use Rattle.clap.proofs.FaultLemmas.{stopped_fault}
 use Rattle.clap.proofs.WalkLemmas.{walk_stopped}
 use Rattle.desk_words.specs.App.{desk_app}
-use Rattle.desk_words.specs.Forms.{Form, Given, Word, Written, dashes, form_named, command_line_of, long, undashed, values_of, written}
+use Rattle.desk_words.specs.Forms.{Form, Given, Word, Written, dashes, form_named, command_line_of, long, undashed, given_values, written}
 use Rattle.desk_words.specs.Parsed.{Parses, fault_by, line_rows, rows_for}
 use Rattle.desk_words.specs.Table as table
 use Rattle.desk_words.specs.declared.command_fault.CommandFault.{CommandFault}
@@ -155,7 +155,7 @@ module _ (forms : List Form) where
 
   a_command : (word : Word) (rest : List Word) (form : Form) → Undashed rest → form_named word forms ≡ Some form → form.name ≡ word
       → Left (form_slots form) 1 form.positionals
-      → from start (word ∷ rest) ≡ option_map line_rows (option_map (λ given. (form.name, given)) (values_of form rest))
+      → from start (word ∷ rest) ≡ option_map line_rows (option_map (λ given. (form.name, given)) (given_values form rest))
   unfolding defaults_fault
   a_command word rest form ok found named fits =
       let met : subcommand_met names idle word ≡ Some word =
@@ -172,7 +172,7 @@ module _ (forms : List Form) where
       ∙ ap (λ t. unless t (Some (with_name form.name rows))) (or_else_none level)
       ∙ unless_named form.name level rows
       ∙ ap (option_map (with_name form.name)) (leaf_agrees form rest ok fits)
-      ∙ rows_named form.name (values_of form rest)
+      ∙ rows_named form.name (given_values form rest)
 
   line_agrees : AllLeft forms → (words : List Word) → Undashed words → from start words ≡ option_map line_rows (command_line_of forms words)
   unfolding walk_fault defaults_fault
@@ -180,14 +180,14 @@ module _ (forms : List Form) where
   line_agrees all (word ∷ rest) ok = go (form_named word forms) refl
     where
       go : (o : Option Form) → form_named word forms ≡ o → from start (word ∷ rest)
-          ≡ option_map line_rows (option_and_then (λ form. option_map (λ given. (form.name, given)) (values_of form rest)) (form_named word forms))
+          ≡ option_map line_rows (option_and_then (λ form. option_map (λ given. (form.name, given)) (given_values form rest)) (form_named word forms))
       go None e =
           no_command word rest ok e
-          ∙ sym (ap (λ o. option_map line_rows (option_and_then (λ form. option_map (λ given. (form.name, given)) (values_of form rest)) o)) e)
+          ∙ sym (ap (λ o. option_map line_rows (option_and_then (λ form. option_map (λ given. (form.name, given)) (given_values form rest)) o)) e)
       go (Some form) e =
           let is = left_of forms word form all e in
           a_command word rest form (rest_undashed word rest ok) e is.0 is.1
-          ∙ sym (ap (λ o. option_map line_rows (option_and_then (λ form. option_map (λ given. (form.name, given)) (values_of form rest)) o)) e)
+          ∙ sym (ap (λ o. option_map line_rows (option_and_then (λ form. option_map (λ given. (form.name, given)) (given_values form rest)) o)) e)
 
 -- ---- the program's own table
 

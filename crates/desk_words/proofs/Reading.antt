@@ -11,7 +11,7 @@ use Rattle.clap.specs.Walk.{Held, Row, Rule, Step, Waiting, Walk, after_flag, af
 use Rattle.clap.specs.declared.builder.value_parser.Reading.TheVariants.{AsWritten}
 use Rattle.clap.specs.declared.error.kind.ErrorKind.TheVariants as kind
 use Rattle.clap.specs.declared.parser.matches.ValueSource.TheVariants.{CommandLine}
-use Rattle.desk_words.specs.Forms.{Form, Given, OptionForm, Word, Written, after_any, after_awaited, after_option, after_positional, anything, dashes, has_one_dash, is_given, is_whole, long, option_named, positionals_only, read_from, undashed, value_for, values_of, whole, with_value, written}
+use Rattle.desk_words.specs.Forms.{Form, Given, OptionForm, Word, Written, after_any, after_awaited, after_option, after_positional, anything, dashes, has_one_dash, is_given, is_whole, long, option_named, positionals_only, read_from, undashed, value_for, given_values, complete_values, with_value, written}
 use Rattle.desk_words.specs.Parsed.{rows_for}
 use Rattle.desk_words.proofs.Dashes.{Lexes, lexes, two_dashes}
 use Rattle.desk_words.proofs.Slots.{HasId, Left, Slot, and_false, by_id, by_long, by_place, form_slots, has_id, has_option_name, has_place, has_row_for, lacks_some, leaf, new_row, no_default_fault, no_default_rows, option_found, option_slot, positional_slot, slot_rule, slot_rules}
@@ -92,7 +92,7 @@ module _ (form : Form) where
 
   -- what our reading makes of them
   abbrev as_rows : Option Given → Option (List Row)
-  as_rows o = option_map rows_for (option_and_then (whole form) o)
+  as_rows o = option_map rows_for (option_and_then (complete_values form) o)
 
   one_more : (h : Held) (waiting : Waiting) (place : ℕ) (is_trailing : Bool) (word : Word) (rest : List Word)
       → outcome (stands h waiting place is_trailing) (word ∷ rest)
@@ -414,5 +414,5 @@ module _ (form : Form) where
 
   -- the parser's rows of a command's words, where it doesn't fail, are our values
   pub leaf_agrees : (words : List Word) → Undashed words → Left slots 1 form.positionals
-      → unless (level_fault shape [] nothing_held words false []) (Some (rows_at shape words).1) ≡ option_map rows_for (values_of form words)
+      → unless (level_fault shape [] nothing_held words false []) (Some (rows_at shape words).1) ≡ option_map rows_for (given_values form words)
   leaf_agrees words ok fits = (agrees words ok).0 nothing_held 1 form.positionals [] fits (refl, refl)

@@ -140,8 +140,8 @@ command_of words = if list_any has_one_dash words then None
     else option_and_then (λ line. command_named line.0 (value_in line.1)) (command_line_of forms words)
 
 -- the answer, where there is memory
-abbrev pub answer_of : List Word → Result Command CommandFault
-answer_of words = ok_or (command_of words) NoCommand
+abbrev pub command_answer : List Word → Result Command CommandFault
+command_answer words = ok_or (command_of words) NoCommand
 
 -- ---- what holds of each command
 

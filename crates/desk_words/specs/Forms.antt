@@ -113,12 +113,12 @@ read_from form (word ∷ words) (value_for name) left given =
     after_awaited name (written word) word given (read_from form words anything left)
 
 -- the values, where none that has to be there is missing
-abbrev pub whole : Form → Given → Option Given
-whole form given = if is_whole form given then Some given else None
+abbrev pub complete_values : Form → Given → Option Given
+complete_values form given = if is_whole form given then Some given else None
 
 -- the values that the words after the command's name give
-abbrev pub values_of : Form → List Word → Option Given
-values_of form words = option_and_then (whole form) (read_from form words anything form.positionals [])
+abbrev pub given_values : Form → List Word → Option Given
+given_values form words = option_and_then (complete_values form) (read_from form words anything form.positionals [])
 
 -- ---- the whole line
 
@@ -130,4 +130,4 @@ form_named name forms = find (λ form. bytes_eq form.name name) forms
 abbrev pub command_line_of : List Form → List Word → Option (Word × Given)
 command_line_of forms [] = None
 command_line_of forms (name ∷ words) =
-    option_and_then (λ form. option_map (λ given. (form.name, given)) (values_of form words)) (form_named name forms)
+    option_and_then (λ form. option_map (λ given. (form.name, given)) (given_values form words)) (form_named name forms)

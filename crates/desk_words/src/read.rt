@@ -1,7 +1,7 @@
 ghost use Rattle.std.specs.Prelude.{◌≡◌, ◌≢◌, map, string_bytes, false, Err, IfOk};
 ghost use Rattle.std.specs.List.{list_any};
 ghost use Rattle.clap.specs.Values.{kind_of};
-ghost use Rattle.desk_words.specs.Commands.{HasBounds, answer_of};
+ghost use Rattle.desk_words.specs.Commands.{HasBounds, command_answer};
 ghost use Rattle.desk_words.specs.Forms.{has_one_dash, command_line_of};
 ghost use Rattle.desk_words.specs.Parsed.{Parses, fault_by};
 ghost use Rattle.desk_words.specs.Table.{forms};
@@ -20,7 +20,7 @@ use std::alloc::Global;
 /// - `NoCommand`: they are none. That is told exactly there.
 /// - `OutOfMemory`: no memory was left, for the reading or for the name of a store. It may come for any words.
 pub fn read_command(alloc: Global, words: &[String]) -> Result<Command, CommandFault>
-    ensures command { result ≢ Err fault.OutOfMemory → result ≡ answer_of (map string_bytes words.now) }
+    ensures command { result ≢ Err fault.OutOfMemory → result ≡ command_answer (map string_bytes words.now) }
     ensures bounds { IfOk result HasBounds }
 {
     if has_dashed_word(words) {

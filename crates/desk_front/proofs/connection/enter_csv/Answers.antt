@@ -1,6 +1,6 @@
 -- A body that is no declaration is told, or there is no memory for that.
 use Rattle.std.proofs.Common.{◌≡◌, ◌≢◌, ap, sym, Result, Err}
-use Rattle.desk_clerk.specs.Clerk.{keeper_of, whole}
+use Rattle.desk_clerk.specs.Clerk.{keeper_of, current_tables}
 use Rattle.desk_declare.specs.Declaration.{declaration_of}
 use Rattle.desk_declare.specs.declared.declare_fault.DeclareFault.{DeclareFault}
 use Rattle.desk_declare.specs.declared.declare_fault.DeclareFault.TheVariants as fault
@@ -21,11 +21,11 @@ unlike x other e = other (inside x fault.OutOfMemory e)
 
 pub returns-in-Err-clause-ok : goal.returns-in-Err-clause-ok
 returns-in-Err-clause-ok g c =
-    let old : Standing = record { whole = whole c.args.clerk.now; met = c.args.met.now; faults = g.K.Keeper.faults (keeper_of c.args.clerk.now) } in
+    let old : Standing = record { whole = current_tables c.args.clerk.now; met = c.args.met.now; faults = g.K.Keeper.faults (keeper_of c.args.clerk.now) } in
     says_told Turn refuses lacks (c.in-Err.fault ≢ fault.OutOfMemory) old (of_csv (declaration_of c.args.body.now)) c.args.close (with_body 400 (bad_declaration_body c.in-Err.fault)) c.args.out.now
     c.tell_bad_declaration.new.out c.tell_bad_declaration.result (λ other. ap of_csv (sym (c.in-Err.ensures.edit (unlike c.in-Err.fault other)))) c.tell_bad_declaration.ensures.ok
 
 pub returns-in-Err-clause-fixed : goal.returns-in-Err-clause-fixed
 returns-in-Err-clause-fixed g c =
-    let old : Standing = record { whole = whole c.args.clerk.now; met = c.args.met.now; faults = g.K.Keeper.faults (keeper_of c.args.clerk.now) } in
+    let old : Standing = record { whole = current_tables c.args.clerk.now; met = c.args.met.now; faults = g.K.Keeper.faults (keeper_of c.args.clerk.now) } in
     says_memory_of Turn refuses lacks old (of_csv (declaration_of c.args.body.now)) c.args.close c.tell_bad_declaration.result c.tell_bad_declaration.ensures.memory

@@ -1,7 +1,7 @@
 -- A body that is no edit is told, or there is no memory for that.
 use Rattle.std.proofs.Common.{◌≡◌, ◌≢◌, ap, sym, Result, Err}
-use Rattle.desk_clerk.specs.Clerk.{keeper_of, whole}
-use Rattle.desk_edits.specs.Edit.{edit_of}
+use Rattle.desk_clerk.specs.Clerk.{keeper_of, current_tables}
+use Rattle.desk_edits.specs.Edit.{edit_of_json}
 use Rattle.desk_edits.specs.declared.json_fault.JsonFault.{JsonFault}
 use Rattle.desk_edits.specs.declared.json_fault.JsonFault.TheVariants as fault
 use Rattle.desk_model.specs.declared.edit.Edit.{Edit}
@@ -21,11 +21,11 @@ unlike x other e = other (inside x fault.OutOfMemory e)
 
 pub returns-in-Err-clause-ok : goal.returns-in-Err-clause-ok
 returns-in-Err-clause-ok g c =
-    let old : Standing = record { whole = whole c.args.clerk.now; met = c.args.met.now; faults = g.K.Keeper.faults (keeper_of c.args.clerk.now) } in
-    says_told Turn refuses lacks (c.in-Err.fault ≢ fault.OutOfMemory) old (of_json (edit_of c.args.body.now)) c.args.close (with_body 400 (bad_edit_body c.in-Err.fault)) c.args.out.now
+    let old : Standing = record { whole = current_tables c.args.clerk.now; met = c.args.met.now; faults = g.K.Keeper.faults (keeper_of c.args.clerk.now) } in
+    says_told Turn refuses lacks (c.in-Err.fault ≢ fault.OutOfMemory) old (of_json (edit_of_json c.args.body.now)) c.args.close (with_body 400 (bad_edit_body c.in-Err.fault)) c.args.out.now
     c.tell_bad_edit.new.out c.tell_bad_edit.result (λ other. ap of_json (sym (c.in-Err.ensures.edit (unlike c.in-Err.fault other)))) c.tell_bad_edit.ensures.ok
 
 pub returns-in-Err-clause-fixed : goal.returns-in-Err-clause-fixed
 returns-in-Err-clause-fixed g c =
-    let old : Standing = record { whole = whole c.args.clerk.now; met = c.args.met.now; faults = g.K.Keeper.faults (keeper_of c.args.clerk.now) } in
-    says_memory_of Turn refuses lacks old (of_json (edit_of c.args.body.now)) c.args.close c.tell_bad_edit.result c.tell_bad_edit.ensures.memory
+    let old : Standing = record { whole = current_tables c.args.clerk.now; met = c.args.met.now; faults = g.K.Keeper.faults (keeper_of c.args.clerk.now) } in
+    says_memory_of Turn refuses lacks old (of_json (edit_of_json c.args.body.now)) c.args.close c.tell_bad_edit.result c.tell_bad_edit.ensures.memory

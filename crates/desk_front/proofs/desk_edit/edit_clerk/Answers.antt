@@ -1,6 +1,6 @@
 -- An edit that a rule refuses is taken in, and adds nothing.
 use Rattle.std.proofs.Common.{◌≡◌, ◌≢◌, ℕ, Err, Result, ap}
-use Rattle.desk_clerk.specs.Clerk.{whole}
+use Rattle.desk_clerk.specs.Clerk.{current_tables}
 use Rattle.desk_clerk.specs.declared.accepted.Accepted.{Accepted}
 use Rattle.desk_clerk.specs.declared.submit_fault.SubmitFault.{SubmitFault}
 use Rattle.desk_clerk.specs.declared.submit_fault.SubmitFault.TheVariants as fault
@@ -15,4 +15,4 @@ pub returns-in-Ok-push_refused-clause-taken_in : goal.returns-in-Ok-push_refused
 returns-in-Ok-push_refused-clause-taken_in g c =
     let stays = c.in-Err-Rule.ensures.memory (rule_not_memory c.in-Err-Rule.field-0 c.in-Err-Rule.fault c.in-Err-Rule.whole c.in-Err-Rule.field-0-is) in
     let told = c.in-Err-Rule.ensures.rule c.in-Err-Rule.fault c.in-Err-Rule.whole (ap Err c.in-Err-Rule.field-0-is) in
-    taken_refused c.args.clerk.now.accepted c.submit.new.self.accepted (whole c.args.clerk.now) (whole c.submit.new.self) c.args.edit c.in-Err-Rule.fault told.0 stays.0 stays.1
+    taken_refused c.args.clerk.now.accepted c.submit.new.self.accepted (current_tables c.args.clerk.now) (current_tables c.submit.new.self) c.args.edit c.in-Err-Rule.fault told.0 stays.0 stays.1

@@ -2,7 +2,7 @@
 use Rattle.std.proofs.Common.{◌≡◌, ◌≢◌, ap, subst, sym, Result, Err}
 use Rattle.desk_http.specs.Reply.{fixed_reply, with_body}
 use Rattle.desk_model.specs.declared.edit.Edit.{Edit}
-use Rattle.desk_edits.specs.Edit.{edit_of}
+use Rattle.desk_edits.specs.Edit.{edit_of_json}
 use Rattle.desk_edits.specs.declared.json_fault.JsonFault.{JsonFault}
 use Rattle.desk_edits.specs.declared.json_fault.JsonFault.TheVariants as fault
 use Rattle.desk_front.specs.Asked.{an_edit, of_json}
@@ -37,10 +37,10 @@ returns-in-Ok-clause-fixed g c =
 pub returns-in-Err-clause-ok : goal.returns-in-Err-clause-ok
 returns-in-Err-clause-ok g c =
     let old : Sitting = sitting (g.S.Seat.list c.args.seat.now) (g.E.Editor.faults c.args.editor.now) (g.E.Editor.given c.args.editor.now) in
-    says_told (SeatTurn g.E.Editor.NeverFails) (refuses g.E.Editor.NeverFails) (lacks g.E.Editor.NeverFails) (c.in-Err.fault ≢ fault.OutOfMemory) old (of_json (edit_of c.args.text.now)) c.args.close (with_body 400 (bad_edit_body c.in-Err.fault)) c.args.out.now
+    says_told (SeatTurn g.E.Editor.NeverFails) (refuses g.E.Editor.NeverFails) (lacks g.E.Editor.NeverFails) (c.in-Err.fault ≢ fault.OutOfMemory) old (of_json (edit_of_json c.args.text.now)) c.args.close (with_body 400 (bad_edit_body c.in-Err.fault)) c.args.out.now
     c.tell_bad_edit.new.out c.tell_bad_edit.result (λ other. ap of_json (sym (c.in-Err.ensures.edit (unlike c.in-Err.fault other)))) c.tell_bad_edit.ensures.ok
 
 pub returns-in-Err-clause-fixed : goal.returns-in-Err-clause-fixed
 returns-in-Err-clause-fixed g c =
     let old : Sitting = sitting (g.S.Seat.list c.args.seat.now) (g.E.Editor.faults c.args.editor.now) (g.E.Editor.given c.args.editor.now) in
-    says_memory_of (SeatTurn g.E.Editor.NeverFails) (refuses g.E.Editor.NeverFails) (lacks g.E.Editor.NeverFails) old (of_json (edit_of c.args.text.now)) c.args.close c.tell_bad_edit.result c.tell_bad_edit.ensures.memory
+    says_memory_of (SeatTurn g.E.Editor.NeverFails) (refuses g.E.Editor.NeverFails) (lacks g.E.Editor.NeverFails) old (of_json (edit_of_json c.args.text.now)) c.args.close c.tell_bad_edit.result c.tell_bad_edit.ensures.memory

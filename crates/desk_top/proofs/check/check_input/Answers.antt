@@ -7,7 +7,7 @@ use Rattle.std.specs.Result.{IsErrAnd}
 use Rattle.desk_edge.specs.declared.transfer.ReadFault.{ReadFault}
 use Rattle.desk_edge.specs.declared.transfer.ReadFault.TheVariants as read
 use Rattle.desk_top.specs.Answer.{IsInput}
-use Rattle.desk_top.specs.Check.{Agrees, checked, input_limit}
+use Rattle.desk_top.specs.Check.{Agrees, check_outcome, input_limit}
 use Rattle.desk_top.specs.Faults.{from_read_fault}
 use Rattle.desk_top.specs.declared.check.CheckFault.{CheckFault}
 use Rattle.desk_top.specs.declared.check.CheckFault.TheVariants.{Failed}
@@ -17,14 +17,14 @@ use Rattle.desk_top.proofs.check.check_input.Goals as goal
 
 -- all that a link tells was read, or enough of it to know that it is too long
 read-enough : (check : KindOnDay) (old new : Option (List ℕ)) (bytes : List ℕ) (result : Result (List ℕ) CheckFault)
-    → Consumes old new bytes → (length bytes ≤ input_limit → IsAtEnd new) → Agrees result (checked check bytes)
-    → (input : List ℕ) × IsInput old input × (result ≢ Err Failed → Agrees result (checked check input))
-unfolding checked
+    → Consumes old new bytes → (length bytes ≤ input_limit → IsAtEnd new) → Agrees result (check_outcome check bytes)
+    → (input : List ℕ) × IsInput old input × (result ≢ Err Failed → Agrees result (check_outcome check input))
+unfolding check_outcome
 read-enough check None new bytes result taken end agrees = (bytes, tt, λ _. agrees)
 read-enough check (Some told) None bytes result taken end agrees = absurd taken
 read-enough check (Some told) (Some left) bytes result taken end agrees = (told, refl, λ _. by (nat_lt input_limit (length bytes)) refl)
   where
-    by : (long : Bool) → nat_lt input_limit (length bytes) ≡ long → Agrees result (checked check told)
+    by : (long : Bool) → nat_lt input_limit (length bytes) ≡ long → Agrees result (check_outcome check told)
     by false short =
         let none : left ≡ [] = end (ltb-false input_limit (length bytes) short) in
         let same : told ≡ bytes = taken ∙ ap (λ (rest : List ℕ). bytes ++ rest) none ∙ append-nil bytes in
@@ -36,7 +36,7 @@ read-enough check (Some told) (Some left) bytes result taken end agrees = (told,
 
 -- after a fault of reading nothing is answered, and want of memory is an answer to any input
 no-answer : (check : KindOnDay) (input : List ℕ) (fault : ReadFault) (result : Result (List ℕ) CheckFault) → IsErrAnd result (λ e. e ≡ from_read_fault fault)
-    → result ≢ Err Failed → Agrees result (checked check input)
+    → result ≢ Err Failed → Agrees result (check_outcome check input)
 no-answer check input fault (Ok text) is other = absurd is
 no-answer check input read.Failed (Err e) is other = absurd (other (ap Err is))
 no-answer check input read.OutOfMemory (Err e) is other = rw is tt

@@ -2,7 +2,7 @@
 use Rattle.std.proofs.Common.{◌≡◌, Option, None, Some, Result, Ok, map, refl, sym, subst, ◌∙◌}
 use Rattle.std.specs.Prelude.{string_bytes}
 use Rattle.std.specs.Option.{ok_or}
-use Rattle.desk_words.specs.Commands.{answer_of, command_of}
+use Rattle.desk_words.specs.Commands.{command_answer, command_of}
 use Rattle.desk_words.specs.declared.command.Command.{Command}
 use Rattle.desk_words.specs.declared.command.Command.TheVariants.{Check}
 use Rattle.desk_words.specs.declared.command_fault.CommandFault.{CommandFault}
@@ -29,5 +29,5 @@ followed a b (Some x) e f = cc
 pub returns-in-Ok-clause-reading : goal.returns-in-Ok-clause-reading
 returns-in-Ok-clause-reading g c check is ended =
     let read = c.in-Ok.ensures.command (λ h. cc) in
-    let same = subst (λ l. ◌≡◌ {A = Result Command CommandFault} (Ok c.in-Ok.command) (answer_of (map string_bytes l))) c.as_slice.ensures.value read in
+    let same = subst (λ l. ◌≡◌ {A = Result Command CommandFault} (Ok c.in-Ok.command) (command_answer (map string_bytes l))) c.as_slice.ensures.value read in
     c.follow.ensures.reading check (followed c.in-Ok.command (Check check) (command_of (map string_bytes c.args.words.now.items)) same is) (sym c.code.ensures ∙ ended)

@@ -1,7 +1,7 @@
 -- A stream that was served leaves what its clerk has left. Without memory to serve, the desk is as it was opened.
 use Rattle.std.proofs.Common.{rules, ◌≡◌, ◌≤◌, ℕ, List, length, inl, inr, refl, ap, sym, subst, ◌∙◌}
 use Rattle.std.specs.Io.KnownBytes.{Consumes}
-use Rattle.desk_clerk.specs.Clerk.{Clerked, KeptDesk, keeper_of, tables_of, whole}
+use Rattle.desk_clerk.specs.Clerk.{Clerked, KeptDesk, keeper_of, tables_of, current_tables}
 use Rattle.desk_edge.specs.Content.{Content, IsSame}
 use Rattle.desk_front.specs.Served.{Serves, stream_limit}
 use Rattle.desk_front.specs.Turn.{Converses}
@@ -18,19 +18,19 @@ use Rattle.desk_top.proofs.session.serve_named.Goals as goal
 module _ {K : Type 0} (Tells : K → Type 0) (content : K → Content) (faults : K → ℕ) where
   -- what came of serving a clerk's stream, where the clerk was opened over this desk and has handed its keeper back
   was_served : (desk : KeptDesk K) (opened left : Clerked K) (keeper : K) (how : Served) (c : Console) → Sound (tables_of desk) → faults desk.keeper ≡ 0 → opened.desk ≡ desk
-      → keeper ≡ keeper_of left → (Tells keeper → IsSame (tables_content (whole left)) (content keeper))
+      → keeper ≡ keeper_of left → (Tells keeper → IsSame (tables_content (current_tables left)) (content keeper))
       → ((bytes : List ℕ) × Consumes c.unread c.left bytes × (length bytes ≤ stream_limit)
-      × Serves (Converses (record { whole = whole opened; met = number_at (whole opened); faults = faults (keeper_of opened) }) (whole left) (faults (keeper_of left))) how bytes c.left c.before c.after)
+      × Serves (Converses (record { whole = current_tables opened; met = number_at (current_tables opened); faults = faults (keeper_of opened) }) (current_tables left) (faults (keeper_of left))) how bytes c.left c.before c.after)
       → WasServed (Tells keeper) (content keeper) (faults keeper) (tables_of desk) how c
   was_served desk opened left keeper how c sound none same back kept (bytes, read, within, serves) = record {
     sound = sound;
-    last = whole left;
+    last = current_tables left;
     bytes = bytes;
     read = read;
     within = within;
-    serves = subst (λ count. Serves (Converses (record { whole = tables_of desk; met = number_at (tables_of desk); faults = 0 }) (whole left) count) how bytes c.left c.before c.after) (ap faults (sym back))
-        (subst (λ count. Serves (Converses (record { whole = tables_of desk; met = number_at (tables_of desk); faults = count }) (whole left) (faults (keeper_of left))) how bytes c.left c.before c.after) none
-        (subst (λ at. Serves (Converses (record { whole = tables_of at; met = number_at (tables_of at); faults = faults at.keeper }) (whole left) (faults (keeper_of left))) how bytes c.left c.before c.after) same serves));
+    serves = subst (λ count. Serves (Converses (record { whole = tables_of desk; met = number_at (tables_of desk); faults = 0 }) (current_tables left) count) how bytes c.left c.before c.after) (ap faults (sym back))
+        (subst (λ count. Serves (Converses (record { whole = tables_of desk; met = number_at (tables_of desk); faults = count }) (current_tables left) (faults (keeper_of left))) how bytes c.left c.before c.after) none
+        (subst (λ at. Serves (Converses (record { whole = tables_of at; met = number_at (tables_of at); faults = faults at.keeper }) (current_tables left) (faults (keeper_of left))) how bytes c.left c.before c.after) same serves));
     closed = kept;
   }
 

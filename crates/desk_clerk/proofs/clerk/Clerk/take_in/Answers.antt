@@ -1,6 +1,6 @@
 -- The list goes on with an edit that is new, and the tables are those after it.
 use Rattle.std.proofs.Common.{◌≡◌, ◌++◌, ◌∙◌, None, ap, append-nil, subst, sym, refl}
-use Rattle.desk_clerk.specs.Clerk.{list_from, tables_of, whole}
+use Rattle.desk_clerk.specs.Clerk.{list_from, tables_of, current_tables}
 use Rattle.desk_clerk.specs.Published.{IsTakenIn, added_to_list, waiting_edit}
 use Rattle.desk_clerk.proofs.ToPublish.{nothing_kept, ok_or_err, on_err, on_ok, stays_history, told_none}
 use Rattle.desk_engine.specs.Engine.{lists_of}
@@ -32,7 +32,7 @@ returns-clause-ok g c =
     let now = c.take_into-taken.new.kept in
     let left = c.take_into-taken.new.desk in
     on_ok ((waiting_edit now ≡ added_to_list (tables_of inside.desk) c.args.edit) × (tables_of left ≡ (step (tables_of inside.desk) c.args.edit).1)) _ c.take_into-taken.result
-    (λ taken. subst (λ clerk. IsTakenIn clerk.accepted (whole clerk) c.args.edit (inside.publication.whole ++ waiting_edit now) (tables_of left)) c.self.view_is (
+    (λ taken. subst (λ clerk. IsTakenIn clerk.accepted (current_tables clerk) c.args.edit (inside.publication.whole ++ waiting_edit now) (tables_of left)) c.self.view_is (
       ap (λ edits. inside.publication.whole ++ edits) taken.0 ∙ ap (λ edits. edits ++ added_to_list (tables_of inside.desk) c.args.edit) (sym (ap (λ kept. inside.publication.whole ++ waiting_edit kept) none ∙ append-nil inside.publication.whole)),
       taken.1,
     ))
@@ -46,7 +46,7 @@ returns-clause-err g c =
     let now = c.take_into-taken.new.kept in
     let left = c.take_into-taken.new.desk in
     on_err ((now ≡ None) × (tables_of left ≡ tables_of inside.desk)) _ c.take_into-taken.result
-    (λ taken. subst (λ clerk. (inside.publication.whole ++ waiting_edit now ≡ clerk.accepted) × (tables_of left ≡ whole clerk)) c.self.view_is (
+    (λ taken. subst (λ clerk. (inside.publication.whole ++ waiting_edit now ≡ clerk.accepted) × (tables_of left ≡ current_tables clerk)) c.self.view_is (
       ap (λ kept. inside.publication.whole ++ waiting_edit kept) (taken.0 ∙ sym none),
       taken.1,
     ))

@@ -1,6 +1,6 @@
 -- What a request asks is answered; where it asks nothing, that is told.
 use Rattle.std.proofs.Common.{◌≡◌, ◌≢◌, ◌∙◌, ap, sym, refl, Result, Err}
-use Rattle.desk_clerk.specs.Clerk.{keeper_of, whole}
+use Rattle.desk_clerk.specs.Clerk.{keeper_of, current_tables}
 use Rattle.desk_http.specs.Reply.{fixed_reply}
 use Rattle.desk_http.specs.Taken.{message_of, span_bytes}
 use Rattle.desk_http.specs.declared.ask.Ask.{Ask}
@@ -31,7 +31,7 @@ tell_no_ask-requires g c allow e =
 
 pub returns-in-Err-clause-fixed : goal.returns-in-Err-clause-fixed
 returns-in-Err-clause-fixed g c =
-    let s : Standing = record { whole = whole c.args.self.now.clerk.now; met = c.args.self.now.met; faults = g.K.Keeper.faults (keeper_of c.args.self.now.clerk.now) } in
+    let s : Standing = record { whole = current_tables c.args.self.now.clerk.now; met = c.args.self.now.met; faults = g.K.Keeper.faults (keeper_of c.args.self.now.clerk.now) } in
     let asked = asked_of (message_of c.args.buffer.now c.args.request.now) in
     if_err_weaker (λ told. Says Turn s asked c.args.request.now.close (fixed_reply told c.args.request.now.close) s) _ c.tell_no_ask.result (λ told h. (refl, (λ tells. tells), h))
     (says_refusal Turn refuses lacks (c.in-Err.fault ≢ cause.OutOfMemory) s asked c.args.request.now.close (no_ask c.in-Err.fault) c.tell_no_ask.result

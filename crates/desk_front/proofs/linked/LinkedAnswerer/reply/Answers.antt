@@ -1,7 +1,7 @@
 -- What a request asks is answered; where it asks nothing, that is told.
 use Rattle.std.proofs.Common.{◌≡◌, ◌≢◌, ◌∙◌, ap, subst, sym, refl, Result, Err, Ok}
 use Rattle.desk_declare.specs.Declaration.{declaration_of}
-use Rattle.desk_edits.specs.Edit.{edit_of}
+use Rattle.desk_edits.specs.Edit.{edit_of_json}
 use Rattle.desk_history.specs.History.{after}
 use Rattle.desk_http.specs.Reply.{bytes_with, fixed_reply}
 use Rattle.desk_http.specs.Routes.{route_of}
@@ -81,7 +81,7 @@ returns-in-Ok-Edit-clause-ok g c =
     let request = c.args.request.now in
     let old : Sitting = sitting (g.S.Seat.list c.args.self.now.seat.now) (g.E.Editor.faults c.args.self.now.editor.now) (g.E.Editor.given c.args.self.now.editor.now) in
     let new : Sitting = sitting (g.S.Seat.list c.enter_json.new.seat) (g.E.Editor.faults c.enter_json.new.editor) (g.E.Editor.given c.enter_json.new.editor) in
-    let is = ap (λ b. of_json (edit_of b)) c.of-body.ensures
+    let is = ap (λ b. of_json (edit_of_json b)) c.of-body.ensures
     ∙ ap (λ a. of_route (span_bytes c.args.buffer.now request.body) (Ok a)) (sym c.in-Ok-Edit.field-0-is)
     ∙ ap (of_route (span_bytes c.args.buffer.now request.body)) (c.in-Ok-Edit.ensures.value (λ e. cc)) in
     on_ok_weaker c.enter_json.result
@@ -93,10 +93,10 @@ returns-in-Ok-Edit-clause-fixed g c =
     let request = c.args.request.now in
     let old : Sitting = sitting (g.S.Seat.list c.args.self.now.seat.now) (g.E.Editor.faults c.args.self.now.editor.now) (g.E.Editor.given c.args.self.now.editor.now) in
     let new : Sitting = sitting (g.S.Seat.list c.enter_json.new.seat) (g.E.Editor.faults c.enter_json.new.editor) (g.E.Editor.given c.enter_json.new.editor) in
-    let is = ap (λ b. of_json (edit_of b)) c.of-body.ensures
+    let is = ap (λ b. of_json (edit_of_json b)) c.of-body.ensures
     ∙ ap (λ a. of_route (span_bytes c.args.buffer.now request.body) (Ok a)) (sym c.in-Ok-Edit.field-0-is)
     ∙ ap (of_route (span_bytes c.args.buffer.now request.body)) (c.in-Ok-Edit.ensures.value (λ e. cc)) in
-    if_err_weaker (λ told. Says (SeatTurn g.E.Editor.NeverFails) old (of_json (edit_of c.of-body.result.now)) request.close (fixed_reply told request.close) new) _ c.enter_json.result
+    if_err_weaker (λ told. Says (SeatTurn g.E.Editor.NeverFails) old (of_json (edit_of_json c.of-body.result.now)) request.close (fixed_reply told request.close) new) _ c.enter_json.result
     (λ told says. (refl, refl, subst (λ a. Says (SeatTurn g.E.Editor.NeverFails) old a request.close (fixed_reply told request.close) new) is says))
     c.enter_json.ensures.fixed
 
