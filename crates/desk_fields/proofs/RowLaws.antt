@@ -15,6 +15,7 @@ use Rattle.desk_model.specs.Declaration.{is_declaration_number}
 use Rattle.desk_model.specs.EditText.{joined}
 use Rattle.desk_model.specs.EditWords.{edit_word_of}
 use Rattle.desk_model.specs.Rows.{record_code, table_number}
+use Rattle.desk_model.specs.RowTexts.{body_fields, body_text, version}
 use Rattle.desk_model.proofs.EditTold.{number_small}
 use Rattle.std.specs.Result.{IsErrAnd}
 use Rattle.desk_fields.specs.declared.field_fault.FieldFault.{FieldFault}
@@ -27,7 +28,7 @@ use Rattle.desk_fields.specs.EditTexts.{IsEditText}
 use Rattle.desk_text.specs.Forms.{a_number}
 use Rattle.desk_fields.specs.Reading.{fields_of, one}
 use Rattle.desk_fields.specs.RowReading.{is_ticket_code, row_of_fields, ticket_of, ticket_row_in}
-use Rattle.desk_fields.specs.RowTexts.{IsRowInForm, IsRowOf, IsTicketRow, body_fields, body_text, version}
+use Rattle.desk_fields.specs.RowTexts.{IsRowInForm, IsRowOf, IsTicketRow}
 use Rattle.desk_fields.proofs.Codec.{IsCodec, none_some, some_same}
 use Rattle.desk_fields.proofs.Declared.{Within, exemption_codec, number_codec, number_good, number_read}
 use Rattle.desk_fields.proofs.EditFields.{read_back}

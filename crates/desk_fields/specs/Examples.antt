@@ -8,7 +8,7 @@ use Rattle.desk_model.specs.declared.part_sort.PartSort.TheVariants.{Assembly}
 use Rattle.desk_model.specs.declared.row.Row.{Row}
 use Rattle.desk_model.specs.declared.row.Row.TheVariants.{Substance, Member, Material, Part, Line, Product, Exemption, Candidate, Shipment, Ticket}
 use Rattle.desk_model.specs.Examples.Desks.{date, holds}
-use Rattle.desk_fields.specs.RowTexts.{body_text}
+use Rattle.desk_model.specs.RowTexts.{body_text}
 
 abbrev pub solder : Row
 solder = Material (record {

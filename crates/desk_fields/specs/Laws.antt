@@ -4,8 +4,9 @@ use Rattle.std.specs.Prelude.{◌≡◌, ℕ, List}
 use Rattle.desk_model.specs.declared.edit.Edit.{Edit}
 use Rattle.desk_model.specs.declared.row.Row.{Row}
 use Rattle.desk_model.specs.Rows.{record_code, table_number}
+use Rattle.desk_model.specs.RowTexts.{body_text}
 use Rattle.desk_fields.specs.EditTexts.{IsEditOf}
-use Rattle.desk_fields.specs.RowTexts.{IsRowInForm, IsRowOf, body_text}
+use Rattle.desk_fields.specs.RowTexts.{IsRowInForm, IsRowOf}
 
 -- what is written of a row in form is that row's, so that it is read again; and what is read is the one row, so that what is
 -- written of it is the same again

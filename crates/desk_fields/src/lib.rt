@@ -16,10 +16,8 @@ mod row_fault;
 mod row_text;
 mod rows;
 mod text_fault;
-mod write_row;
 
 pub use edit_text::{is_edit_text, read_edit_text};
 pub use row_fault::RowFault;
 pub use row_text::read_row;
 pub use text_fault::TextFault;
-pub use write_row::{row_body, row_code};

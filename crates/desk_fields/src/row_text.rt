@@ -1,6 +1,7 @@
 ghost use Rattle.std.specs.Prelude.{◌≡◌, ◌∷◌, ℕ, Err, IfOk, List, MatchBool, true};
 ghost use Rattle.desk_model.specs.declared.row.Row.{Row};
-ghost use Rattle.desk_fields.specs.RowTexts.{HasVersion, IsRowOf, has_texts, version};
+ghost use Rattle.desk_model.specs.RowTexts.{version};
+ghost use Rattle.desk_fields.specs.RowTexts.{HasVersion, IsRowOf, has_texts};
 
 use crate::RowFault;
 use crate::fields::Fields;

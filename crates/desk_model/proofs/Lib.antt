@@ -15,5 +15,6 @@ pub mod KindOrder
 pub mod Names
 pub mod Order
 pub mod Substances
+pub mod TableNames
 pub mod TextFields
 pub mod Times

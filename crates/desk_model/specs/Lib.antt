@@ -11,6 +11,7 @@ pub mod Laws
 pub mod Lists
 pub mod PutRows
 pub mod Refusals
+pub mod RowTexts
 pub mod Rows
 pub mod Start
 pub mod Tables

@@ -163,7 +163,7 @@ fn exemption_text(alloc: Global, exemption: &Exemption) -> Result<String, AllocE
 }
 
 /// The number's digits, or nothing.
-fn optional_number(alloc: Global, number: Option<u32>) -> Result<String, AllocError>
+pub(crate) fn optional_number(alloc: Global, number: Option<u32>) -> Result<String, AllocError>
     ensures { IfOk result (λ text. string_bytes text ≡ optional_number number) }
 {
     match number {

@@ -16,11 +16,13 @@ mod list_of;
 mod material_decl;
 mod part_sort;
 mod row;
+mod row_code;
 mod rows;
 mod rule_fault;
 mod spaced;
 mod substance_mass;
 mod table_name;
+mod table_row;
 pub mod text_laws;
 mod within;
 
@@ -34,6 +36,7 @@ pub use list_of::{Codes, ListOf};
 pub use material_decl::MaterialDecl;
 pub use part_sort::PartSort;
 pub use row::Row;
+pub use row_code::{code_bytes, pair_code};
 pub use rows::{
     CandidateRow, ExemptionRow, LineRow, MaterialRow, MemberRow, PartRow, ProductRow, ShipmentRow,
     SubstanceRow, TicketRow,
@@ -42,4 +45,5 @@ pub use rule_fault::RuleFault;
 pub use spaced::Spaced;
 pub use substance_mass::SubstanceMass;
 pub use table_name::TableName;
+pub use table_row::TableRow;
 pub use within::{Count, Factor, Units, Within, Year, count_of, factor_of, units_of, year_of};

@@ -2,7 +2,7 @@
 use Rattle.std.proofs.Common.{◌≡◌, ℕ, zero, suc, ◌+◌, ◌<◌, ◌≤◌, Bool, true, false, List, [], ◌∷◌, ◌++◌, map, length, nat_lt, refl, sym, ap, subst, ◌∙◌, Less, is_some, Some, None, inl, inr, arith, length-append}
 use Rattle.std.specs.List.{AllByRecursion}
 use Rattle.std.specs.Prelude.{if◌then◌else◌, option_map, slice_index_or}
-use Rattle.std.proofs.lemmas.Bool.{cases_Bool, false≢true, ltb-false}
+use Rattle.std.proofs.lemmas.Bool.{cases_Bool, false≢true}
 use Rattle.std.proofs.lemmas.Cmp.{tied_itself}
 use Rattle.std.proofs.lemmas.List.{length-map}
 use Rattle.desk_edge.specs.Content.{IsSame, key_cmp, key_of, same_key}
@@ -15,11 +15,13 @@ use Rattle.desk_rows.proofs.Order.{AllAbove, first_above, rest_by_key}
 use Rattle.desk_model.specs.declared.limits.TheConstants.{SUBSTANCE_LIMIT, MEMBER_LIMIT, MATERIAL_LIMIT, PART_LIMIT, LINE_LIMIT}
 use Rattle.desk_model.specs.declared.limits.TheConstants.{PRODUCT_LIMIT, EXEMPTION_LIMIT, CANDIDATE_LIMIT, SHIPMENT_LIMIT, TICKET_LIMIT}
 use Rattle.desk_model.specs.declared.row.Row.{Row}
+use Rattle.desk_model.specs.declared.table_name.TableName.TheVariants.{Substances, Members, Materials, Parts, Lines, Products, Exemptions, Candidates, Shipments, Tickets}
 use Rattle.desk_model.specs.Lists.{Lists}
 use Rattle.desk_model.specs.Rows.{rows_of}
 use Rattle.desk_fields.specs.RowTexts.{IsRowInForm}
-use Rattle.desk_history.specs.Limits.{if_over, tables_over}
+use Rattle.desk_history.specs.Limits.{tables_over}
 use Rattle.desk_history.specs.Sound.{Sound}
+use Rattle.desk_history.proofs.TableLimits.{within_limit}
 use Rattle.desk_records.specs.Damage.{HasAt, record_limit}
 use Rattle.desk_records.specs.Records.{IsOfNoRow, content_in, record_of, records_of, tables_content}
 use Rattle.desk_records.proofs.FirstRecords.{one_key}
@@ -52,55 +54,25 @@ no_more (x ∷ xs) ys h all = omega (arith, length-without (key_of x) ys found, 
         ]
 
 -- what the limits of tables say of each
-first_empty : {X : Type 0} (xs ys : List X) → xs ++ ys ≡ [] → xs ≡ []
-first_empty [] ys e = refl
-first_empty (x ∷ xs) ys e = cc
-
-last_empty : {X : Type 0} (xs ys : List X) → xs ++ ys ≡ [] → ys ≡ []
-last_empty [] ys e = e
-last_empty (x ∷ xs) ys e = cc
-
-within_limit : (table limit count : ℕ) → if_over table limit count ≡ [] → count ≤ limit
-within_limit table limit count e = by_test (nat_lt limit count) refl e
-  where
-    by_test : (b : Bool) → nat_lt limit count ≡ b → (if b then table ∷ [] else []) ≡ [] → count ≤ limit
-    by_test true t e = cc
-    by_test false t e = ltb-false limit count t
-
 sums : (a b c d e f g h i j : ℕ) → a ≤ SUBSTANCE_LIMIT → b ≤ MEMBER_LIMIT → c ≤ MATERIAL_LIMIT → d ≤ PART_LIMIT → e ≤ LINE_LIMIT → f ≤ PRODUCT_LIMIT → g ≤ EXEMPTION_LIMIT
     → h ≤ CANDIDATE_LIMIT → i ≤ SHIPMENT_LIMIT → j ≤ TICKET_LIMIT → a + b + c + d + e + f + g + h + i + j ≤ record_limit
 sums a b c d e f g h i j pa pb pc pd pe pf pg ph pi pj = omega (arith, pa, pb, pc, pd, pe, pf, pg, ph, pi, pj)
 
 rows_fit : (t : Lists) → tables_over t ≡ [] → length (rows_of t) ≤ record_limit
-unfolding tables_over rows_of
+unfolding rows_of
 rows_fit t e =
-    let e10 = first_empty _ _ e in
-    let e9 = first_empty _ _ e10 in
-    let e8 = first_empty _ _ e9 in
-    let e7 = first_empty _ _ e8 in
-    let e6 = first_empty _ _ e7 in
-    let e5 = first_empty _ _ e6 in
-    let e4 = first_empty _ _ e5 in
-    let e3 = first_empty _ _ e4 in
-    let e2 = first_empty _ _ e3 in
-    let e1 = first_empty _ _ e2 in
     simp (length-append, length-map)
     (sums (length t.substances) (length t.members) (length t.materials) (length t.parts) (length t.lines) (length t.products) (length t.exemptions) (length t.candidates) (length t.shipments) (length t.tickets)
-    (within_limit 1 SUBSTANCE_LIMIT (length t.substances) e1)
-    (within_limit 2 MEMBER_LIMIT (length t.members) (last_empty _ _ e2))
-    (within_limit 3 MATERIAL_LIMIT (length t.materials) (last_empty _ _ e3))
-    (within_limit 4 PART_LIMIT (length t.parts) (last_empty _ _ e4))
-    (within_limit 5 LINE_LIMIT (length t.lines) (last_empty _ _ e5))
-    (within_limit 6 PRODUCT_LIMIT (length t.products) (last_empty _ _ e6))
-    (within_limit 7 EXEMPTION_LIMIT (length t.exemptions) (last_empty _ _ e7))
-    (within_limit 8 CANDIDATE_LIMIT (length t.candidates) (last_empty _ _ e8))
-    (within_limit 9 SHIPMENT_LIMIT (length t.shipments) (last_empty _ _ e9))
-    (within_limit 10 TICKET_LIMIT (length t.tickets) (last_empty _ _ e10)))
-
--- sound tables have no more tickets than their limit
-pub tickets_fit : (t : Lists) → Sound t → length t.tickets ≤ TICKET_LIMIT
-unfolding tables_over
-tickets_fit t sound = within_limit 10 TICKET_LIMIT (length t.tickets) (last_empty _ _ (first_empty _ _ sound.limits.tables_fit))
+    (within_limit t e Substances)
+    (within_limit t e Members)
+    (within_limit t e Materials)
+    (within_limit t e Parts)
+    (within_limit t e Lines)
+    (within_limit t e Products)
+    (within_limit t e Exemptions)
+    (within_limit t e Candidates)
+    (within_limit t e Shipments)
+    (within_limit t e Tickets))
 
 -- sound tables have no more records than their limits allow
 pub records_fit : (t : Lists) → Sound t → length (records_of t) ≤ record_limit

@@ -21,7 +21,8 @@ use Rattle.desk_fields.specs.RowTexts.{IsRowInForm, IsTicketCode}
 use Rattle.desk_history.specs.Sound.{IsTicketOfEdit, Sound}
 use Rattle.desk_history.proofs.SoundClauses.{forms_of}
 use Rattle.desk_history.proofs.Numbers.{each_in_range}
-use Rattle.desk_tables.proofs.ParentLines.{tickets_fit}
+use Rattle.desk_model.specs.declared.table_name.TableName.TheVariants.{Tickets}
+use Rattle.desk_history.proofs.TableLimits.{within_limit}
 
 first_of_four : (a b c d : Bool) → (a && b && c && d) ≡ true → a ≡ true
 first_of_four a b c d h = (three_parts a b c (and_parts (a && b && c) d h).0).0
@@ -91,5 +92,5 @@ all_in_form t sound =
     (tested Exemption is_exemption_row (λ row is. is) t.exemptions forms.exemptions))
     (tested Candidate is_candidate_row (λ row is. is) t.candidates forms.candidates))
     (tested Shipment is_shipment_row (λ row is. is) t.shipments forms.shipments))
-    (of_table Ticket _ (ticket_row (length t.tickets) (tickets_fit t sound.limits.tables_fit)) t.tickets
+    (of_table Ticket _ (ticket_row (length t.tickets) (within_limit t sound.limits.tables_fit Tickets)) t.tickets
     (each_both IsTicketOfEdit _ t.tickets sound.consistent.tickets_of_edits (each_in_range t.tickets sound.consistent.numbered)))

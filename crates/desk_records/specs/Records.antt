@@ -4,9 +4,10 @@ use Rattle.std.specs.Ordering.{is_lt}
 use Rattle.desk_edge.specs.Content.{Content, key_cmp, key_of}
 use Rattle.desk_edge.specs.declared.key.Key.{Key}
 use Rattle.desk_edge.specs.declared.record.Record.{Record}
-use Rattle.desk_fields.specs.RowTexts.{HasVersion, IsRowInForm, body_text, has_texts}
+use Rattle.desk_fields.specs.RowTexts.{HasVersion, IsRowInForm, has_texts}
 use Rattle.desk_model.specs.declared.row.Row.{Row}
 use Rattle.desk_model.specs.Lists.{Lists}
+use Rattle.desk_model.specs.RowTexts.{body_text}
 use Rattle.desk_model.specs.Rows.{record_code, rows_of, table_number}
 use Rattle.desk_rows.specs.Rows.{row_of}
 

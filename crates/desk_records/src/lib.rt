@@ -11,7 +11,6 @@ mod record_key;
 mod record_limit;
 mod row_record;
 mod table_records;
-mod table_row;
 
 pub use desk_fields::RowFault as RecordFault;
 pub use gather_fault::GatherFault;
@@ -21,6 +20,5 @@ pub use new_records::puts;
 pub use plan_records::changes;
 pub use record_key::{copied_key, into_key};
 pub use record_limit::RECORD_LIMIT;
-pub use row_record::{read_record, write_record};
-pub use table_records::{record_of_row, records_of};
-pub use table_row::TableRow;
+pub use row_record::{read_record, record_of_row, write_record};
+pub use table_records::records_of;

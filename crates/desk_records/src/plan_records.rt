@@ -14,10 +14,9 @@ ghost use Rattle.desk_records.specs.Records.{record_of, tables_content};
 ghost use Rattle.desk_tables.specs.Desk.{Desk};
 ghost use Rattle.desk_tables.specs.Plan.{IsPlan};
 
-use crate::table_records::record_of_row;
-use crate::table_row::TableRow;
+use crate::row_record::record_of_row;
 use desk_edge::{Change, Key};
-use desk_model::{TableName, TicketRow};
+use desk_model::{TableName, TableRow, TicketRow, code_bytes, pair_code};
 use desk_tables::{RowChange, TablesPlan};
 use desk_text::{Bytes, OutOfMemory};
 use std::alloc::Global;
@@ -85,7 +84,7 @@ fn changes_of_rows(alloc: Global, change: &RowChange) -> Result<Vec<Change>, Out
         RowChange::DropExemption { row } => {
             one(
                 alloc,
-                dropped(TableName::Exemptions, bytes(alloc, row.as_bytes())?),
+                dropped(TableName::Exemptions, code_bytes(alloc, row)?),
             )
         }
         RowChange::PutCandidate { row, .. } => one(alloc, put(alloc, row)?),
@@ -142,10 +141,7 @@ fn dropped_pair(
 ) -> Result<Change, OutOfMemory>
     ensures { IfOk result (λ change. change ≡ Drop (record { kind = number_of_table table; code = pair_code first.now second.now })) }
 {
-    let mut code = bytes(alloc, first)?;
-    code.push_all(b"/")?;
-    code.push_all(second)?;
-    Ok(dropped(table, code))
+    Ok(dropped(table, pair_code(alloc, first, second)?))
 }
 
 /// The shipment of the year and the product is taken out.
@@ -156,13 +152,4 @@ fn dropped_shipment(alloc: Global, year: u16, product: &[u8]) -> Result<Change, 
 {
     let year = format!(in alloc; "{year}")?;
     dropped_pair(alloc, TableName::Shipments, year.as_bytes(), product)
-}
-
-/// The same bytes.
-fn bytes(alloc: Global, list: &[u8]) -> Result<Bytes, OutOfMemory>
-    ensures { IfOk result (λ copy. copy ≡ list.now) }
-{
-    let mut copy = Bytes::start(alloc);
-    copy.push_all(list)?;
-    Ok(copy)
 }

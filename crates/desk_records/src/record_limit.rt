@@ -3,7 +3,8 @@ use desk_model::limits::{
     PRODUCT_LIMIT, SHIPMENT_LIMIT, SUBSTANCE_LIMIT, TICKET_LIMIT,
 };
 
-/// The most records that sound tables have.
+/// The most records that sound tables have: the limits of all tables together. A constant's value calls no function, so that
+/// `TableName::limit` can't be asked here.
 pub const RECORD_LIMIT: usize = SUBSTANCE_LIMIT
     + MEMBER_LIMIT
     + MATERIAL_LIMIT

@@ -1,50 +1,47 @@
 ghost use Rattle.std.specs.Prelude.{◌≡◌, Err, IfOk, true};
 ghost use Rattle.desk_fields.specs.RowTexts.{HasVersion, has_texts};
 ghost use Rattle.desk_model.specs.declared.row.Row.{Row};
-ghost use Rattle.desk_model.specs.Tables.{table_of};
 ghost use Rattle.desk_records.specs.Records.{IsRecordOf, record_of};
 
 use crate::RecordFault;
 use desk_edge::Record;
-use desk_fields::{read_row, row_body, row_code};
-use desk_model::{Row, TableName};
-use desk_text::{Bytes, OutOfMemory};
+use desk_fields::read_row;
+use desk_model::{Row, TableRow};
+use desk_text::OutOfMemory;
 use std::alloc::Global;
 
 /// The record of a row: the number of its table as the kind, its code, and its text as the body.
 ///
 /// `OutOfMemory`: none was left for the record.
-#[tactic(auto, unfolding(desk_model::specs::Rows::table_number))]
 pub fn write_record(alloc: Global, row: &Row) -> Result<Record, OutOfMemory>
     ensures { IfOk result (λ kept. kept ≡ record_of row.now) }
 {
-    let mut code = Bytes::start(alloc);
-    row_code(row, &mut code)?;
-    let mut body = Bytes::start(alloc);
-    row_body(row, &mut body)?;
-    Ok(Record {
-        kind: table_of(row).number(),
-        code,
-        body,
-    })
+    match row {
+        Row::Substance(row) => record_of_row(alloc, row),
+        Row::Member(row) => record_of_row(alloc, row),
+        Row::Material(row) => record_of_row(alloc, row),
+        Row::Part(row) => record_of_row(alloc, row),
+        Row::Line(row) => record_of_row(alloc, row),
+        Row::Product(row) => record_of_row(alloc, row),
+        Row::Exemption(row) => record_of_row(alloc, row),
+        Row::Candidate(row) => record_of_row(alloc, row),
+        Row::Shipment(row) => record_of_row(alloc, row),
+        Row::Ticket(row) => record_of_row(alloc, row),
+    }
 }
 
-/// The table that the row is of.
-fn table_of(row: &Row) -> TableName
-    ensures { result ≡ table_of row.now }
+/// The record of a row of one table.
+///
+/// `OutOfMemory`: none was left for the record.
+#[tactic(auto, unfolding(desk_model::specs::Rows::table_number))]
+pub fn record_of_row<R: TableRow>(alloc: Global, row: &R) -> Result<Record, OutOfMemory>
+    ensures { IfOk result (λ kept. kept ≡ record_of (R.as_row row.now)) }
 {
-    match row {
-        Row::Substance(_) => TableName::Substances,
-        Row::Member(_) => TableName::Members,
-        Row::Material(_) => TableName::Materials,
-        Row::Part(_) => TableName::Parts,
-        Row::Line(_) => TableName::Lines,
-        Row::Product(_) => TableName::Products,
-        Row::Exemption(_) => TableName::Exemptions,
-        Row::Candidate(_) => TableName::Candidates,
-        Row::Shipment(_) => TableName::Shipments,
-        Row::Ticket(_) => TableName::Tickets,
-    }
+    Ok(Record {
+        kind: R::table().number(),
+        code: row.code_text(alloc)?,
+        body: row.body_text(alloc)?,
+    })
 }
 
 /// The row that has this record.

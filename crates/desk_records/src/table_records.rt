@@ -1,9 +1,9 @@
 ghost use Rattle.std.specs.Prelude.{◌≡◌, ◌++◌, IfOk, OnOk, map};
 ghost use Rattle.desk_records.specs.Records.{record_of, records_of};
 
-use crate::row_record::write_record;
-use crate::table_row::TableRow;
+use crate::row_record::record_of_row;
 use desk_edge::Record;
+use desk_model::TableRow;
 use desk_tables::Tables;
 use desk_text::OutOfMemory;
 use std::alloc::Global;
@@ -42,14 +42,4 @@ fn push_records<R: TableRow>(
         records.push(record_of_row(alloc, row)?)?;
     }
     Ok(())
-}
-
-/// The record of this row.
-///
-/// `OutOfMemory`: none was left for the record.
-pub fn record_of_row<R: TableRow>(alloc: Global, row: &R) -> Result<Record, OutOfMemory>
-    ensures { IfOk result (λ kept. kept ≡ record_of (R.as_row row.now)) }
-{
-    let row = row.copied(alloc)?.into_row();
-    write_record(alloc, &row)
 }

@@ -11,12 +11,13 @@ use crate::line::lines_of;
 use crate::report_fault::ReportFault;
 use crate::table_records::table_records;
 use desk_edge::{Link, Record, write_all};
+use desk_model::TableName;
 use desk_rows::Keyed;
 use desk_tables::Tables;
 use std::alloc::Global;
 
 /// How many tables a desk has.
-const TABLES: usize = 10;
+const TABLES: usize = TableName::ALL.len();
 
 /// How many lines are written at once, at most.
 const LINES: usize = 64;

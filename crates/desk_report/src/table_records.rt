@@ -2,7 +2,8 @@ ghost use Rattle.std.specs.Prelude.{◌≡◌, IfOk};
 ghost use Rattle.desk_report.specs.File.{in_table, table_at};
 
 use desk_edge::Record;
-use desk_records::{TableRow, record_of_row};
+use desk_model::TableRow;
+use desk_records::record_of_row;
 use desk_tables::Tables;
 use desk_text::OutOfMemory;
 use std::alloc::Global;

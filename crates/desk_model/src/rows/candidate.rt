@@ -1,5 +1,6 @@
+use crate::{TableName, TableRow, code_bytes};
 use desk_rows::Keyed;
-use desk_text::{Code, Day, OutOfMemory};
+use desk_text::{Bytes, Code, Day, OutOfMemory};
 use std::alloc::Global;
 use std::cmp::Ordering;
 
@@ -27,5 +28,29 @@ impl Keyed for CandidateRow {
 
     fn copied(&self, _alloc: Global) -> Result<CandidateRow, OutOfMemory> {
         Ok(*self)
+    }
+}
+
+impl TableRow for CandidateRow {
+    ghost use Rattle.desk_model.specs.declared.row.Row.TheVariants.{Candidate};
+    ghost use Rattle.desk_model.specs.declared.table_name.TableName.TheVariants.{Candidates};
+
+    ghost as_row = { Candidate };
+
+    ghost table = { Candidates };
+
+    fn table() -> TableName {
+        TableName::Candidates
+    }
+
+    #[tactic(auto, unfolding(crate::specs::Rows::record_code))]
+    fn code_text(&self, alloc: Global) -> Result<Bytes, OutOfMemory> {
+        code_bytes(alloc, &self.substance)
+    }
+
+    #[tactic(auto, unfolding(crate::specs::RowTexts::body_text, crate::specs::RowTexts::body_fields))]
+    fn body_text(&self, alloc: Global) -> Result<Bytes, OutOfMemory> {
+        let text = format!(in alloc; "1\t{}", self.day)?;
+        Ok(Bytes::from(text.into_bytes()))
     }
 }

@@ -1,5 +1,6 @@
+use crate::{TableName, TableRow, pair_code};
 use desk_rows::{Grouped, Keyed};
-use desk_text::{Code, OutOfMemory};
+use desk_text::{Bytes, Code, OutOfMemory};
 use std::alloc::Global;
 use std::cmp::Ordering;
 
@@ -29,6 +30,30 @@ impl Keyed for LineRow {
 
     fn copied(&self, _alloc: Global) -> Result<LineRow, OutOfMemory> {
         Ok(*self)
+    }
+}
+
+impl TableRow for LineRow {
+    ghost use Rattle.desk_model.specs.declared.row.Row.TheVariants.{Line};
+    ghost use Rattle.desk_model.specs.declared.table_name.TableName.TheVariants.{Lines};
+
+    ghost as_row = { Line };
+
+    ghost table = { Lines };
+
+    fn table() -> TableName {
+        TableName::Lines
+    }
+
+    #[tactic(auto, unfolding(crate::specs::Rows::record_code))]
+    fn code_text(&self, alloc: Global) -> Result<Bytes, OutOfMemory> {
+        pair_code(alloc, self.parent.as_bytes(), self.child.as_bytes())
+    }
+
+    #[tactic(auto, unfolding(crate::specs::RowTexts::body_text, crate::specs::RowTexts::body_fields))]
+    fn body_text(&self, alloc: Global) -> Result<Bytes, OutOfMemory> {
+        let text = format!(in alloc; "1\t{}", self.count)?;
+        Ok(Bytes::from(text.into_bytes()))
     }
 }
 

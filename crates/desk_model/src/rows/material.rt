@@ -1,8 +1,12 @@
-use crate::{ListOf, SubstanceMass};
+ghost use Rattle.std.specs.Prelude.{◌≡◌, ◌∷◌, IfOk, string_bytes};
+ghost use Rattle.desk_model.specs.EditText.{joined};
+ghost use Rattle.desk_model.specs.RowTexts.{material_row_fields, version};
+
+use crate::{ListOf, SubstanceMass, TableName, TableRow, code_bytes, push_claims, push_substances};
 use desk_law::Claim;
 use desk_rows::Keyed;
-use desk_text::{Code, Day, Name, OutOfMemory};
-use std::alloc::Global;
+use desk_text::{Bytes, Code, Day, Name, OutOfMemory};
+use std::alloc::{AllocError, Global};
 use std::cmp::Ordering;
 
 /// A homogeneous material as its supplier declared it: table 3.
@@ -51,4 +55,45 @@ impl Keyed for MaterialRow {
             claims: ListOf::new(self.claims.as_slice().to_vec(alloc)?),
         })
     }
+}
+
+impl TableRow for MaterialRow {
+    ghost use Rattle.desk_model.specs.declared.row.Row.TheVariants.{Material};
+    ghost use Rattle.desk_model.specs.declared.table_name.TableName.TheVariants.{Materials};
+
+    ghost as_row = { Material };
+
+    ghost table = { Materials };
+
+    fn table() -> TableName {
+        TableName::Materials
+    }
+
+    #[tactic(auto, unfolding(crate::specs::Rows::record_code))]
+    fn code_text(&self, alloc: Global) -> Result<Bytes, OutOfMemory> {
+        code_bytes(alloc, &self.code)
+    }
+
+    #[tactic(auto, unfolding(crate::specs::RowTexts::body_text, crate::specs::RowTexts::body_fields))]
+    fn body_text(&self, alloc: Global) -> Result<Bytes, OutOfMemory> {
+        let text = text_of(alloc, self)?;
+        Ok(Bytes::from(text.into_bytes()))
+    }
+}
+
+/// The text of a material.
+fn text_of(alloc: Global, row: &MaterialRow) -> Result<String, AllocError>
+    ensures { IfOk result (λ text. string_bytes text ≡ joined (version ∷ material_row_fields row.now)) }
+{
+    let (supplier, number, day, name, mass) = (
+        &row.supplier,
+        row.number,
+        row.day,
+        &row.name,
+        row.mass,
+    );
+    let mut text = format!(in alloc; "1\t{supplier}\t{number}\t{day}\t{name}\t{mass}")?;
+    push_substances(alloc, &mut text, row.substances.as_slice())?;
+    push_claims(alloc, &mut text, row.claims.as_slice())?;
+    Ok(text)
 }

@@ -1,8 +1,9 @@
 ghost use Rattle.desk_law.specs.Rule.{rule_number};
 
+use crate::{TableName, TableRow, pair_code};
 use desk_law::Rule;
 use desk_rows::{Grouped, Keyed};
-use desk_text::{Code, OutOfMemory};
+use desk_text::{Bytes, Code, OutOfMemory};
 use std::alloc::Global;
 use std::cmp::Ordering;
 
@@ -32,6 +33,34 @@ impl Keyed for MemberRow {
 
     fn copied(&self, _alloc: Global) -> Result<MemberRow, OutOfMemory> {
         Ok(*self)
+    }
+}
+
+impl TableRow for MemberRow {
+    ghost use Rattle.desk_model.specs.declared.row.Row.TheVariants.{Member};
+    ghost use Rattle.desk_model.specs.declared.table_name.TableName.TheVariants.{Members};
+
+    ghost as_row = { Member };
+
+    ghost table = { Members };
+
+    fn table() -> TableName {
+        TableName::Members
+    }
+
+    #[tactic(auto, unfolding(crate::specs::Rows::record_code))]
+    fn code_text(&self, alloc: Global) -> Result<Bytes, OutOfMemory> {
+        pair_code(
+            alloc,
+            self.substance.as_bytes(),
+            self.rule.code().as_bytes(),
+        )
+    }
+
+    #[tactic(auto, unfolding(crate::specs::RowTexts::body_text, crate::specs::RowTexts::body_fields))]
+    fn body_text(&self, alloc: Global) -> Result<Bytes, OutOfMemory> {
+        let text = format!(in alloc; "1\t{}", self.factor)?;
+        Ok(Bytes::from(text.into_bytes()))
     }
 }
 

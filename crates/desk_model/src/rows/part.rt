@@ -1,6 +1,6 @@
-use crate::PartSort;
+use crate::{PartSort, TableName, TableRow, code_bytes};
 use desk_rows::Keyed;
-use desk_text::{Code, Name, OutOfMemory};
+use desk_text::{Bytes, Code, Name, OutOfMemory};
 use std::alloc::Global;
 use std::cmp::Ordering;
 
@@ -34,5 +34,29 @@ impl Keyed for PartRow {
             sort: self.sort,
             name: self.name.clone()?,
         })
+    }
+}
+
+impl TableRow for PartRow {
+    ghost use Rattle.desk_model.specs.declared.row.Row.TheVariants.{Part};
+    ghost use Rattle.desk_model.specs.declared.table_name.TableName.TheVariants.{Parts};
+
+    ghost as_row = { Part };
+
+    ghost table = { Parts };
+
+    fn table() -> TableName {
+        TableName::Parts
+    }
+
+    #[tactic(auto, unfolding(crate::specs::Rows::record_code))]
+    fn code_text(&self, alloc: Global) -> Result<Bytes, OutOfMemory> {
+        code_bytes(alloc, &self.code)
+    }
+
+    #[tactic(auto, unfolding(crate::specs::RowTexts::body_text, crate::specs::RowTexts::body_fields))]
+    fn body_text(&self, alloc: Global) -> Result<Bytes, OutOfMemory> {
+        let text = format!(in alloc; "1\t{}\t{}", self.sort, self.name)?;
+        Ok(Bytes::from(text.into_bytes()))
     }
 }

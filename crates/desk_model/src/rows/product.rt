@@ -1,6 +1,7 @@
+use crate::{TableName, TableRow, code_bytes};
 use desk_law::Kind;
 use desk_rows::Keyed;
-use desk_text::{Code, OutOfMemory};
+use desk_text::{Bytes, Code, OutOfMemory};
 use std::alloc::Global;
 use std::cmp::Ordering;
 
@@ -28,5 +29,29 @@ impl Keyed for ProductRow {
 
     fn copied(&self, _alloc: Global) -> Result<ProductRow, OutOfMemory> {
         Ok(*self)
+    }
+}
+
+impl TableRow for ProductRow {
+    ghost use Rattle.desk_model.specs.declared.row.Row.TheVariants.{Product};
+    ghost use Rattle.desk_model.specs.declared.table_name.TableName.TheVariants.{Products};
+
+    ghost as_row = { Product };
+
+    ghost table = { Products };
+
+    fn table() -> TableName {
+        TableName::Products
+    }
+
+    #[tactic(auto, unfolding(crate::specs::Rows::record_code))]
+    fn code_text(&self, alloc: Global) -> Result<Bytes, OutOfMemory> {
+        code_bytes(alloc, &self.part)
+    }
+
+    #[tactic(auto, unfolding(crate::specs::RowTexts::body_text, crate::specs::RowTexts::body_fields))]
+    fn body_text(&self, alloc: Global) -> Result<Bytes, OutOfMemory> {
+        let text = format!(in alloc; "1\t{}", self.kind)?;
+        Ok(Bytes::from(text.into_bytes()))
     }
 }

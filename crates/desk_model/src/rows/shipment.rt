@@ -1,5 +1,6 @@
+use crate::{TableName, TableRow, pair_code};
 use desk_rows::{Grouped, Keyed};
-use desk_text::{Code, OutOfMemory};
+use desk_text::{Bytes, Code, OutOfMemory};
 use std::alloc::Global;
 use std::cmp::Ordering;
 
@@ -29,6 +30,31 @@ impl Keyed for ShipmentRow {
 
     fn copied(&self, _alloc: Global) -> Result<ShipmentRow, OutOfMemory> {
         Ok(*self)
+    }
+}
+
+impl TableRow for ShipmentRow {
+    ghost use Rattle.desk_model.specs.declared.row.Row.TheVariants.{Shipment};
+    ghost use Rattle.desk_model.specs.declared.table_name.TableName.TheVariants.{Shipments};
+
+    ghost as_row = { Shipment };
+
+    ghost table = { Shipments };
+
+    fn table() -> TableName {
+        TableName::Shipments
+    }
+
+    #[tactic(auto, unfolding(crate::specs::Rows::record_code))]
+    fn code_text(&self, alloc: Global) -> Result<Bytes, OutOfMemory> {
+        let year = format!(in alloc; "{}", self.year)?;
+        pair_code(alloc, year.as_bytes(), self.product.as_bytes())
+    }
+
+    #[tactic(auto, unfolding(crate::specs::RowTexts::body_text, crate::specs::RowTexts::body_fields))]
+    fn body_text(&self, alloc: Global) -> Result<Bytes, OutOfMemory> {
+        let text = format!(in alloc; "1\t{}", self.units)?;
+        Ok(Bytes::from(text.into_bytes()))
     }
 }
 

@@ -1,3 +1,4 @@
+use crate::{TableName, TableRow};
 use desk_rows::Keyed;
 use desk_text::{Bytes, OutOfMemory};
 use std::alloc::Global;
@@ -33,5 +34,31 @@ impl Keyed for TicketRow {
             number: self.number,
             text: self.text.copied(alloc)?,
         })
+    }
+}
+
+impl TableRow for TicketRow {
+    ghost use Rattle.desk_model.specs.declared.row.Row.TheVariants.{Ticket};
+    ghost use Rattle.desk_model.specs.declared.table_name.TableName.TheVariants.{Tickets};
+
+    ghost as_row = { Ticket };
+
+    ghost table = { Tickets };
+
+    fn table() -> TableName {
+        TableName::Tickets
+    }
+
+    #[tactic(auto, unfolding(crate::specs::Rows::record_code))]
+    fn code_text(&self, alloc: Global) -> Result<Bytes, OutOfMemory> {
+        self.code.copied(alloc)
+    }
+
+    #[tactic(auto, unfolding(crate::specs::RowTexts::body_text, crate::specs::RowTexts::body_fields))]
+    fn body_text(&self, alloc: Global) -> Result<Bytes, OutOfMemory> {
+        let head = format!(in alloc; "1\t{}\t", self.number)?;
+        let mut text = Bytes::from(head.into_bytes());
+        text.push_all(self.text.as_slice())?;
+        Ok(text)
     }
 }

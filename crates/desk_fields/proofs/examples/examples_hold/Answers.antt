@@ -6,7 +6,7 @@ use Rattle.desk_law.specs.Annex.{annex_number}
 use Rattle.desk_law.specs.Kind.{kind_code}
 use Rattle.desk_law.specs.KindSet.{kinds_text}
 use Rattle.desk_law.specs.Rule.{rule_code}
-use Rattle.desk_fields.specs.RowTexts.{body_fields, body_text}
+use Rattle.desk_model.specs.RowTexts.{body_fields, body_text}
 use Rattle.desk_fields.proofs.examples.examples_hold.Goals as goal
 
 pub returns : goal.returns

@@ -3,8 +3,8 @@ use Rattle.std.proofs.Common.{List, ℕ, [], ◌∷◌, ◌++◌, ◌∙◌, ap,
 use Rattle.desk_text.specs.Day.{date_text}
 use Rattle.desk_model.specs.EditText.{claim_fields, substance_fields, tabbed}
 use Rattle.desk_model.proofs.TextFields.{joined_more}
-use Rattle.desk_fields.specs.RowTexts.{version}
-use Rattle.desk_fields.proofs.write_row.material_body.Goals as goal
+use Rattle.desk_model.specs.RowTexts.{version}
+use Rattle.desk_model.proofs.rows.material.text_of.Goals as goal
 
 pub returns : goal.returns
 returns c =
