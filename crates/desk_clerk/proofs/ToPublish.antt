@@ -4,7 +4,6 @@ use Rattle.std.specs.Prelude.{fold, is_some, not, Bool, false, OnErr, OnOk, Resu
 use mathlib.Core.List.{IsPrefix}
 use Rattle.desk_clerk.specs.Clerk.{list_from}
 use Rattle.desk_clerk.specs.Published.{added_to_list, if_new, waiting_edit}
-use Rattle.desk_records.proofs.Few.{tickets_fit}
 use Rattle.desk_clerk.proofs.Growing.{Grows, after_on, folds, grows_at, history_on}
 use Rattle.desk_publish.proofs.Prefixes.{prefix_length, prefix_trans}
 use Rattle.desk_history.specs.History.{AreAccepted, IsAccepted, IsHistory, after, tables_after}
@@ -13,12 +12,14 @@ use Rattle.desk_history.specs.Sound.{Sound}
 use Rattle.desk_history.specs.Step.{kept_number, step}
 use Rattle.desk_history.proofs.Histories.{accepted-at, tickets-tables_after}
 use Rattle.desk_history.proofs.SoundSteps.{Sound-tables_after}
+use Rattle.desk_history.proofs.TableLimits.{within_limit}
 use Rattle.desk_history.proofs.Steps.{step-accepted, step-kept, step-refused}
 use Rattle.desk_model.specs.Forms.{is_edit_in_form}
 use Rattle.desk_model.specs.Lists.{Lists, number_at}
 use Rattle.desk_model.specs.declared.edit.Edit.{Edit}
 use Rattle.desk_model.specs.declared.limits.TheConstants.{TICKET_LIMIT}
 use Rattle.desk_model.specs.declared.rule_fault.RuleFault.{RuleFault}
+use Rattle.desk_model.specs.declared.table_name.TableName.TheVariants.{Tickets}
 
 -- the state of a board after a list
 abbrev pub state_after : Lists → List Edit → Lists
@@ -41,7 +42,8 @@ stays_small opening edits edit h =
     let one = adds_one opening edits edit h in
     let same : number_at (step (state_after opening edits) edit).1 ≡ number_at (tables_after opening (edits ++ edit ∷ [])) =
     ap (λ u. number_at (step u edit).1) (folds opening edits) ∙ ap number_at (sym (after_on opening edits (edit ∷ []))) in
-    let few = tickets_fit (tables_after opening (edits ++ edit ∷ [])) (Sound-tables_after opening (edits ++ edit ∷ []) h.sound h.accepted) in
+    let left = tables_after opening (edits ++ edit ∷ []) in
+    let few : number_at left ≤ TICKET_LIMIT = within_limit left (Sound-tables_after opening (edits ++ edit ∷ []) h.sound h.accepted).limits.tables_fit Tickets in
     omega (arith, one, same, few)
 
 -- a number that stays tells an edit that adds nothing, and one that doesn't one that adds itself

@@ -12,7 +12,7 @@ use Rattle.desk_rows.specs.Rows.{row_of, with_row}
 use Rattle.desk_rows.proofs.Lookups.{length-with_row-ge, row_of-with_row_other}
 use Rattle.desk_model.specs.declared.edit.Edit.{Edit}
 use Rattle.desk_model.specs.declared.edit.Edit.TheVariants.{Substance, Member, Declare, Part, Line, Unline, Product, Exemption, Unexempt, Candidate, Ship, Unship}
-use Rattle.desk_model.specs.declared.limits.TheConstants.{CANDIDATE_LIMIT}
+use Rattle.desk_model.specs.declared.table_name.TableName.TheVariants.{Candidates}
 use Rattle.desk_model.specs.declared.rows.candidate.CandidateRow.{CandidateRow}
 use Rattle.desk_model.specs.Effect.{with_edit_entered, with_edit_made, units_of, with_factor, with_units}
 use Rattle.desk_model.specs.Forms.{is_candidate_row}
@@ -22,7 +22,8 @@ use Rattle.desk_model.proofs.Elements.{each_from_all, each_map}
 use Rattle.desk_model.proofs.Kept.{code_cmp_total, kept_each, same_code-true, same_code-from}
 use Rattle.desk_findings.specs.Above.{is_candidate}
 use Rattle.desk_history.specs.History.{PassesRows}
-use Rattle.desk_history.specs.Limits.{if_over, tables_over}
+use Rattle.desk_history.specs.Limits.{tables_over}
+use Rattle.desk_history.proofs.TableLimits.{within_limit}
 use Rattle.desk_history.specs.Sound.{IsConsistent, Sound}
 use Rattle.desk_history.proofs.SoundClauses.{forms_of}
 use Rattle.desk_history.proofs.SoundSteps.{IsConsistent-entered}
@@ -116,24 +117,8 @@ length-new key cmp new (row ∷ rows) e =
     some_none h = cc
 
 -- tables that keep their limits have few candidates
-none_of_both : {X : Type 0} (xs ys : List X) → xs ++ ys ≡ [] → (xs ≡ []) × (ys ≡ [])
-none_of_both [] ys e = (refl, e)
-none_of_both (x ∷ xs) ys e = cc
-
-not_over : (table limit count : ℕ) → if_over table limit count ≡ [] → count ≤ limit
-not_over table limit count e = within (nat_lt limit count) refl e
-  where
-    within : (b : Bool) → nat_lt limit count ≡ b → (if b then table ∷ [] else []) ≡ [] → count ≤ limit
-    within true over h = cc
-    within false fits h = ltb-false limit count fits
-
 few_candidates : (t : Lists) → tables_over t ≡ [] → length t.candidates ≤ 1024
-unfolding tables_over
-few_candidates t e =
-    let before11 = (none_of_both _ _ e).0 in
-    let before10 = (none_of_both _ _ before11).0 in
-    let before9 = (none_of_both _ _ before10).0 in
-    not_over 8 CANDIDATE_LIMIT (length t.candidates) (none_of_both _ _ before9).1
+few_candidates t e = within_limit t e Candidates
 
 module _ (t : Lists) (s : Sound t) (ticket substance : List ℕ) (day : Date) (passes : PassesRows t (Candidate ticket substance day)) (names : List (List ℕ)) (named : AreFewNames t names) where
   after_candidate : (other : List ℕ) → is_candidate (with_edit_entered t (Candidate ticket substance day)) other ≡ true → (is_candidate t other ≡ true) ⊎ (substance ≡ other)

@@ -62,15 +62,10 @@ use Rattle.desk_model.specs.declared.row.Row.TheVariants as row
 use Rattle.desk_model.specs.Rows.{record_code, rows_of, table_number}
 use Rattle.desk_findings.proofs.Bill.{chain-step}
 use Rattle.desk_findings.proofs.Loads.{mass-step}
+use Rattle.desk_history.proofs.Unsound.{heavy_breaks}
 use Rattle.desk_history.specs.History.{PassesRows}
 use Rattle.desk_history.specs.Sound.{IsConsistent}
-use Rattle.std.specs.Prelude.{◌^◌, ◌&&◌, ◌||◌, nat_le, nat_lt, not}
-use Rattle.std.proofs.lemmas.Bool.{or_left, or_right}
 use Rattle.desk_model.specs.declared.rows.part.PartRow.{PartRow}
-use Rattle.desk_model.specs.Forms.{is_part_row}
-use Rattle.desk_model.specs.Lists.{is_material}
-use Rattle.desk_findings.specs.Mass.{mass}
-use Rattle.desk_history.specs.Breaches.{breaks_part, is_overfull}
 use Rattle.desk_history.proofs.SoundClauses.{bill_of, parents_of}
 use Rattle.desk_history.proofs.Unaffected.{mass_stays}
 
@@ -392,13 +387,6 @@ seventh_passes = record { in_form = refl; is_new = refl; by_rows = refl; by_cycl
 too_high_consistent : IsConsistent too_high
 too_high_consistent = IsConsistent-entered tower seventh sound_tower.consistent seventh_passes
 
-heavy_part : (t : Lists) (row : PartRow) → nat_le (2 ^ 128) (mass t row.code) ≡ true → breaks_part t row ≡ true
-heavy_part t row h =
-    let found = has_too_many_findings t && nat_lt 0 (length (findings t row.code)) in
-    let named = not (is_part_row row) || is_material t row.code in
-    or_left (named || nat_le (2 ^ 128) (mass t row.code) || found) (is_overfull t 4)
-    (or_left (named || nat_le (2 ^ 128) (mass t row.code)) found (or_right named (nat_le (2 ^ 128) (mass t row.code)) h))
-
 pub tower_examples : TowerExamples
 unfolding examples
 tower_examples = record {
@@ -406,7 +394,7 @@ tower_examples = record {
   consistent = too_high_consistent;
   bill = bill_of too_high too_high_consistent;
   unsound = λ s. true≢false (ap is_some s.sums.parts_fit);
-  told = (28, row.Part (record { code = codes "L7"; sort = Assembly; name = codes "L7" }), omega arith, refl, (refl, refl, heavy_part too_high (record { code = codes "L7"; sort = Assembly; name = codes "L7" }) refl));
+  told = (28, row.Part (record { code = codes "L7"; sort = Assembly; name = codes "L7" }), omega arith, refl, (refl, refl, heavy_breaks too_high (record { code = codes "L7"; sort = Assembly; name = codes "L7" }) refl));
   by_lines = mass-step too_high (bill_of too_high too_high_consistent) (codes "L7");
   by_next = chain-step too_high (parents_of too_high too_high_consistent) too_high_consistent.acyclic (codes "U") (codes "L7");
   heavy = refl;

@@ -3,6 +3,7 @@ pub mod Beginnings
 pub mod ChangedTables
 pub mod ExampleProofs
 pub mod FindingSums
+pub mod FitRows
 pub mod SoundClauses
 pub mod Histories
 pub mod Listing
@@ -16,6 +17,7 @@ pub mod SoundSteps
 pub mod NamesKept
 pub mod StartForms
 pub mod Steps
+pub mod TableLimits
 pub mod Unaffected
 pub mod Unsound
 pub mod Untouched

@@ -1,7 +1,6 @@
 -- By which row an unsound desk is told: each clause of soundness names a row that breaks it.
 use Rattle.std.specs.Prelude.{◌≡◌, ℕ, ◌^◌, Bool, true, not, ◌&&◌, ◌||◌, ◌==◌, ◌⊎◌, List, count_by, length, nat_le, nat_lt}
-use Rattle.std.specs.List.{Any, list_all, list_any}
-use Rattle.desk_model.specs.declared.limits.TheConstants.{LINES_OF_PARENT_LIMIT}
+use Rattle.std.specs.List.{Any}
 use Rattle.desk_model.specs.declared.row.Row.{Row}
 use Rattle.desk_model.specs.declared.row.Row.TheVariants.{Substance, Member, Material, Part, Line, Product, Exemption, Candidate, Shipment, Ticket}
 use Rattle.desk_model.specs.declared.rows.substance.SubstanceRow.{SubstanceRow}
@@ -14,77 +13,58 @@ use Rattle.desk_model.specs.declared.rows.exemption.ExemptionRow.{ExemptionRow}
 use Rattle.desk_model.specs.declared.rows.candidate.CandidateRow.{CandidateRow}
 use Rattle.desk_model.specs.declared.rows.shipment.ShipmentRow.{ShipmentRow}
 use Rattle.desk_model.specs.declared.rows.ticket.TicketRow.{TicketRow}
-use Rattle.desk_model.specs.Content.{holds_too_much}
-use Rattle.desk_model.specs.Forms.{is_candidate_row, is_exemption_row, is_line_row, is_material_row, is_member_row}
-use Rattle.desk_model.specs.Forms.{is_part_row, is_product_row, is_shipment_row, is_substance_row}
-use Rattle.desk_model.specs.Lists.{Lists, is_material, is_part, is_product, is_substance}
+use Rattle.desk_model.specs.declared.table_name.TableName.TheVariants.{Substances, Members, Materials, Parts, Lines, Products, Exemptions, Candidates, Shipments, Tickets}
+use Rattle.desk_model.specs.Lists.{Lists}
 use Rattle.desk_model.specs.Rows.{record_code, rows_of, table_number}
-use Rattle.desk_model.specs.Terms.{breaks_annex, breaks_span}
-use Rattle.desk_findings.specs.Bill.{has_right_child}
 use Rattle.desk_findings.specs.Findings.{findings}
 use Rattle.desk_findings.specs.Mass.{mass}
-use Rattle.desk_findings.specs.Reaches.{is_or_reaches, lines_of}
+use Rattle.desk_findings.specs.Reaches.{is_or_reaches}
 use Rattle.desk_findings.specs.Totals.{has_too_many_findings, year_mass}
-use Rattle.desk_history.specs.Limits.{has_too_much_text, tables_over}
+use Rattle.desk_history.specs.Fits.{fits_candidate, fits_exemption, fits_line, fits_material, fits_member, fits_part, fits_product}
+use Rattle.desk_history.specs.Fits.{fits_shipment, fits_substance}
+use Rattle.desk_history.specs.Limits.{has_too_much_text, is_overfull}
 use Rattle.desk_history.specs.Sound.{IsTicketOfEdit}
 
--- the table of this number holds more rows than it may
-abbrev pub is_overfull : Lists → ℕ → Bool
-is_overfull t table = list_any (λ over. over == table) (tables_over t)
-
--- a row of table 1 breaks a clause of soundness: it is out of form or range, or its table has too many rows; each row below is
--- tested for both too
+-- a row of table 1 breaks a clause of soundness: it doesn't keep what it has to by itself, or its table has too many rows; each row
+-- below is tested for both too
 abbrev pub breaks_substance : Lists → SubstanceRow → Bool
-breaks_substance t row = not (is_substance_row row) || is_overfull t 1
+breaks_substance t row = not (fits_substance t row) || is_overfull t Substances
 
--- a row of table 2 breaks a clause: its substance isn't kept
+-- a row of table 2 breaks a clause
 abbrev pub breaks_member : Lists → MemberRow → Bool
-breaks_member t row = not (is_member_row row) || not (is_substance t row.substance) || is_overfull t 2
+breaks_member t row = not (fits_member t row) || is_overfull t Members
 
--- a row of table 3 breaks a clause: a substance that it lists isn't kept, or its substances weigh more than it
+-- a row of table 3 breaks a clause
 abbrev pub breaks_material : Lists → MaterialRow → Bool
-breaks_material t row =
-    not (is_material_row row)
-    || not (list_all (λ held. is_substance t held.substance) row.substances)
-    || holds_too_much row.mass row.substances
-    || is_overfull t 3
+breaks_material t row = not (fits_material t row) || is_overfull t Materials
 
--- a row of table 4 breaks a clause: it has the code of a material or is too heavy; or it has findings, where all parts
--- have too many
+-- a row of table 4 breaks a clause: it is too heavy, or it has findings, where all parts have too many
 abbrev pub breaks_part : Lists → PartRow → Bool
 breaks_part t row =
-    not (is_part_row row)
-    || is_material t row.code
+    not (fits_part t row)
     || nat_le (2 ^ 128) (mass t row.code)
     || has_too_many_findings t && nat_lt 0 (length (findings t row.code))
-    || is_overfull t 4
+    || is_overfull t Parts
 
--- a row of table 5 breaks a clause: its child is of the wrong sort or isn't kept, it is on a cycle, or its parent has
--- too many lines
+-- a row of table 5 breaks a clause: it is on a cycle
 abbrev pub breaks_line : Lists → LineRow → Bool
-breaks_line t row =
-    not (is_line_row row)
-    || not (has_right_child t row)
-    || is_or_reaches t row.child row.parent
-    || nat_lt LINES_OF_PARENT_LIMIT (length (lines_of t.lines row.parent))
-    || is_overfull t 5
+breaks_line t row = not (fits_line t row) || is_or_reaches t row.child row.parent || is_overfull t Lines
 
--- a row of table 6 breaks a clause: its part is no kept part
+-- a row of table 6 breaks a clause
 abbrev pub breaks_product : Lists → ProductRow → Bool
-breaks_product t row = not (is_product_row row) || not (is_part t row.part) || is_overfull t 6
+breaks_product t row = not (fits_product t row) || is_overfull t Products
 
--- a row of table 7 breaks a clause: it ends before it begins, has a floor over its cap, or names a kind that its annex
--- isn't for
+-- a row of table 7 breaks a clause
 abbrev pub breaks_exemption : Lists → ExemptionRow → Bool
-breaks_exemption t row = not (is_exemption_row row) || breaks_span row.terms || breaks_annex row.terms || is_overfull t 7
+breaks_exemption t row = not (fits_exemption t row) || is_overfull t Exemptions
 
--- a row of table 8 breaks a clause: its substance isn't kept
+-- a row of table 8 breaks a clause
 abbrev pub breaks_candidate : Lists → CandidateRow → Bool
-breaks_candidate t row = not (is_candidate_row row) || not (is_substance t row.substance) || is_overfull t 8
+breaks_candidate t row = not (fits_candidate t row) || is_overfull t Candidates
 
--- a row of table 9 breaks a clause: it is of what is no product, or of a year that is too heavy
+-- a row of table 9 breaks a clause: it is of a year that is too heavy
 abbrev pub breaks_shipment : Lists → ShipmentRow → Bool
-breaks_shipment t row = not (is_shipment_row row) || not (is_product t row.product) || nat_le (2 ^ 128) (year_mass t row.year) || is_overfull t 9
+breaks_shipment t row = not (fits_shipment t row) || nat_le (2 ^ 128) (year_mass t row.year) || is_overfull t Shipments
 
 -- the number is one of 1 to n, n the number of tickets, and stands at one of them alone
 abbrev pub is_number_once : List TicketRow → ℕ → Bool
@@ -93,7 +73,7 @@ is_number_once tickets number =
 
 -- a row of table 10 breaks a clause: its number isn't one of 1 to n or stands twice, or the texts are too long together
 abbrev pub breaks_ticket : Lists → TicketRow → Bool
-breaks_ticket t row = not (is_number_once t.tickets row.number) || has_too_much_text t || is_overfull t 10
+breaks_ticket t row = not (is_number_once t.tickets row.number) || has_too_much_text t || is_overfull t Tickets
 
 -- the row breaks a clause of soundness; a ticket also where it is that of no edit
 abbrev pub Breaks : Lists → Row → Type 0

@@ -1,6 +1,7 @@
 pub mod Affected
 pub mod Breaches
 pub mod Examples
+pub mod Fits
 pub mod History
 pub mod Laws
 pub mod Limits
