@@ -9,7 +9,7 @@ use Rattle.desk_text.proofs.CodeLemmas.{same_code_itself}
 use Rattle.desk_rows.specs.Rows.{IsByKey, row_of, with_row, without_row}
 use Rattle.desk_rows.proofs.Lookups.{each_with_row, filter-with_row}
 use Rattle.desk_rows.proofs.Order.{AllAbove-down, first_above, less_back, rest_by_key, row_of-above}
-use Rattle.desk_model.specs.declared.limits.TheConstants.{LINES_OF_PARENT_LIMIT, TICKET_LIMIT}
+use Rattle.desk_model.specs.declared.limits.TheConstants.{LINES_OF_PARENT_LIMIT}
 use Rattle.desk_model.specs.declared.rows.line.LineRow.{LineRow}
 use Rattle.desk_model.specs.declared.rows.part.PartRow.{PartRow}
 use Rattle.desk_model.specs.declared.rows.ticket.TicketRow.{TicketRow}
@@ -18,7 +18,8 @@ use Rattle.desk_model.proofs.Elements.{any_none, each, none_from_any}
 use Rattle.desk_model.proofs.Kept.{kept_each, line_key_cmp_total, same_code-true}
 use Rattle.desk_findings.specs.Reaches.{lines_of}
 use Rattle.desk_findings.proofs.Bill.{lines_of-none}
-use Rattle.desk_history.specs.Limits.{has_too_many_lines, if_over, tables_over}
+use Rattle.desk_history.specs.Limits.{has_too_many_lines}
+use Rattle.desk_history.proofs.TableLimits.{few_of_parents}
 use Rattle.desk_history.specs.Sound.{Sound}
 use Rattle.desk_history.proofs.SoundClauses.{parents_of}
 use Rattle.desk_tables.specs.Change.{with_change_made}
@@ -72,24 +73,6 @@ count_kept new lines h kept = let count = parent_count new lines h in omega (ari
 
 pub count_new : (new : LineRow) (lines : List LineRow) → IsByKey line_key line_key_cmp lines → is_some (row_of line_key line_key_cmp (line_key new) lines) ≡ false → length (lines_of lines new.parent) + 1 ≡ length (lines_of (with_row line_key line_key_cmp new lines) new.parent)
 count_new new lines h absent = let count = parent_count new lines h in omega (arith, rw absent at count)
-
--- a list whose end is no list
-last_empty : (xs ys : List ℕ) → xs ++ ys ≡ [] → ys ≡ []
-last_empty [] ys e = e
-last_empty (x ∷ xs) ys e = cc
-
-listed_if : Bool → List ℕ
-listed_if b = if b then 11 ∷ [] else []
-
-not_listed : (b : Bool) → listed_if b ≡ [] → b ≡ false
-unfolding listed_if
-not_listed true e = cc
-not_listed false e = refl
-
--- tables within their limits have no part with too many lines
-pub none_too_many : (t : Lists) → tables_over t ≡ [] → has_too_many_lines t ≡ false
-unfolding tables_over listed_if
-none_too_many t e = not_listed (has_too_many_lines t) (last_empty _ _ e)
 
 -- no part has too many lines where each list of lines is as long as it was, or shorter
 shorter : (lines fewer : List LineRow) → ((code : List ℕ) → length (lines_of fewer code) ≤ length (lines_of lines code)) → (parts : List PartRow) → list_any (λ part. nat_lt LINES_OF_PARENT_LIMIT (length (lines_of lines part.code))) parts ≡ false → list_any (λ part. nat_lt LINES_OF_PARENT_LIMIT (length (lines_of fewer part.code))) parts ≡ false
@@ -154,7 +137,7 @@ line_overflows new lines (part ∷ parts) h =
 module _ (t : Lists) (s : Sound t) where
   none_over : are_over t.lines t.parts ≡ false
   unfolding are_over
-  none_over = none_too_many t s.limits.tables_fit
+  none_over = few_of_parents t s.limits.tables_fit
 
   -- no code has too many lines in sound tables: what is no part has none
   any_code : (code : List ℕ) → is_over_at t.lines code ≡ false
@@ -195,19 +178,3 @@ module _ (t : Lists) (s : Sound t) where
 -- a change that no ticket touches
 pub lines_of_entered : (t : Lists) (made : RowChange) (ticket : TicketRow) → has_too_many_lines (with_change_entered t made ticket) ≡ has_too_many_lines (with_change_made t made)
 lines_of_entered t made ticket = refl
-
-first_empty : (xs ys : List ℕ) → xs ++ ys ≡ [] → xs ≡ []
-first_empty [] ys e = refl
-first_empty (x ∷ xs) ys e = cc
-
-within_limit : (table limit count : ℕ) → if_over table limit count ≡ [] → count ≤ limit
-within_limit table limit count e = by_test (nat_lt limit count) refl e
-  where
-    by_test : (b : Bool) → nat_lt limit count ≡ b → (if b then table ∷ [] else []) ≡ [] → count ≤ limit
-    by_test true t e = cc
-    by_test false t e = ltb-false limit count t
-
--- tables within their limits have no more tickets than theirs
-pub tickets_fit : (t : Lists) → tables_over t ≡ [] → length t.tickets ≤ TICKET_LIMIT
-unfolding tables_over
-tickets_fit t e = within_limit 10 TICKET_LIMIT (length t.tickets) (last_empty _ _ (first_empty _ _ e))

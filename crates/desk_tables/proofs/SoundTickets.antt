@@ -5,11 +5,12 @@ use Rattle.std.specs.List.{AllByRecursion, list_all}
 use Rattle.std.proofs.lemmas.Bool.{false≢true, le-ltb, or_cases, or_left, or_parts, or_right}
 use Rattle.desk_model.specs.declared.limits.TheConstants.{TICKET_LIMIT}
 use Rattle.desk_model.specs.declared.rows.ticket.TicketRow.{TicketRow}
+use Rattle.desk_model.specs.declared.table_name.TableName.TheVariants.{Tickets}
 use Rattle.desk_model.specs.Lists.{Lists}
-use Rattle.desk_history.specs.Breaches.{is_number_once, is_overfull}
-use Rattle.desk_history.specs.Limits.{has_too_much_text}
+use Rattle.desk_history.specs.Breaches.{is_number_once}
+use Rattle.desk_history.specs.Limits.{has_too_much_text, is_overfull}
 use Rattle.desk_history.specs.Sound.{IsTicketOfEdit}
-use Rattle.desk_history.proofs.Unsound.{full10, no_text}
+use Rattle.desk_history.proofs.Unsound.{no_text}
 use Rattle.desk_tables.specs.Soundness.{AreTicketsGood, IsTicketBroken}
 
 one_of : (once : Bool) (text full : Bool) → (text || full) ≡ true → (not once || text || full) ≡ true
@@ -28,12 +29,12 @@ one_of once false full e = by once full e
 pub first_broken : (t : Lists) → (nat_lt TICKET_LIMIT (length t.tickets) || has_too_much_text t) ≡ true → IsTicketBroken t 0
 first_broken t e = (
   some t.tickets refl,
-  λ d. inl (one_of (is_number_once t.tickets (get_or t.tickets 0 d).number) (has_too_much_text t) (is_overfull t 10) (either (or_cases (nat_lt TICKET_LIMIT (length t.tickets)) (has_too_much_text t) e))),
+  λ d. inl (one_of (is_number_once t.tickets (get_or t.tickets 0 d).number) (has_too_much_text t) (is_overfull t Tickets) (either (or_cases (nat_lt TICKET_LIMIT (length t.tickets)) (has_too_much_text t) e))),
 )
   where
-    either : (nat_lt TICKET_LIMIT (length t.tickets) ≡ true) ⊎ (has_too_much_text t ≡ true) → (has_too_much_text t || is_overfull t 10) ≡ true
-    either (inl many) = or_right (has_too_much_text t) (is_overfull t 10) (full10 t many)
-    either (inr much) = or_left (has_too_much_text t) (is_overfull t 10) much
+    either : (nat_lt TICKET_LIMIT (length t.tickets) ≡ true) ⊎ (has_too_much_text t ≡ true) → (has_too_much_text t || is_overfull t Tickets) ≡ true
+    either (inl many) = or_right (has_too_much_text t) (is_overfull t Tickets) many
+    either (inr much) = or_left (has_too_much_text t) (is_overfull t Tickets) much
 
     some : (tickets : List TicketRow) → t.tickets ≡ tickets → 0 < length t.tickets
     some [] is =
@@ -50,7 +51,7 @@ first_bad false b c e = refl
 pub odd_broken : (t : Lists) (tickets : List TicketRow) (place : ℕ) → tickets ≡ t.tickets → (place < length tickets) × ((d : TicketRow) → is_number_once tickets (get_or tickets place d).number ≡ false) → IsTicketBroken t place
 odd_broken t tickets place same odd =
     let there = subst (λ all. (place < length all) × ((d : TicketRow) → is_number_once all (get_or all place d).number ≡ false)) same odd in
-    (there.0, λ d. inl (first_bad (is_number_once t.tickets (get_or t.tickets place d).number) (has_too_much_text t) (is_overfull t 10) (there.1 d)))
+    (there.0, λ d. inl (first_bad (is_number_once t.tickets (get_or t.tickets place d).number) (has_too_much_text t) (is_overfull t Tickets) (there.1 d)))
 
 pub no_edit_broken : (t : Lists) (tickets : List TicketRow) (place : ℕ) → tickets ≡ t.tickets → (place < length tickets) × ((d : TicketRow) → IsTicketOfEdit (get_or tickets place d) → ⊥) → IsTicketBroken t place
 no_edit_broken t tickets place same none =

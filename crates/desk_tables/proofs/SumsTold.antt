@@ -5,21 +5,22 @@ use Rattle.std.specs.List.{list_any}
 use Rattle.std.proofs.lemmas.Bool.{and_from, and_parts, cases_Bool, or_left, or_right, true≢false}
 use Rattle.std.proofs.lemmas.Bool.Decides.{nat_tests}
 use Rattle.desk_text.specs.Code.{same_code}
-use Rattle.desk_model.specs.declared.limits.TheConstants.{LINES_OF_PARENT_LIMIT}
 use Rattle.desk_model.specs.declared.row.Row.TheVariants.{Line, Shipment}
 use Rattle.desk_model.specs.declared.rows.line.LineRow.{LineRow}
 use Rattle.desk_model.specs.declared.rows.part.PartRow.{PartRow}
 use Rattle.desk_model.specs.declared.rows.shipment.ShipmentRow.{ShipmentRow}
-use Rattle.desk_model.specs.Forms.{is_line_row, is_part_row, is_shipment_row}
-use Rattle.desk_model.specs.Lists.{Lists, is_material, is_part, is_product}
+use Rattle.desk_model.specs.declared.table_name.TableName.TheVariants.{Lines, Parts, Shipments}
+use Rattle.desk_model.specs.Lists.{Lists, is_part}
 use Rattle.desk_model.proofs.Elements.{any_map, each}
 use Rattle.desk_model.proofs.Kept.{kept_any, same_code-from}
-use Rattle.desk_findings.specs.Bill.{has_right_child}
 use Rattle.desk_findings.specs.Findings.{findings}
 use Rattle.desk_findings.specs.Mass.{mass}
-use Rattle.desk_findings.specs.Reaches.{is_or_reaches, lines_of}
+use Rattle.desk_findings.specs.Reaches.{is_or_reaches}
 use Rattle.desk_findings.specs.Totals.{has_too_many_findings, too_heavy_part, too_heavy_year, year_mass}
-use Rattle.desk_history.specs.Breaches.{Breaks, breaks_part, is_overfull}
+use Rattle.desk_history.specs.Breaches.{Breaks, breaks_part}
+use Rattle.desk_history.specs.Limits.{is_overfull}
+use Rattle.desk_history.specs.Fits.{fits_line, fits_part, fits_shipment}
+use Rattle.desk_history.proofs.Unsound.{heavy_breaks}
 use Rattle.desk_totals.specs.Cycles.{IsOnCycle}
 
 module _ (t : Lists) where
@@ -28,20 +29,12 @@ module _ (t : Lists) where
   cycle_breaks lines place row same is on =
       let here : row ≡ get_or t.lines place row = is ∙ ap (λ all. get_or all place row) same in
       let reached : is_or_reaches t row.child row.parent ≡ true = subst (λ line. is_or_reaches t line.child line.parent ≡ true) (sym here) (on.1 row) in
-      or_left (not (is_line_row row) || not (has_right_child t row) || is_or_reaches t row.child row.parent || nat_lt LINES_OF_PARENT_LIMIT (length (lines_of t.lines row.parent))) (is_overfull t 5)
-      (or_left (not (is_line_row row) || not (has_right_child t row) || is_or_reaches t row.child row.parent) (nat_lt LINES_OF_PARENT_LIMIT (length (lines_of t.lines row.parent)))
-      (or_right (not (is_line_row row) || not (has_right_child t row)) (is_or_reaches t row.child row.parent) reached))
-
-  heavy_breaks : (row : PartRow) → nat_le (2 ^ 128) (mass t row.code) ≡ true → breaks_part t row ≡ true
-  heavy_breaks row e =
-      or_left (not (is_part_row row) || is_material t row.code || nat_le (2 ^ 128) (mass t row.code) || has_too_many_findings t && nat_lt 0 (length (findings t row.code))) (is_overfull t 4)
-      (or_left (not (is_part_row row) || is_material t row.code || nat_le (2 ^ 128) (mass t row.code)) (has_too_many_findings t && nat_lt 0 (length (findings t row.code)))
-      (or_right (not (is_part_row row) || is_material t row.code) (nat_le (2 ^ 128) (mass t row.code)) e))
+      or_left (not (fits_line t row) || is_or_reaches t row.child row.parent) (is_overfull t Lines) (or_right (not (fits_line t row)) (is_or_reaches t row.child row.parent) reached)
 
   found_breaks : (row : PartRow) → (has_too_many_findings t && nat_lt 0 (length (findings t row.code))) ≡ true → breaks_part t row ≡ true
   found_breaks row e =
-      or_left (not (is_part_row row) || is_material t row.code || nat_le (2 ^ 128) (mass t row.code) || has_too_many_findings t && nat_lt 0 (length (findings t row.code))) (is_overfull t 4)
-      (or_right (not (is_part_row row) || is_material t row.code || nat_le (2 ^ 128) (mass t row.code)) (has_too_many_findings t && nat_lt 0 (length (findings t row.code))) e)
+      or_left (not (fits_part t row) || nat_le (2 ^ 128) (mass t row.code) || has_too_many_findings t && nat_lt 0 (length (findings t row.code))) (is_overfull t Parts)
+      (or_right (not (fits_part t row) || nat_le (2 ^ 128) (mass t row.code)) (has_too_many_findings t && nat_lt 0 (length (findings t row.code))) e)
 
   some_inside : {G : Type 0} (code : List ℕ) → ◌≡◌ {A = Option (List ℕ)} None (Some code) → G
   some_inside code e = cc
@@ -56,7 +49,7 @@ module _ (t : Lists) where
         | inl heavy ↦
             let is : part.code ≡ code = same_inside part.code code (rw heavy at e) in
             or_left (same_code part.code code && breaks_part t part) (list_any (λ row. same_code row.code code && breaks_part t row) parts)
-            (and_from (same_code part.code code) (breaks_part t part) (same_code-from part.code code is) (heavy_breaks part heavy))
+            (and_from (same_code part.code code) (breaks_part t part) (same_code-from part.code code is) (heavy_breaks t part heavy))
         | inr light ↦
             or_right (same_code part.code code && breaks_part t part) (list_any (λ row. same_code row.code code && breaks_part t row) parts) (first_breaks parts code (rw light at e))
       ]
@@ -103,8 +96,8 @@ module _ (t : Lists) where
 
   pub year_breaks : (row : ShipmentRow) (year : ℕ) → row.year ≡ year → nat_le (2 ^ 128) (year_mass t year) ≡ true → Breaks t (Shipment row)
   year_breaks row year is heavy =
-      or_left (not (is_shipment_row row) || not (is_product t row.product) || nat_le (2 ^ 128) (year_mass t row.year)) (is_overfull t 9)
-      (or_right (not (is_shipment_row row) || not (is_product t row.product)) (nat_le (2 ^ 128) (year_mass t row.year)) (ap (λ y. nat_le (2 ^ 128) (year_mass t y)) is ∙ heavy))
+      or_left (not (fits_shipment t row) || nat_le (2 ^ 128) (year_mass t row.year)) (is_overfull t Shipments)
+      (or_right (not (fits_shipment t row)) (nat_le (2 ^ 128) (year_mass t row.year)) (ap (λ y. nat_le (2 ^ 128) (year_mass t y)) is ∙ heavy))
 
   pub year_has_shipment : (shipments : List ShipmentRow) (year : ℕ) → shipments ≡ t.shipments → too_heavy_year t ≡ Some year → list_any (λ shipment. shipment.year == year) shipments ≡ false → ⊥
   year_has_shipment shipments year same heavy none =

@@ -1,5 +1,5 @@
 -- How a row that breaks a clause is told of the tables that hold it.
-use Rattle.std.proofs.Common.{◌≡◌, ℕ, zero, suc, ◌<◌, true, ◌&&◌, ◌∙◌, List, [], ◌∷◌, length, map, refl, sym, subst, arith, Option, Some, None, get_or, MatchOption}
+use Rattle.std.proofs.Common.{◌≡◌, ℕ, zero, suc, ◌<◌, true, ◌&&◌, ◌∙◌, List, [], ◌∷◌, length, map, sym, subst, arith, Option, Some, None, get_or, MatchOption}
 use Rattle.std.specs.List.{Any, list_any}
 use Rattle.std.proofs.lemmas.Bool.{and_parts}
 use Rattle.desk_text.specs.Code.{same_code}
@@ -32,11 +32,11 @@ any_at P as_row (row ∷ rows) zero d l p = any_here P (as_row row) (map as_row 
 any_at P as_row (row ∷ rows) (suc place) d l p = any_later P (as_row row) (map as_row rows) (any_at P as_row rows place d (omega (arith, l)) p)
 
 -- a fault that names a row which breaks a clause tells it
-pub told_at : {R : Type 0} (t : Lists) (as_row : R → Row) (rows : List R) (place : ℕ) (d : R) (table : ℕ) (fault : SoundFault) → place < length rows → Breaks t (as_row (get_or rows place d)) → table_number (as_row (get_or rows place d)) ≡ table
-    → IsNaming table (record_code (as_row (get_or rows place d))) fault → NamesBreachIn t (map as_row rows) fault
-told_at t as_row rows place d table (Unsound named key) l broken number naming =
-    any_at (λ row. (table_number row ≡ named) × (record_code row ≡ key) × Breaks t row) as_row rows place d l (subst (λ n. table_number (as_row (get_or rows place d)) ≡ n) (sym naming.0) number, sym naming.1, broken)
-told_at t as_row rows place d table OutOfMemory l broken number naming = tt
+pub told_at : {R : Type 0} (t : Lists) (as_row : R → Row) (rows : List R) (place : ℕ) (d : R) (fault : SoundFault) → place < length rows → Breaks t (as_row (get_or rows place d))
+    → IsNaming (table_number (as_row (get_or rows place d))) (record_code (as_row (get_or rows place d))) fault → NamesBreachIn t (map as_row rows) fault
+told_at t as_row rows place d (Unsound named key) l broken naming =
+    any_at (λ row. (table_number row ≡ named) × (record_code row ≡ key) × Breaks t row) as_row rows place d l (sym naming.0, sym naming.1, broken)
+told_at t as_row rows place d OutOfMemory l broken naming = tt
 
 told_if : (t : Lists) (rows : List Row) (good : Type 0) → ((fault : SoundFault) → NamesBreachIn t rows fault → NamesBreach t fault) → (found : Option SoundFault) → MatchOption found good (NamesBreachIn t rows) → IfSome found (NamesBreach t)
 told_if t rows good f None m = tt
@@ -111,23 +111,20 @@ module _ (t : Lists) where
   ticket_told OutOfMemory a = tt
 
 -- a fault that names a row of a place tells it, where the row breaks a clause
-pub line_named : (t : Lists) (lines : List LineRow) (place : ℕ) (row : LineRow) (fault : SoundFault) → lines ≡ t.lines → place < length lines → row ≡ get_or lines place row → Breaks t (Line row) → IsNaming 5 (record_code (Line row)) fault → NamesBreach t fault
-unfolding table_number
+pub line_named : (t : Lists) (lines : List LineRow) (place : ℕ) (row : LineRow) (fault : SoundFault) → lines ≡ t.lines → place < length lines → row ≡ get_or lines place row → Breaks t (Line row) → IsNaming (table_number (Line row)) (record_code (Line row)) fault → NamesBreach t fault
 line_named t lines place row fault same l is broken naming =
     line_told t fault
-    (subst (λ all. NamesBreachIn t (map Line all) fault) same (told_at t Line lines place row 5 fault l (subst (λ r. Breaks t (Line r)) is broken) refl (subst (λ r. IsNaming 5 (record_code (Line r)) fault) is naming)))
+    (subst (λ all. NamesBreachIn t (map Line all) fault) same (told_at t Line lines place row fault l (subst (λ r. Breaks t (Line r)) is broken) (subst (λ r. IsNaming (table_number (Line r)) (record_code (Line r)) fault) is naming)))
 
-pub shipment_named : (t : Lists) (shipments : List ShipmentRow) (place : ℕ) (row : ShipmentRow) (fault : SoundFault) → shipments ≡ t.shipments → place < length shipments → row ≡ get_or shipments place row → Breaks t (Shipment row) → IsNaming 9 (record_code (Shipment row)) fault → NamesBreach t fault
-unfolding table_number
+pub shipment_named : (t : Lists) (shipments : List ShipmentRow) (place : ℕ) (row : ShipmentRow) (fault : SoundFault) → shipments ≡ t.shipments → place < length shipments → row ≡ get_or shipments place row → Breaks t (Shipment row) → IsNaming (table_number (Shipment row)) (record_code (Shipment row)) fault → NamesBreach t fault
 shipment_named t shipments place row fault same l is broken naming =
     shipment_told t fault
-    (subst (λ all. NamesBreachIn t (map Shipment all) fault) same (told_at t Shipment shipments place row 9 fault l (subst (λ r. Breaks t (Shipment r)) is broken) refl (subst (λ r. IsNaming 9 (record_code (Shipment r)) fault) is naming)))
+    (subst (λ all. NamesBreachIn t (map Shipment all) fault) same (told_at t Shipment shipments place row fault l (subst (λ r. Breaks t (Shipment r)) is broken) (subst (λ r. IsNaming (table_number (Shipment r)) (record_code (Shipment r)) fault) is naming)))
 
-pub ticket_named : (t : Lists) (tickets : List TicketRow) (place : ℕ) (row : TicketRow) (fault : SoundFault) → tickets ≡ t.tickets → place < length tickets → row ≡ get_or tickets place row → Breaks t (Ticket row) → IsNaming 10 row.code fault → NamesBreach t fault
-unfolding table_number record_code
+pub ticket_named : (t : Lists) (tickets : List TicketRow) (place : ℕ) (row : TicketRow) (fault : SoundFault) → tickets ≡ t.tickets → place < length tickets → row ≡ get_or tickets place row → Breaks t (Ticket row) → IsNaming (table_number (Ticket row)) (record_code (Ticket row)) fault → NamesBreach t fault
 ticket_named t tickets place row fault same l is broken naming =
     ticket_told t fault
-    (subst (λ all. NamesBreachIn t (map Ticket all) fault) same (told_at t Ticket tickets place row 10 fault l (subst (λ r. Breaks t (Ticket r)) is broken) refl (subst (λ r. IsNaming 10 (record_code (Ticket r)) fault) is naming)))
+    (subst (λ all. NamesBreachIn t (map Ticket all) fault) same (told_at t Ticket tickets place row fault l (subst (λ r. Breaks t (Ticket r)) is broken) (subst (λ r. IsNaming (table_number (Ticket r)) (record_code (Ticket r)) fault) is naming)))
 
 -- and so does one that names a part by its code
 pub part_named : (t : Lists) (code : List ℕ) (fault : SoundFault) → list_any (λ row. same_code row.code code && breaks_part t row) t.parts ≡ true → IsNaming 4 code fault → NamesBreach t fault

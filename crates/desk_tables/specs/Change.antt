@@ -1,29 +1,30 @@
 -- What an edit makes of the rows of one table, and the room that this takes.
 use Rattle.std.specs.Prelude.{ℕ, List, length}
 use Rattle.desk_text.specs.Code.{code_cmp}
-use Rattle.desk_law.specs.Rule.{rule_number}
 use Rattle.desk_rows.specs.Held.{Held, IsRoomFor}
-use Rattle.desk_rows.specs.Rows.{IsByKey, with_row, with_rows, without_row}
-use Rattle.desk_model.specs.Lists.{Lists, line_key, line_key_cmp, member_key, member_key_cmp, shipment_key, shipment_key_cmp}
+use Rattle.desk_rows.specs.Rows.{IsByKey, with_rows}
+use Rattle.desk_model.specs.declared.row.Row.TheVariants as row
+use Rattle.desk_model.specs.Lists.{Lists}
+use Rattle.desk_model.specs.PutRows.{put_in, without_exemption, without_line, without_member, without_shipment}
 use Rattle.desk_tables.specs.declared.row_change.RowChange.{RowChange}
 use Rattle.desk_tables.specs.declared.row_change.RowChange.TheVariants as change
 use Rattle.desk_tables.specs.Desk.{Desk}
 
 -- the tables with the change made
 unfoldable pub with_change_made : Lists → RowChange → Lists
-with_change_made t (change.PutSubstance row room) = record t { substances = with_row (λ row. row.code) code_cmp row t.substances }
-with_change_made t (change.PutMember row room) = record t { members = with_row member_key member_key_cmp row t.members }
-with_change_made t (change.DropMember substance rule) = record t { members = without_row member_key member_key_cmp (substance, rule_number rule) t.members }
+with_change_made t (change.PutSubstance substance room) = put_in (row.Substance substance) t
+with_change_made t (change.PutMember member room) = put_in (row.Member member) t
+with_change_made t (change.DropMember substance rule) = without_member t substance rule
 with_change_made t (change.PutMaterials rows room) = record t { materials = with_rows (λ row. row.code) code_cmp rows t.materials }
-with_change_made t (change.PutPart row room) = record t { parts = with_row (λ row. row.code) code_cmp row t.parts }
-with_change_made t (change.PutLine row room) = record t { lines = with_row line_key line_key_cmp row t.lines }
-with_change_made t (change.DropLine parent child) = record t { lines = without_row line_key line_key_cmp (parent, child) t.lines }
-with_change_made t (change.PutProduct row room) = record t { products = with_row (λ row. row.part) code_cmp row t.products }
-with_change_made t (change.PutExemption row room) = record t { exemptions = with_row (λ row. row.terms.row) code_cmp row t.exemptions }
-with_change_made t (change.DropExemption row) = record t { exemptions = without_row (λ row. row.terms.row) code_cmp row t.exemptions }
-with_change_made t (change.PutCandidate row room) = record t { candidates = with_row (λ row. row.substance) code_cmp row t.candidates }
-with_change_made t (change.PutShipment row room) = record t { shipments = with_row shipment_key shipment_key_cmp row t.shipments }
-with_change_made t (change.DropShipment year product) = record t { shipments = without_row shipment_key shipment_key_cmp (year, product) t.shipments }
+with_change_made t (change.PutPart part room) = put_in (row.Part part) t
+with_change_made t (change.PutLine line room) = put_in (row.Line line) t
+with_change_made t (change.DropLine parent child) = without_line t parent child
+with_change_made t (change.PutProduct product room) = put_in (row.Product product) t
+with_change_made t (change.PutExemption exemption room) = put_in (row.Exemption exemption) t
+with_change_made t (change.DropExemption code) = without_exemption t code
+with_change_made t (change.PutCandidate candidate room) = put_in (row.Candidate candidate) t
+with_change_made t (change.PutShipment shipment room) = put_in (row.Shipment shipment) t
+with_change_made t (change.DropShipment year product) = without_shipment t year product
 
 -- a table of these rows and this room
 abbrev pub rows_with_room : {R : Type 0} → List R → ℕ → Held R

@@ -37,6 +37,6 @@ impl Tables {
         requires { IsOnCycle self.now.lists place }
         ensures { NamesBreach self.now.lists result }
     {
-        fault_at(alloc, 5, &self.lines()[place])
+        fault_at(alloc, &self.lines()[place])
     }
 }

@@ -4,7 +4,7 @@ ghost use Rattle.desk_rows.specs.Rows.{with_rows};
 ghost use Rattle.desk_tables.specs.Change.{with_change_made};
 ghost use Rattle.desk_tables.specs.Sums.{is_of_lines_or_shipments, is_of_sums, with_table};
 
-use crate::{RowChange, TableLists, Tables};
+use crate::{RowChange, Tables};
 use desk_model::{CandidateRow, LineRow, MaterialRow, MemberRow, ShipmentRow};
 use desk_rows::{Keyed, Table};
 use desk_text::OutOfMemory;
@@ -38,12 +38,12 @@ impl Tables {
     {
         match change {
             RowChange::PutMember { row, .. } => {
-                let members = self.members.copied_with(alloc, *row)?;
+                let members = self.tables.members.copied_with(alloc, *row)?;
                 Ok(ChangedTable::Members(members))
             }
             RowChange::DropMember { substance, rule } => {
                 let key = (*substance, rule.number());
-                let members = self.members.copied_without(alloc, &key)?;
+                let members = self.tables.members.copied_without(alloc, &key)?;
                 Ok(ChangedTable::Members(members))
             }
             RowChange::PutMaterials { rows, .. } => {
@@ -51,7 +51,7 @@ impl Tables {
                 Ok(ChangedTable::Materials(materials))
             }
             RowChange::PutCandidate { row, .. } => {
-                let candidates = self.candidates.copied_with(alloc, *row)?;
+                let candidates = self.tables.candidates.copied_with(alloc, *row)?;
                 Ok(ChangedTable::Candidates(candidates))
             }
             _ => self.changed_bill_table(alloc, change),
@@ -70,19 +70,22 @@ impl Tables {
     {
         match change {
             RowChange::PutLine { row, .. } => {
-                let lines = self.lines.copied_with(alloc, *row)?;
+                let lines = self.tables.lines.copied_with(alloc, *row)?;
                 Ok(ChangedTable::Lines(lines))
             }
             RowChange::DropLine { parent, child } => {
-                let lines = self.lines.copied_without(alloc, &(*parent, *child))?;
+                let lines = self.tables.lines.copied_without(alloc, &(*parent, *child))?;
                 Ok(ChangedTable::Lines(lines))
             }
             RowChange::PutShipment { row, .. } => {
-                let shipments = self.shipments.copied_with(alloc, *row)?;
+                let shipments = self.tables.shipments.copied_with(alloc, *row)?;
                 Ok(ChangedTable::Shipments(shipments))
             }
             RowChange::DropShipment { year, product } => {
-                let shipments = self.shipments.copied_without(alloc, &(*year, *product))?;
+                let shipments = self
+                    .tables
+                    .shipments
+                    .copied_without(alloc, &(*year, *product))?;
                 Ok(ChangedTable::Shipments(shipments))
             }
             _ => unreachable!(),
@@ -97,24 +100,9 @@ impl Tables {
     ) -> Result<Table<MaterialRow>, OutOfMemory>
         ensures { IfOk result (λ table. table.rows ≡ with_rows (λ row. row.code) code_cmp rows.now self.now.lists.materials) }
     {
-        let mut materials = self.materials.copied(alloc)?;
+        let mut materials = self.tables.materials.copied(alloc)?;
         materials.put_all(copied_rows(alloc, rows)?)?;
         Ok(materials)
-    }
-
-    /// The lists with the changed table in the place of theirs.
-    pub(crate) fn lists_with<'a>(&'a self, table: &'a ChangedTable) -> TableLists<'a>
-        ensures { result ≡ with_table self.now.lists table.now }
-    {
-        match table {
-            ChangedTable::Members(members) => self.lists().with_members(members.as_slice()),
-            ChangedTable::Materials(materials) => self.lists().with_materials(materials.as_slice()),
-            ChangedTable::Lines(lines) => self.lists().with_lines(lines.as_slice()),
-            ChangedTable::Candidates(candidates) => {
-                self.lists().with_candidates(candidates.as_slice())
-            }
-            ChangedTable::Shipments(shipments) => self.lists().with_shipments(shipments.as_slice()),
-        }
     }
 }
 

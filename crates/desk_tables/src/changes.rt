@@ -116,7 +116,7 @@ impl Tables {
     {
         let name = name.clone()?;
         let row = SubstanceRow { code, name, cas };
-        let room = self.substances.room_for(alloc, 1)?;
+        let room = self.tables.substances.room_for(alloc, 1)?;
         Ok(RowChange::PutSubstance { row, room })
     }
 
@@ -142,7 +142,7 @@ impl Tables {
             rule,
             factor,
         };
-        let room = self.members.room_for(alloc, 1)?;
+        let room = self.tables.members.room_for(alloc, 1)?;
         Ok(RowChange::PutMember { row, room })
     }
 
@@ -158,7 +158,10 @@ impl Tables {
         ensures sums { IfOk result (λ change. is_of_sums change ≡ true) }
     {
         let rows = declared_rows(alloc, declaration)?;
-        let room = self.materials.room_for(alloc, rows.as_slice().len())?;
+        let room = self
+            .tables
+            .materials
+            .room_for(alloc, rows.as_slice().len())?;
         Ok(RowChange::PutMaterials { rows, room })
     }
 
@@ -173,7 +176,7 @@ impl Tables {
             terms: exemption.terms,
             application: exemption.application.clone()?,
         };
-        let room = self.exemptions.room_for(alloc, 1)?;
+        let room = self.tables.exemptions.room_for(alloc, 1)?;
         Ok(RowChange::PutExemption { row, room })
     }
 
@@ -191,7 +194,7 @@ impl Tables {
         ensures sums { IfOk result (λ change. is_of_sums change ≡ true) }
     {
         let row = CandidateRow { substance, day };
-        let room = self.candidates.room_for(alloc, 1)?;
+        let room = self.tables.candidates.room_for(alloc, 1)?;
         Ok(RowChange::PutCandidate { row, room })
     }
 
@@ -210,7 +213,7 @@ impl Tables {
     {
         let name = name.clone()?;
         let row = PartRow { code, sort, name };
-        let room = self.parts.room_for(alloc, 1)?;
+        let room = self.tables.parts.room_for(alloc, 1)?;
         Ok(RowChange::PutPart { row, room })
     }
 
@@ -233,7 +236,7 @@ impl Tables {
             child,
             count: count.get() as u32,
         };
-        let room = self.lines.room_for(alloc, 1)?;
+        let room = self.tables.lines.room_for(alloc, 1)?;
         Ok(RowChange::PutLine { row, room })
     }
 
@@ -245,7 +248,7 @@ impl Tables {
         ensures ready { IfOk result (λ change. IsReady self.now change) }
     {
         let row = ProductRow { part, kind };
-        let room = self.products.room_for(alloc, 1)?;
+        let room = self.tables.products.room_for(alloc, 1)?;
         Ok(RowChange::PutProduct { row, room })
     }
 
@@ -270,7 +273,7 @@ impl Tables {
             product,
             units,
         };
-        let room = self.shipments.room_for(alloc, 1)?;
+        let room = self.tables.shipments.room_for(alloc, 1)?;
         Ok(RowChange::PutShipment { row, room })
     }
 }

@@ -27,16 +27,16 @@ impl Tables {
         ensures { result ≡ counts_of self.now.lists }
     {
         RowCounts {
-            substances: self.substances.as_slice().len() as u128,
-            members: self.members.as_slice().len() as u128,
-            materials: self.materials.as_slice().len() as u128,
-            parts: self.parts.as_slice().len() as u128,
-            lines: self.lines.as_slice().len() as u128,
-            products: self.products.as_slice().len() as u128,
-            exemptions: self.exemptions.as_slice().len() as u128,
-            candidates: self.candidates.as_slice().len() as u128,
-            shipments: self.shipments.as_slice().len() as u128,
-            tickets: self.tickets.as_slice().len() as u128,
+            substances: self.tables.substances.as_slice().len() as u128,
+            members: self.tables.members.as_slice().len() as u128,
+            materials: self.tables.materials.as_slice().len() as u128,
+            parts: self.tables.parts.as_slice().len() as u128,
+            lines: self.tables.lines.as_slice().len() as u128,
+            products: self.tables.products.as_slice().len() as u128,
+            exemptions: self.tables.exemptions.as_slice().len() as u128,
+            candidates: self.tables.candidates.as_slice().len() as u128,
+            shipments: self.tables.shipments.as_slice().len() as u128,
+            tickets: self.tables.tickets.as_slice().len() as u128,
         }
     }
 
@@ -49,44 +49,50 @@ impl Tables {
         let mut counts = self.counts();
         match change {
             RowChange::PutSubstance { row, .. } => {
-                counts.substances = count_with(self.substances.as_slice(), row);
+                counts.substances = count_with(self.tables.substances.as_slice(), row);
             }
             RowChange::PutMember { row, .. } => {
-                counts.members = count_with(self.members.as_slice(), row);
+                counts.members = count_with(self.tables.members.as_slice(), row);
             }
             RowChange::DropMember { substance, rule } => {
                 let key = (*substance, rule.number());
-                counts.members = count_without(self.members.as_slice(), &key);
+                counts.members = count_without(self.tables.members.as_slice(), &key);
             }
             RowChange::PutMaterials { rows, .. } => {
-                counts.materials = count_with_all(self.materials.as_slice(), rows.as_slice());
+                counts.materials = count_with_all(
+                    self.tables.materials.as_slice(),
+                    rows.as_slice(),
+                );
             }
             RowChange::PutPart { row, .. } => {
-                counts.parts = count_with(self.parts.as_slice(), row);
+                counts.parts = count_with(self.tables.parts.as_slice(), row);
             }
             RowChange::PutLine { row, .. } => {
-                counts.lines = count_with(self.lines.as_slice(), row);
+                counts.lines = count_with(self.tables.lines.as_slice(), row);
             }
             RowChange::DropLine { parent, child } => {
-                counts.lines = count_without(self.lines.as_slice(), &(*parent, *child));
+                counts.lines = count_without(self.tables.lines.as_slice(), &(*parent, *child));
             }
             RowChange::PutProduct { row, .. } => {
-                counts.products = count_with(self.products.as_slice(), row);
+                counts.products = count_with(self.tables.products.as_slice(), row);
             }
             RowChange::PutExemption { row, .. } => {
-                counts.exemptions = count_with(self.exemptions.as_slice(), row);
+                counts.exemptions = count_with(self.tables.exemptions.as_slice(), row);
             }
             RowChange::DropExemption { row } => {
-                counts.exemptions = count_without(self.exemptions.as_slice(), row);
+                counts.exemptions = count_without(self.tables.exemptions.as_slice(), row);
             }
             RowChange::PutCandidate { row, .. } => {
-                counts.candidates = count_with(self.candidates.as_slice(), row);
+                counts.candidates = count_with(self.tables.candidates.as_slice(), row);
             }
             RowChange::PutShipment { row, .. } => {
-                counts.shipments = count_with(self.shipments.as_slice(), row);
+                counts.shipments = count_with(self.tables.shipments.as_slice(), row);
             }
             RowChange::DropShipment { year, product } => {
-                counts.shipments = count_without(self.shipments.as_slice(), &(*year, *product));
+                counts.shipments = count_without(
+                    self.tables.shipments.as_slice(),
+                    &(*year, *product),
+                );
             }
         }
         counts

@@ -37,6 +37,7 @@ mod sums;
 mod sums_sound;
 mod table_lists;
 mod tables;
+mod ten_tables;
 mod terms;
 mod tested_row;
 mod tested_rows;

@@ -31,7 +31,7 @@ impl Tables {
         ensures { result ≡ option_map TableFull (first_of (tables_over (with_change_entered self.now.lists change.now ticket.now))) }
     {
         let mut counts = self.counts_with(change);
-        counts.tickets = count_with(self.tickets.as_slice(), ticket);
+        counts.tickets = count_with(self.tables.tickets.as_slice(), ticket);
         match counts.first_over(self.has_too_many_lines_with(change)) {
             Some(table) => Some(RuleFault::TableFull { table }),
             None => None,

@@ -15,70 +15,70 @@ impl Tables {
     pub fn substance(&self, code: &Code) -> Option<&SubstanceRow>
         ensures { option_copied result ≡ substance_row self.now.lists code.now }
     {
-        self.substances.get(code)
+        self.tables.substances.get(code)
     }
 
     /// The material of this code, by a binary search.
     pub fn material(&self, code: &Code) -> Option<&MaterialRow>
         ensures { option_copied result ≡ material_row self.now.lists code.now }
     {
-        self.materials.get(code)
+        self.tables.materials.get(code)
     }
 
     /// The part of this code, by a binary search.
     pub fn part(&self, code: &Code) -> Option<&PartRow>
         ensures { option_copied result ≡ part_row self.now.lists code.now }
     {
-        self.parts.get(code)
+        self.tables.parts.get(code)
     }
 
     /// The product of the part of this code, by a binary search.
     pub fn product(&self, part: &Code) -> Option<&ProductRow>
         ensures { option_copied result ≡ product_row self.now.lists part.now }
     {
-        self.products.get(part)
+        self.tables.products.get(part)
     }
 
     /// The exemption row of this code, by a binary search.
     pub fn exemption(&self, row: &Code) -> Option<&ExemptionRow>
         ensures { option_copied result ≡ exemption_row self.now.lists row.now }
     {
-        self.exemptions.get(row)
+        self.tables.exemptions.get(row)
     }
 
     /// The candidate of the substance of this code, by a binary search.
     pub fn candidate(&self, substance: &Code) -> Option<&CandidateRow>
         ensures { option_copied result ≡ candidate_row self.now.lists substance.now }
     {
-        self.candidates.get(substance)
+        self.tables.candidates.get(substance)
     }
 
     /// What the tables keep of the substance for the rule, by a binary search.
     pub fn member(&self, substance: &Code, rule: Rule) -> Option<&MemberRow>
         ensures { option_copied result ≡ member_row self.now.lists substance.now rule }
     {
-        self.members.get(&(*substance, rule.number()))
+        self.tables.members.get(&(*substance, rule.number()))
     }
 
     /// The line from the parent to the child, by a binary search.
     pub fn line(&self, parent: &Code, child: &Code) -> Option<&LineRow>
         ensures { option_copied result ≡ line_row self.now.lists parent.now child.now }
     {
-        self.lines.get(&(*parent, *child))
+        self.tables.lines.get(&(*parent, *child))
     }
 
     /// The shipment of the product in the year, by a binary search.
     pub fn shipment(&self, year: u16, product: &Code) -> Option<&ShipmentRow>
         ensures { option_copied result ≡ shipment_row self.now.lists year product.now }
     {
-        self.shipments.get(&(year, *product))
+        self.tables.shipments.get(&(year, *product))
     }
 
     /// Where the substance of this code stands, if it is kept. It is looked for at this place first, and else by a binary search.
     pub(crate) fn substance_place(&self, code: &Code, near: usize) -> Option<usize>
         ensures { MatchOption result (is_substance self.now.lists code.now ≡ false) (λ place. is_substance self.now.lists code.now ≡ true) }
     {
-        match place_near(self.substances.as_slice(), code, near) {
+        match place_near(self.tables.substances.as_slice(), code, near) {
             Ok(place) => Some(place),
             Err(_) => None,
         }

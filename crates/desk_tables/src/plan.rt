@@ -75,28 +75,28 @@ impl Tables {
         ensures tickets { self.new.rooms.tickets ≡ self.old.rooms.tickets }
     {
         match change {
-            RowChange::PutSubstance { row, room } => self.substances.put_ready(row, room),
-            RowChange::PutMember { row, room } => self.members.put_ready(row, room),
+            RowChange::PutSubstance { row, room } => self.tables.substances.put_ready(row, room),
+            RowChange::PutMember { row, room } => self.tables.members.put_ready(row, room),
             RowChange::DropMember { substance, rule } => {
-                self.members.take(&(substance, rule.number()));
+                self.tables.members.take(&(substance, rule.number()));
             }
             RowChange::PutMaterials { rows, room } => {
-                self.materials.put_all_ready(rows.into_vec(), room);
+                self.tables.materials.put_all_ready(rows.into_vec(), room);
             }
-            RowChange::PutPart { row, room } => self.parts.put_ready(row, room),
-            RowChange::PutLine { row, room } => self.lines.put_ready(row, room),
+            RowChange::PutPart { row, room } => self.tables.parts.put_ready(row, room),
+            RowChange::PutLine { row, room } => self.tables.lines.put_ready(row, room),
             RowChange::DropLine { parent, child } => {
-                self.lines.take(&(parent, child));
+                self.tables.lines.take(&(parent, child));
             }
-            RowChange::PutProduct { row, room } => self.products.put_ready(row, room),
-            RowChange::PutExemption { row, room } => self.exemptions.put_ready(row, room),
+            RowChange::PutProduct { row, room } => self.tables.products.put_ready(row, room),
+            RowChange::PutExemption { row, room } => self.tables.exemptions.put_ready(row, room),
             RowChange::DropExemption { row } => {
-                drop(self.exemptions.take(&row));
+                drop(self.tables.exemptions.take(&row));
             }
-            RowChange::PutCandidate { row, room } => self.candidates.put_ready(row, room),
-            RowChange::PutShipment { row, room } => self.shipments.put_ready(row, room),
+            RowChange::PutCandidate { row, room } => self.tables.candidates.put_ready(row, room),
+            RowChange::PutShipment { row, room } => self.tables.shipments.put_ready(row, room),
             RowChange::DropShipment { year, product } => {
-                self.shipments.take(&(year, product));
+                self.tables.shipments.take(&(year, product));
             }
         }
     }
@@ -109,6 +109,6 @@ impl Tables {
         ensures { self.new.lists ≡ record self.old.lists { tickets = with_row (λ row. row.code) code_cmp ticket self.old.lists.tickets } }
     {
         self.text += ticket.text.len() as u128;
-        self.tickets.put_ready(ticket, room);
+        self.tables.tickets.put_ready(ticket, room);
     }
 }

@@ -110,7 +110,7 @@ impl Tables {
         if let Some(fault) = self.refused_by_limits(edit, &change, &ticket) {
             return Err(EditFault::Rule(fault));
         }
-        let room = self.tickets.room_for(alloc, 1)?;
+        let room = self.tables.tickets.room_for(alloc, 1)?;
         Ok(TablesPlan::New {
             change,
             ticket,

@@ -5,6 +5,7 @@ ghost use Rattle.desk_history.specs.Sound.{Sound};
 ghost use Rattle.desk_model.specs.Start.{base_cas, base_member, base_name, base_substance, rules_by_code, start};
 
 use crate::Tables;
+use crate::ten_tables::TenTables;
 use desk_law::Rule;
 use desk_model::limits::WHOLE_FACTOR;
 use desk_model::{MemberRow, SubstanceRow};
@@ -30,19 +31,10 @@ impl Tables {
 fn base_tables(alloc: Global) -> Result<Tables, OutOfMemory>
     ensures { IfOk result (λ tables. tables.lists ≡ start) }
 {
-    Ok(Tables {
-        substances: base_substances(alloc)?,
-        members: base_members(alloc)?,
-        materials: Table::new(alloc),
-        parts: Table::new(alloc),
-        lines: Table::new(alloc),
-        products: Table::new(alloc),
-        exemptions: Table::new(alloc),
-        candidates: Table::new(alloc),
-        shipments: Table::new(alloc),
-        tickets: Table::new(alloc),
-        text: 0,
-    })
+    let mut tables = TenTables::new(alloc);
+    tables.substances = base_substances(alloc)?;
+    tables.members = base_members(alloc)?;
+    Ok(Tables { tables, text: 0 })
 }
 
 /// The base substances.

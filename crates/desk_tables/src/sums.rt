@@ -6,6 +6,7 @@ ghost use Rattle.desk_tables.specs.PutLine.{with_line};
 ghost use Rattle.desk_tables.specs.Sums.{is_of_sums, may_raise_sums, refusals_of_sums};
 ghost use Rattle.desk_totals.specs.Linked.{IsLinkedOf};
 
+use crate::changed_table::ChangedTable;
 use crate::{RowChange, TableLists, Tables};
 use desk_model::{Edit, LineRow, RuleFault};
 use desk_rows::place_of_row;
@@ -67,8 +68,8 @@ impl Tables {
         ensures { IfOk result (λ fault. fault ≡ first_some (refusals_of_sums (with_line self.now.lists line.now))) }
     {
         let bill = self.bill_with_line(alloc, bill, line)?;
-        let lines = self.lines.copied_with(alloc, *line)?;
-        let lists = self.lists().with_lines(lines.as_slice());
+        let lines = ChangedTable::Lines(self.tables.lines.copied_with(alloc, *line)?);
+        let lists = self.lists_with(&lines);
         lists.sums_fault(alloc, &bill)
     }
 

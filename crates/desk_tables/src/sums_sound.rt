@@ -10,10 +10,9 @@ ghost use Rattle.desk_tables.specs.Soundness.{IsNaming, NamesBreach};
 ghost use Rattle.desk_totals.specs.Fit.{fit};
 ghost use Rattle.desk_totals.specs.Linked.{IsLinkedOf};
 
-use crate::tested_row::fault_at;
-use crate::tested_rows::code_text;
+use crate::tested_row::{fault_at, naming};
 use crate::{SoundFault, TableLists, Tables};
-use desk_model::ShipmentRow;
+use desk_model::{ShipmentRow, TableName, code_bytes};
 use desk_text::{Code, OutOfMemory};
 use desk_totals::Links;
 use std::alloc::Global;
@@ -51,7 +50,7 @@ impl Tables {
         ensures { NamesBreach self.now.lists result }
     {
         match first_of_year(self.shipments(), year) {
-            Some(place) => fault_at(alloc, 9, &self.shipments()[place]),
+            Some(place) => fault_at(alloc, &self.shipments()[place]),
             None => unreachable!(),
         }
     }
@@ -100,8 +99,5 @@ fn first_of_year(shipments: &[ShipmentRow], year: u16) -> Option<usize>
 fn part_fault(alloc: Global, part: &Code) -> SoundFault
     ensures { IsNaming 4 part.now result }
 {
-    match code_text(alloc, part) {
-        Ok(key) => SoundFault::Unsound { table: 4, key },
-        Err(_) => SoundFault::OutOfMemory,
-    }
+    naming(TableName::Parts, code_bytes(alloc, part))
 }

@@ -1,45 +1,27 @@
 ghost use Rattle.std.specs.Prelude.{◌≡◌};
+ghost use Rattle.desk_tables.specs.Sums.{with_table};
 
 use crate::Tables;
-use desk_model::{
-    CandidateRow, ExemptionRow, LineRow, MaterialRow, MemberRow, PartRow, ProductRow, ShipmentRow,
-    SubstanceRow, TicketRow,
-};
+use crate::changed_table::ChangedTable;
+use desk_model::{CandidateRow, LineRow, MaterialRow, MemberRow, PartRow, ShipmentRow};
 use std::marker::Model;
 
-/// The ten lists of tables, lent together: those of tables as they stand, or with another list in the place of one, as an edit would
-/// leave them. Contracts see the lists.
+/// The ten lists of tables, lent together: those of tables as they stand, or with a changed table in the place of theirs, as an edit
+/// would leave them. Contracts see the lists.
 #[derive(Drop)]
 pub struct TableLists<'a> {
-    substances: &'a [SubstanceRow],
-    members: &'a [MemberRow],
-    materials: &'a [MaterialRow],
-    parts: &'a [PartRow],
-    lines: &'a [LineRow],
-    products: &'a [ProductRow],
-    exemptions: &'a [ExemptionRow],
-    candidates: &'a [CandidateRow],
-    shipments: &'a [ShipmentRow],
-    tickets: &'a [TicketRow],
+    kept: &'a Tables,
+    changed: Option<&'a ChangedTable>,
 }
 
 impl<'a> Model for TableLists<'a> {
+    ghost use Rattle.std.specs.Option.{option_map_or};
     ghost use Rattle.desk_model.specs.Lists.{Lists};
+    ghost use Rattle.desk_tables.specs.Sums.{with_table};
 
     ghost Value = { Lists };
 
-    ghost view = { λ l. record {
-      substances = l.substances.now;
-      members = l.members.now;
-      materials = l.materials.now;
-      parts = l.parts.now;
-      lines = l.lines.now;
-      products = l.products.now;
-      exemptions = l.exemptions.now;
-      candidates = l.candidates.now;
-      shipments = l.shipments.now;
-      tickets = l.tickets.now;
-    } };
+    ghost view = { λ l. option_map_or (λ table. with_table l.kept.now.lists table.now) l.changed l.kept.now.lists };
 }
 
 impl Tables {
@@ -48,16 +30,18 @@ impl Tables {
         ensures { result ≡ self.now.lists }
     {
         TableLists {
-            substances: self.substances.as_slice(),
-            members: self.members.as_slice(),
-            materials: self.materials.as_slice(),
-            parts: self.parts.as_slice(),
-            lines: self.lines.as_slice(),
-            products: self.products.as_slice(),
-            exemptions: self.exemptions.as_slice(),
-            candidates: self.candidates.as_slice(),
-            shipments: self.shipments.as_slice(),
-            tickets: self.tickets.as_slice(),
+            kept: self,
+            changed: None,
+        }
+    }
+
+    /// The lists with the changed table in the place of theirs.
+    pub(crate) fn lists_with<'a>(&'a self, table: &'a ChangedTable) -> TableLists<'a>
+        ensures { result ≡ with_table self.now.lists table.now }
+    {
+        TableLists {
+            kept: self,
+            changed: Some(table),
         }
     }
 }
@@ -67,149 +51,56 @@ impl<'a> TableLists<'a> {
     pub fn members(&self) -> &'a [MemberRow]
         ensures { result.now ≡ self.now.members }
     {
-        self.members
+        match self.changed {
+            Some(ChangedTable::Members(members)) => members.as_slice(),
+            _ => self.kept.members(),
+        }
     }
 
     /// The materials.
     pub fn materials(&self) -> &'a [MaterialRow]
         ensures { result.now ≡ self.now.materials }
     {
-        self.materials
+        match self.changed {
+            Some(ChangedTable::Materials(materials)) => materials.as_slice(),
+            _ => self.kept.materials(),
+        }
     }
 
     /// The parts.
     pub fn parts(&self) -> &'a [PartRow]
         ensures { result.now ≡ self.now.parts }
     {
-        self.parts
+        self.kept.parts()
     }
 
     /// The lines.
     pub fn lines(&self) -> &'a [LineRow]
         ensures { result.now ≡ self.now.lines }
     {
-        self.lines
+        match self.changed {
+            Some(ChangedTable::Lines(lines)) => lines.as_slice(),
+            _ => self.kept.lines(),
+        }
     }
 
     /// The candidates.
     pub fn candidates(&self) -> &'a [CandidateRow]
         ensures { result.now ≡ self.now.candidates }
     {
-        self.candidates
+        match self.changed {
+            Some(ChangedTable::Candidates(candidates)) => candidates.as_slice(),
+            _ => self.kept.candidates(),
+        }
     }
 
     /// The shipments.
     pub fn shipments(&self) -> &'a [ShipmentRow]
         ensures { result.now ≡ self.now.shipments }
     {
-        self.shipments
-    }
-
-    /// The lists with these members in the place of theirs.
-    pub fn with_members(&self, members: &'a [MemberRow]) -> TableLists<'a>
-        ensures { result ≡ record self.now { members = members.now } }
-    {
-        TableLists {
-            substances: self.substances,
-            members,
-            materials: self.materials,
-            parts: self.parts,
-            lines: self.lines,
-            products: self.products,
-            exemptions: self.exemptions,
-            candidates: self.candidates,
-            shipments: self.shipments,
-            tickets: self.tickets,
-        }
-    }
-
-    /// The lists with these materials in the place of theirs.
-    pub fn with_materials(&self, materials: &'a [MaterialRow]) -> TableLists<'a>
-        ensures { result ≡ record self.now { materials = materials.now } }
-    {
-        TableLists {
-            substances: self.substances,
-            members: self.members,
-            materials,
-            parts: self.parts,
-            lines: self.lines,
-            products: self.products,
-            exemptions: self.exemptions,
-            candidates: self.candidates,
-            shipments: self.shipments,
-            tickets: self.tickets,
-        }
-    }
-
-    /// The lists with these parts in the place of theirs.
-    pub fn with_parts(&self, parts: &'a [PartRow]) -> TableLists<'a>
-        ensures { result ≡ record self.now { parts = parts.now } }
-    {
-        TableLists {
-            substances: self.substances,
-            members: self.members,
-            materials: self.materials,
-            parts,
-            lines: self.lines,
-            products: self.products,
-            exemptions: self.exemptions,
-            candidates: self.candidates,
-            shipments: self.shipments,
-            tickets: self.tickets,
-        }
-    }
-
-    /// The lists with these lines in the place of theirs.
-    pub fn with_lines(&self, lines: &'a [LineRow]) -> TableLists<'a>
-        ensures { result ≡ record self.now { lines = lines.now } }
-    {
-        TableLists {
-            substances: self.substances,
-            members: self.members,
-            materials: self.materials,
-            parts: self.parts,
-            lines,
-            products: self.products,
-            exemptions: self.exemptions,
-            candidates: self.candidates,
-            shipments: self.shipments,
-            tickets: self.tickets,
-        }
-    }
-
-    /// The lists with these candidates in the place of theirs.
-    pub fn with_candidates(&self, candidates: &'a [CandidateRow]) -> TableLists<'a>
-        ensures { result ≡ record self.now { candidates = candidates.now } }
-    {
-        TableLists {
-            substances: self.substances,
-            members: self.members,
-            materials: self.materials,
-            parts: self.parts,
-            lines: self.lines,
-            products: self.products,
-            exemptions: self.exemptions,
-            candidates,
-            shipments: self.shipments,
-            tickets: self.tickets,
-        }
-    }
-
-    /// The lists with these shipments in the place of theirs.
-    pub fn with_shipments(&self, shipments: &'a [ShipmentRow]) -> TableLists<'a>
-        ensures { result ≡ record self.now { shipments = shipments.now } }
-    {
-        TableLists {
-            substances: self.substances,
-            members: self.members,
-            materials: self.materials,
-            parts: self.parts,
-            lines: self.lines,
-            products: self.products,
-            exemptions: self.exemptions,
-            candidates: self.candidates,
-            shipments,
-            tickets: self.tickets,
+        match self.changed {
+            Some(ChangedTable::Shipments(shipments)) => shipments.as_slice(),
+            _ => self.kept.shipments(),
         }
     }
 }

@@ -1,6 +1,5 @@
-ghost use Rattle.std.specs.Prelude.{◌≡◌, length, nat_lt, IfOk};
+ghost use Rattle.std.specs.Prelude.{◌≡◌, length, nat_lt};
 ghost use Rattle.desk_model.specs.Terms.{are_kinds, are_terms_in_range, is_ppm};
-ghost use Rattle.desk_model.specs.Rows.{pair_code};
 ghost use Rattle.desk_model.specs.Forms.{is_exemption_row};
 ghost use Rattle.desk_model.specs.declared.limits.TheConstants.{LINES_OF_PARENT_LIMIT};
 ghost use Rattle.desk_findings.specs.Bill.{has_right_child};
@@ -20,18 +19,14 @@ use desk_model::{
     SubstanceRow,
 };
 use desk_rows::run_of;
-use desk_text::{Bytes, Code, OutOfMemory};
-use std::alloc::Global;
+use desk_text::Code;
 
 impl TestedRow for SubstanceRow {
-    ghost use Rattle.desk_model.specs.declared.row.Row.TheVariants.{Substance};
-    ghost use Rattle.desk_model.specs.Forms.{is_substance_row};
+    ghost use Rattle.desk_history.specs.Fits.{fits_substance};
 
-    ghost as_row = { Substance };
+    ghost fits = { fits_substance };
 
-    ghost is_good = { λ t row. is_substance_row row };
-
-    fn is_good(&self, _tables: &Tables) -> bool {
+    fn fits(&self, _tables: &Tables) -> bool {
         self.code.as_bytes();
         self.name.as_bytes();
         if let Some(cas) = &self.cas {
@@ -39,86 +34,50 @@ impl TestedRow for SubstanceRow {
         }
         true
     }
-
-    #[tactic(auto, unfolding(desk_model::specs::Rows::record_code))]
-    fn key(&self, alloc: Global) -> Result<Bytes, OutOfMemory> {
-        code_text(alloc, &self.code)
-    }
 }
 
 impl TestedRow for MemberRow {
-    ghost use Rattle.desk_model.specs.declared.row.Row.TheVariants.{Member};
-    ghost use Rattle.desk_tables.specs.Soundness.{is_good_member};
+    ghost use Rattle.desk_history.specs.Fits.{fits_member};
 
-    ghost as_row = { Member };
+    ghost fits = { fits_member };
 
-    ghost is_good = { is_good_member };
-
-    fn is_good(&self, tables: &Tables) -> bool {
+    fn fits(&self, tables: &Tables) -> bool {
         self.substance.as_bytes();
         let factor = u64::from(self.factor);
         1 <= factor && factor <= WHOLE_FACTOR && tables.is_substance(&self.substance)
     }
-
-    #[tactic(auto, unfolding(desk_model::specs::Rows::record_code))]
-    fn key(&self, alloc: Global) -> Result<Bytes, OutOfMemory> {
-        pair_text(
-            alloc,
-            self.substance.as_bytes(),
-            self.rule.code().as_bytes(),
-        )
-    }
 }
 
 impl TestedRow for MaterialRow {
-    ghost use Rattle.desk_model.specs.declared.row.Row.TheVariants.{Material};
-    ghost use Rattle.desk_tables.specs.Soundness.{is_good_material};
+    ghost use Rattle.desk_history.specs.Fits.{fits_material};
 
-    ghost as_row = { Material };
+    ghost fits = { fits_material };
 
-    ghost is_good = { is_good_material };
-
-    fn is_good(&self, tables: &Tables) -> bool {
+    fn fits(&self, tables: &Tables) -> bool {
         content::is_in_form(self)
             && are_substances_kept(tables, self.substances.as_slice())
             && !holds_too_much(self)
     }
-
-    #[tactic(auto, unfolding(desk_model::specs::Rows::record_code))]
-    fn key(&self, alloc: Global) -> Result<Bytes, OutOfMemory> {
-        code_text(alloc, &self.code)
-    }
 }
 
 impl TestedRow for PartRow {
-    ghost use Rattle.desk_model.specs.declared.row.Row.TheVariants.{Part};
-    ghost use Rattle.desk_tables.specs.Soundness.{is_good_part};
+    ghost use Rattle.desk_history.specs.Fits.{fits_part};
 
-    ghost as_row = { Part };
+    ghost fits = { fits_part };
 
-    ghost is_good = { is_good_part };
-
-    fn is_good(&self, tables: &Tables) -> bool {
+    fn fits(&self, tables: &Tables) -> bool {
         self.code.as_bytes();
         self.name.as_bytes();
         !tables.is_material(&self.code)
     }
-
-    #[tactic(auto, unfolding(desk_model::specs::Rows::record_code))]
-    fn key(&self, alloc: Global) -> Result<Bytes, OutOfMemory> {
-        code_text(alloc, &self.code)
-    }
 }
 
 impl TestedRow for LineRow {
-    ghost use Rattle.desk_model.specs.declared.row.Row.TheVariants.{Line};
-    ghost use Rattle.desk_tables.specs.Soundness.{is_good_line};
+    ghost use Rattle.desk_history.specs.Fits.{fits_line};
 
-    ghost as_row = { Line };
+    ghost fits = { fits_line };
 
-    ghost is_good = { is_good_line };
-
-    fn is_good(&self, tables: &Tables) -> bool {
+    fn fits(&self, tables: &Tables) -> bool {
         self.parent.as_bytes();
         self.child.as_bytes();
         let count = u64::from(self.count);
@@ -127,79 +86,47 @@ impl TestedRow for LineRow {
             && has_right_child(tables, self)
             && !has_too_many_lines(tables, &self.parent)
     }
-
-    #[tactic(auto, unfolding(desk_model::specs::Rows::record_code))]
-    fn key(&self, alloc: Global) -> Result<Bytes, OutOfMemory> {
-        pair_text(alloc, self.parent.as_bytes(), self.child.as_bytes())
-    }
 }
 
 impl TestedRow for ProductRow {
-    ghost use Rattle.desk_model.specs.declared.row.Row.TheVariants.{Product};
-    ghost use Rattle.desk_tables.specs.Soundness.{is_good_product};
+    ghost use Rattle.desk_history.specs.Fits.{fits_product};
 
-    ghost as_row = { Product };
+    ghost fits = { fits_product };
 
-    ghost is_good = { is_good_product };
-
-    fn is_good(&self, tables: &Tables) -> bool {
+    fn fits(&self, tables: &Tables) -> bool {
         self.part.as_bytes();
         tables.is_part(&self.part)
-    }
-
-    #[tactic(auto, unfolding(desk_model::specs::Rows::record_code))]
-    fn key(&self, alloc: Global) -> Result<Bytes, OutOfMemory> {
-        code_text(alloc, &self.part)
     }
 }
 
 impl TestedRow for ExemptionRow {
-    ghost use Rattle.desk_model.specs.declared.row.Row.TheVariants.{Exemption};
-    ghost use Rattle.desk_tables.specs.Soundness.{is_good_exemption};
+    ghost use Rattle.desk_history.specs.Fits.{fits_exemption};
 
-    ghost as_row = { Exemption };
+    ghost fits = { fits_exemption };
 
-    ghost is_good = { is_good_exemption };
-
-    fn is_good(&self, _tables: &Tables) -> bool {
+    fn fits(&self, _tables: &Tables) -> bool {
         is_in_form(self) && !breaks_span(&self.terms) && !breaks_annex(&self.terms)
-    }
-
-    #[tactic(auto, unfolding(desk_model::specs::Rows::record_code))]
-    fn key(&self, alloc: Global) -> Result<Bytes, OutOfMemory> {
-        code_text(alloc, &self.terms.row)
     }
 }
 
 impl TestedRow for CandidateRow {
-    ghost use Rattle.desk_model.specs.declared.row.Row.TheVariants.{Candidate};
-    ghost use Rattle.desk_tables.specs.Soundness.{is_good_candidate};
+    ghost use Rattle.desk_history.specs.Fits.{fits_candidate};
 
-    ghost as_row = { Candidate };
+    ghost fits = { fits_candidate };
 
-    ghost is_good = { is_good_candidate };
-
-    fn is_good(&self, tables: &Tables) -> bool {
+    fn fits(&self, tables: &Tables) -> bool {
         self.substance.as_bytes();
         self.day.year();
         tables.is_substance(&self.substance)
     }
-
-    #[tactic(auto, unfolding(desk_model::specs::Rows::record_code))]
-    fn key(&self, alloc: Global) -> Result<Bytes, OutOfMemory> {
-        code_text(alloc, &self.substance)
-    }
 }
 
 impl TestedRow for ShipmentRow {
-    ghost use Rattle.desk_model.specs.declared.row.Row.TheVariants.{Shipment};
-    ghost use Rattle.desk_tables.specs.Soundness.{is_good_shipment};
+    ghost use Rattle.desk_history.specs.Fits.{fits_shipment};
 
-    ghost as_row = { Shipment };
+    ghost fits = { fits_shipment };
 
-    ghost is_good = { is_good_shipment };
-
-    fn is_good(&self, tables: &Tables) -> bool {
+    fn fits(&self, tables: &Tables) -> bool {
         self.product.as_bytes();
         let year = u64::from(self.year);
         FIRST_SHIPMENT_YEAR <= year
@@ -207,12 +134,6 @@ impl TestedRow for ShipmentRow {
             && 1 <= self.units
             && self.units <= UNITS_LIMIT
             && tables.is_product(&self.product)
-    }
-
-    #[tactic(auto, unfolding(desk_model::specs::Rows::record_code))]
-    fn key(&self, alloc: Global) -> Result<Bytes, OutOfMemory> {
-        let year = format!(in alloc; "{}", self.year)?;
-        pair_text(alloc, year.as_bytes(), self.product.as_bytes())
     }
 }
 
@@ -269,24 +190,4 @@ fn has_too_many_lines(tables: &Tables, parent: &Code) -> bool
     // The call does nothing but say that lines of one parent stand together.
     tables.in_order();
     run_of(tables.lines(), parent).len() > LINES_OF_PARENT_LIMIT
-}
-
-/// The bytes of a code.
-pub(crate) fn code_text(alloc: Global, code: &Code) -> Result<Bytes, OutOfMemory>
-    ensures { IfOk result (λ key. key ≡ code.now) }
-{
-    let mut key = Bytes::start(alloc);
-    key.push_all(code.as_bytes())?;
-    Ok(key)
-}
-
-/// Two parts of a key as one code.
-fn pair_text(alloc: Global, first: &[u8], second: &[u8]) -> Result<Bytes, OutOfMemory>
-    ensures { IfOk result (λ key. key ≡ pair_code first.now second.now) }
-{
-    let mut key = Bytes::start(alloc);
-    key.push_all(first)?;
-    key.push_all(b"/")?;
-    key.push_all(second)?;
-    Ok(key)
 }

@@ -35,7 +35,7 @@ impl Tables {
         requires { ticket.now ≡ ticket_for self.now.lists edit.now }
         ensures { result ≡ kept_number self.now.lists edit.now }
     {
-        match self.tickets.get(&ticket.code) {
+        match self.tables.tickets.get(&ticket.code) {
             Some(kept) if kept.text == ticket.text => Some(kept.number),
             _ => None,
         }
@@ -47,7 +47,7 @@ impl Tables {
         requires { ticket.now ≡ ticket_for self.now.lists edit.now }
         ensures { result ≡ ticket_reused self.now.lists edit.now }
     {
-        match self.tickets.get(&ticket.code) {
+        match self.tables.tickets.get(&ticket.code) {
             Some(kept) => refuse_if(kept.text != ticket.text, RuleFault::TicketReused),
             None => None,
         }

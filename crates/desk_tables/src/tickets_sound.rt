@@ -4,10 +4,10 @@ ghost use Rattle.desk_model.specs.declared.limits.TheConstants.{TICKET_LIMIT};
 ghost use Rattle.desk_model.specs.declared.rows.ticket.TicketRow.{TicketRow};
 ghost use Rattle.desk_history.specs.Limits.{has_too_much_text};
 ghost use Rattle.desk_history.specs.Sound.{IsTicketOfEdit};
-ghost use Rattle.desk_tables.specs.Soundness.{AreTicketsGood, IsNaming, IsTicketBroken, NamesBreach};
+ghost use Rattle.desk_tables.specs.Soundness.{AreTicketsGood, IsTicketBroken, NamesBreach};
 
 use crate::numbers_sound::odd_number;
-use crate::tested_row::naming;
+use crate::tested_row::fault_at;
 use crate::{SoundFault, Tables};
 use desk_fields::{TextFault, read_edit_text};
 use desk_model::TicketRow;
@@ -24,7 +24,7 @@ impl Tables {
         ensures told { IfSome result (NamesBreach self.now.lists) }
     {
         match self.broken_ticket(alloc) {
-            Ok(Some(place)) => Some(fault_of(alloc, &self.tickets()[place])),
+            Ok(Some(place)) => Some(fault_at(alloc, &self.tickets()[place])),
             Ok(None) => None,
             Err(_) => Some(SoundFault::OutOfMemory),
         }
@@ -57,13 +57,6 @@ impl Tables {
     {
         self.text > TEXT_LIMIT as u128
     }
-}
-
-/// The fault that names the ticket.
-fn fault_of(alloc: Global, ticket: &TicketRow) -> SoundFault
-    ensures { IsNaming 10 ticket.now.code result }
-{
-    naming(10, ticket.code.copied(alloc))
 }
 
 /// The place of the first ticket that is that of no edit.

@@ -6,5 +6,5 @@ use Rattle.desk_tables.proofs.tested_row.first_broken.Given as goal
 
 abbrev pub invariant-loop-place : goal.invariant-loop-place
 invariant-loop-place g l =
-    (list_all (g.R.TestedRow.is_good l.tables.lists) l.rows ≡ list_all (g.R.TestedRow.is_good l.tables.lists) (drop l.place l.rows))
+    (list_all (g.R.TestedRow.fits l.tables.lists) l.rows ≡ list_all (g.R.TestedRow.fits l.tables.lists) (drop l.place l.rows))
     × (nat_lt l.limit (length l.rows) ≡ false)

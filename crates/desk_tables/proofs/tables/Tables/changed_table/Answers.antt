@@ -27,7 +27,7 @@ unfolding with_change_made
 returns-in_ok-members-in-DropMember c =
     let rows =
     c.in_ok-members-in-DropMember.ensures
-    ∙ ap (λ number. without_row member_key member_key_cmp (c.in-DropMember.substance, number) c.self.inside.members.rows) c.number.ensures
+    ∙ ap (λ number. without_row member_key member_key_cmp (c.in-DropMember.substance, number) c.self.inside.tables.members.rows) c.number.ensures
     ∙ ap (λ (d : Desk). without_row member_key member_key_cmp (c.in-DropMember.substance, rule_number c.in-DropMember.rule) d.lists.members) c.self.view_is in
     ap (λ rows. record c.args.self.now.lists { members = rows }) rows ∙ ap (with_change_made c.args.self.now.lists) (sym c.in-DropMember.is)
 

@@ -1,14 +1,9 @@
-use Rattle.std.proofs.Common.{refl, sym, ap, ◌∙◌, length}
+use Rattle.std.proofs.Common.{sym, ap, ◌∙◌, length}
 use Rattle.std.specs.Prelude.{nat_lt}
-use Rattle.desk_model.specs.Rows.{table_number}
 use Rattle.desk_model.specs.declared.limits.TheConstants.{MEMBER_LIMIT}
 use Rattle.desk_tables.proofs.GoodRows.{member_breaks, overfull_member}
 use Rattle.desk_tables.proofs.Telling.{from_members}
 use Rattle.desk_tables.proofs.tables.Tables.members_fault.Goals as goal
-
-pub rows_fault-requires-clause-table : goal.rows_fault-requires-clause-table
-unfolding table_number
-rows_fault-requires-clause-table c row = refl
 
 pub rows_fault-requires-clause-breaks : goal.rows_fault-requires-clause-breaks
 rows_fault-requires-clause-breaks c row bad = member_breaks c.args.self.now.lists row bad

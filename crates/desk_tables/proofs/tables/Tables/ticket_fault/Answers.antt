@@ -13,5 +13,5 @@ returns-in-Ok-Some-clause-told c =
     let row = c.index-tickets-place.result in
     let broken = subst (λ found. MatchOption found (AreTicketsGood t) (IsTicketBroken t)) c.in-Ok-Some.field-0-is c.in-Ok-Some.ensures in
     let here : row ≡ get_or t.tickets place row = c.index-tickets-place.is ∙ ap (λ all. get_or all place row) c.tickets.ensures in
-    ticket_named t tickets place row c.fault_of.result c.tickets.ensures (subst (λ all. place < length all) (sym c.tickets.ensures) broken.0) c.index-tickets-place.is
-    (subst (λ r. Breaks t (Ticket r)) (sym here) (broken.1 row)) c.fault_of.ensures
+    ticket_named t tickets place row c.fault_at.result c.tickets.ensures (subst (λ all. place < length all) (sym c.tickets.ensures) broken.0) c.index-tickets-place.is
+    (subst (λ r. Breaks t (Ticket r)) (sym here) (broken.1 row)) c.fault_at.ensures
