@@ -56,9 +56,9 @@ taken_refused before now t left made cause e same stays =
     (same ∙ sym (append-nil before) ∙ ap (λ l. before ++ l) (sym (none_added t made cause e)), stays ∙ sym (refused-leaves t made cause e))
 
 -- how the body tells what the step of an edit gives
-pub body_so : (whole now met : ℕ) (said judged : Result ℕ RuleFault) (before after : List ℕ) → said ≡ judged → whole ≡ now
-    → after ≡ before ++ (reply_to_edit whole met said).body → after ≡ before ++ (reply_to_edit now met judged).body
-body_so whole now met said judged before after e f g = g ∙ ap (λ r. before ++ (reply_to_edit whole met r).body) e ∙ ap (λ n. before ++ (reply_to_edit n met judged).body) f
+pub body_so : (whole now last_seen : ℕ) (said judged : Result ℕ RuleFault) (before after : List ℕ) → said ≡ judged → whole ≡ now
+    → after ≡ before ++ (reply_to_edit whole last_seen said).body → after ≡ before ++ (reply_to_edit now last_seen judged).body
+body_so whole now last_seen said judged before after e f g = g ∙ ap (λ r. before ++ (reply_to_edit whole last_seen r).body) e ∙ ap (λ n. before ++ (reply_to_edit n last_seen judged).body) f
 
 -- the number of a list tells its length
 listed_number : (opening : Lists) (edits : List Edit) → IsHistory (list_from opening edits) → number_of (list_from opening edits) ≡ number_at opening + length edits

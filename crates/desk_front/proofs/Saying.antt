@@ -55,23 +55,23 @@ module _ {S A : Type 0} (Turn : S → Asked → Reply → List A → S → Type 
 
 -- ---- what answers by turns converses
 
-module _ {A S T : Type 0} (R : A → Message → List ℕ → A → Type 0) (state : A → S) (Turn : S → Asked → Reply → List T → S → Type 0) (met : S → ℕ)
+module _ {A S T : Type 0} (R : A → Message → List ℕ → A → Type 0) (state : A → S) (Turn : S → Asked → Reply → List T → S → Type 0) (last_seen : S → ℕ)
     (turns : (a b : A) (m : Message) (said : List ℕ) → R a m said b → Turns Turn (state a) m said (state b)) where
   conversation_of_each : (old new : A) (ms : List Message) (each : List (List ℕ)) → InOrder R old ms each new
-      → (told : List (Told T)) × Conversation Turn met (state old) ms told (state new) × (concat each ≡ all_bytes ms (replies_of told))
+      → (told : List (Told T)) × Conversation Turn last_seen (state old) ms told (state new) × (concat each ≡ all_bytes ms (replies_of told))
   conversation_of_each old new [] [] x = ([], ap state x, refl)
   conversation_of_each old new [] (said ∷ each) x = absurd x
   conversation_of_each old new (m ∷ ms) [] x = absurd x
   conversation_of_each old new (m ∷ ms) (said ∷ each) x =
       let first = turns old x.0 m said x.1 in
       let others = conversation_of_each x.0 new ms each x.2 in (
-        record { reply = first.0; met = met (state x.0); added = first.1 } ∷ others.0,
+        record { reply = first.0; last_seen = last_seen (state x.0); added = first.1 } ∷ others.0,
         (state x.0, (first.2, refl), others.1),
         ap (λ l. l ++ concat each) first.3 ∙ ap (λ l. reply_bytes m first.0 ++ l) others.2,
       )
 
   pub conversation_of : (old new : A) (ms : List Message) (said : List ℕ) → Replies R old ms said new
-      → (told : List (Told T)) × Conversation Turn met (state old) ms told (state new) × (said ≡ all_bytes ms (replies_of told))
+      → (told : List (Told T)) × Conversation Turn last_seen (state old) ms told (state new) × (said ≡ all_bytes ms (replies_of told))
   conversation_of old new ms said x = let y = conversation_of_each old new ms x.0 x.1 in (y.0, y.1, x.2 ∙ y.2)
 
 -- what each turn keeps is kept

@@ -64,10 +64,10 @@ edited_moves : (old new : Sitting) (made : Edit) (answer : Edited) (before behin
     → Moves old (given_for made (number_of new.seen) answer ∷ []) new
 edited_moves old new made answer before behind x = record { begins = x.begins; counted = x.counted; given = x.given }
 
-whole_reply : (whole met : ℕ) (judged : Result ℕ RuleFault) (status : ℕ) → status ≡ edited_status (edited_of judged)
-    → with_body status (reply_to_edit whole met judged).body ≡ reply_to_edit whole met judged
-whole_reply whole met (Ok number) status e = ap (λ s. with_body s (reply_to_edit whole met (Ok number)).body) e
-whole_reply whole met (Err cause) status e = ap (λ s. with_body s (reply_to_edit whole met (Err cause)).body) e
+whole_reply : (whole last_seen : ℕ) (judged : Result ℕ RuleFault) (status : ℕ) → status ≡ edited_status (edited_of judged)
+    → with_body status (reply_to_edit whole last_seen judged).body ≡ reply_to_edit whole last_seen judged
+whole_reply whole last_seen (Ok number) status e = ap (λ s. with_body s (reply_to_edit whole last_seen (Ok number)).body) e
+whole_reply whole last_seen (Err cause) status e = ap (λ s. with_body s (reply_to_edit whole last_seen (Err cause)).body) e
 
 -- an edit that is answered so, with the reply that is made of its body
 pub says_edited : (NeverFails : Type 0) (old new : Sitting) (made : Edit) (answer : Edited) (before behind body : List ℕ) (status : ℕ) (close : Bool)

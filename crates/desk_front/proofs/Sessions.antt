@@ -110,30 +110,30 @@ module _ (NeverFails : Type 0) where
   status_so : (reply told : Reply) → reply ≡ told → reply.status ≡ told.status
   status_so reply told e = ap (λ r. r.status) e
 
-  judged_status : (whole met : ℕ) (judged : Result ℕ RuleFault) → (reply_to_edit whole met judged).status ≡ edited_status (edited_of judged)
-  judged_status whole met (Ok number) = refl
-  judged_status whole met (Err cause) = refl
+  judged_status : (whole last_seen : ℕ) (judged : Result ℕ RuleFault) → (reply_to_edit whole last_seen judged).status ≡ edited_status (edited_of judged)
+  judged_status whole last_seen (Ok number) = refl
+  judged_status whole last_seen (Err cause) = refl
 
   said_gains : (before now : History) (asked : Asked) (reply : Reply) (added : List Given) → IsSaid before asked reply added now
-      → Gains asked (record { reply = reply; met = number_of now; added = added })
+      → Gains asked (record { reply = reply; last_seen = number_of now; added = added })
   said_gains before now (nothing told) reply added y = y.1
   said_gains before now (question asked) reply added y = y.1
   said_gains before now (edit made) reply added y =
       inl (edited_of y.0, status_so reply (reply_to_edit (number_of now) (number_of before) y.0) y.2 ∙ judged_status (number_of now) (number_of before) y.0, y.3)
 
   memory_gains : (before now : History) (asked : Asked) (reply : Reply) (added : List Given) → IsSaidOfMemory before asked reply added now
-      → Gains asked (record { reply = reply; met = number_of now; added = added })
+      → Gains asked (record { reply = reply; last_seen = number_of now; added = added })
   memory_gains before now (nothing told) reply added y = y.1
   memory_gains before now (question asked) reply added y = y.1
   memory_gains before now (edit made) reply added (memory, inl y) = inr (inl (status_so reply (fixed refusal.Memory) memory, inl y))
   memory_gains before now (edit made) reply added (memory, inr y) = inr (inl (status_so reply (fixed refusal.Memory) memory, inr (edited_of y.0, y.2)))
 
   turn_gains : (old new : Sitting) (asked : Asked) (reply : Reply) (added : List Given) → SeatTurn NeverFails old asked reply added new
-      → Gains asked (record { reply = reply; met = met_by new; added = added })
+      → Gains asked (record { reply = reply; last_seen = met_by new; added = added })
   turn_gains old new asked reply added (moves, inl y) = said_gains old.seen new.seen asked reply added y
   turn_gains old new asked reply added (moves, inr (inl y)) = memory_gains old.seen new.seen asked reply added y
   turn_gains old new asked reply added (moves, inr (inr y)) =
-      subst (λ a. Gains a (record { reply = reply; met = met_by new; added = added })) (sym y.1) (inr (inr (status_so reply (fixed refusal.StoreFault) y.2, y.3)))
+      subst (λ a. Gains a (record { reply = reply; last_seen = met_by new; added = added })) (sym y.1) (inr (inr (status_so reply (fixed refusal.StoreFault) y.2, y.3)))
 
   session_gains : (old new : Sitting) (ms : List Message) (told : List (Told Given)) → Conversation (SeatTurn NeverFails) met_by old ms told new
       → Each (λ request one. Gains (asked_of request) one) ms told
@@ -142,7 +142,7 @@ module _ (NeverFails : Type 0) where
   session_gains old new (m ∷ ms) [] x = absurd x
   session_gains old new (m ∷ ms) (one ∷ told) x = (
     tt,
-    subst (λ n. Gains (asked_of m) (record { reply = one.reply; met = n; added = one.added })) (sym x.1.1) (turn_gains old x.0 (asked_of m) one.reply one.added x.1.0),
+    subst (λ n. Gains (asked_of m) (record { reply = one.reply; last_seen = n; added = one.added })) (sym x.1.1) (turn_gains old x.0 (asked_of m) one.reply one.added x.1.0),
     session_gains x.0 new ms told x.2,
   )
 

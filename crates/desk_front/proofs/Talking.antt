@@ -38,8 +38,8 @@ use Rattle.desk_front.specs.Told.{Conversation, Told, added_by, replies_of}
 use Rattle.desk_front.specs.Turn.{Converses, Standing, Turn}
 use Rattle.desk_front.proofs.InOrder.{in_order_relates}
 
-abbrev met_of : Standing → ℕ
-met_of standing = standing.met
+abbrev last_seen_of : Standing → ℕ
+last_seen_of standing = standing.last_seen
 
 -- ---- what a turn adds to the list
 
@@ -49,23 +49,23 @@ grows_nothing t new added none same = subst (λ l. Grows t l new) (sym none) (tt
 grows_edit : (t new : Lists) (made : Edit) (added : List Edit) → is_edit_in_form made ≡ true → added ≡ added_to_list t made → new ≡ (step t made).1 → Grows t added new
 grows_edit t new made added form same left = subst (λ l. Grows t l new) (sym same) (subst (Grows t (added_to_list t made)) (sym left) (grows_at t made form))
 
-turn_grows : (old new : Standing) (asked : Asked) (reply : Reply) (added : List Edit) → Turn old asked reply added new → Grows old.whole added new.whole
-turn_grows old new (nothing told) reply added (inl x) = grows_nothing old.whole new.whole added x.1 (ap (λ s. s.whole) x.2)
-turn_grows old new (question asked) reply added (inl x) = grows_nothing old.whole new.whole added x.1 (ap (λ s. s.whole) x.2)
-turn_grows old new (edit made) reply added (inl x) = grows_edit old.whole new.whole made added x.0 x.2 (ap (λ s. s.whole) x.3)
-turn_grows old new asked reply added (inr (inl (memory, inl x))) = grows_nothing old.whole new.whole added x.0 (ap (λ s. s.whole) x.1)
-turn_grows old new asked reply added (inr (inl (memory, inr x))) = grows_edit old.whole new.whole x.0 added x.2 x.3 (ap (λ s. s.whole) x.4)
-turn_grows old new asked reply added (inr (inr x)) = grows_nothing old.whole new.whole added x.3 (ap (λ s. s.whole) x.6)
+turn_grows : (old new : Standing) (asked : Asked) (reply : Reply) (added : List Edit) → Turn old asked reply added new → Grows old.current added new.current
+turn_grows old new (nothing told) reply added (inl x) = grows_nothing old.current new.current added x.1 (ap (λ s. s.current) x.2)
+turn_grows old new (question asked) reply added (inl x) = grows_nothing old.current new.current added x.1 (ap (λ s. s.current) x.2)
+turn_grows old new (edit made) reply added (inl x) = grows_edit old.current new.current made added x.0 x.2 (ap (λ s. s.current) x.3)
+turn_grows old new asked reply added (inr (inl (memory, inl x))) = grows_nothing old.current new.current added x.0 (ap (λ s. s.current) x.1)
+turn_grows old new asked reply added (inr (inl (memory, inr x))) = grows_edit old.current new.current x.0 added x.2 x.3 (ap (λ s. s.current) x.4)
+turn_grows old new asked reply added (inr (inr x)) = grows_nothing old.current new.current added x.3 (ap (λ s. s.current) x.6)
 
-pub conversation_grows : (old new : Standing) (ms : List Message) (told : List (Told Edit)) → Conversation Turn met_of old ms told new → Grows old.whole (added_by told) new.whole
-conversation_grows old new [] [] x = grows_nothing old.whole new.whole [] refl (ap (λ s. s.whole) x)
+pub conversation_grows : (old new : Standing) (ms : List Message) (told : List (Told Edit)) → Conversation Turn last_seen_of old ms told new → Grows old.current (added_by told) new.current
+conversation_grows old new [] [] x = grows_nothing old.current new.current [] refl (ap (λ s. s.current) x)
 conversation_grows old new [] (one ∷ told) x = absurd x
 conversation_grows old new (m ∷ ms) [] x = absurd x
 conversation_grows old new (m ∷ ms) (one ∷ told) x =
     let first = turn_grows old x.0 (asked_of m) one.reply one.added x.1.0 in
     let others = conversation_grows x.0 new ms told x.2 in (
-      accepted_on old.whole one.added (added_by told) first.0 (subst (λ t. AreAccepted t (added_by told)) (sym first.1) others.0),
-      after_on old.whole one.added (added_by told) ∙ ap (λ t. tables_after t (added_by told)) first.1 ∙ others.1,
+      accepted_on old.current one.added (added_by told) first.0 (subst (λ t. AreAccepted t (added_by told)) (sym first.1) others.0),
+      after_on old.current one.added (added_by told) ∙ ap (λ t. tables_after t (added_by told)) first.1 ∙ others.1,
     )
 
 -- the tables after a history are sound
@@ -78,18 +78,18 @@ grown_number : (t new : Lists) (added : List Edit) → Grows t added new → num
 grown_number t new added x = omega (arith, tickets-tables_after t added x.0, ap number_at x.1)
 
 -- what a connection has met stays within the list, and never falls
-turn_meets : (old new : Standing) (asked : Asked) (reply : Reply) (added : List Edit) → Turn old asked reply added new → old.met ≤ number_at old.whole
-    → (old.met ≤ new.met) × (new.met ≤ number_at new.whole)
-turn_meets old new (nothing told) reply added (inl x) h = subst (λ s. (old.met ≤ s.met) × (s.met ≤ number_at s.whole)) (sym x.2) (omega arith, h)
-turn_meets old new (question asked) reply added (inl x) h = subst (λ s. (old.met ≤ s.met) × (s.met ≤ number_at s.whole)) (sym x.2) (h, omega arith)
+turn_meets : (old new : Standing) (asked : Asked) (reply : Reply) (added : List Edit) → Turn old asked reply added new → old.last_seen ≤ number_at old.current
+    → (old.last_seen ≤ new.last_seen) × (new.last_seen ≤ number_at new.current)
+turn_meets old new (nothing told) reply added (inl x) h = subst (λ s. (old.last_seen ≤ s.last_seen) × (s.last_seen ≤ number_at s.current)) (sym x.2) (omega arith, h)
+turn_meets old new (question asked) reply added (inl x) h = subst (λ s. (old.last_seen ≤ s.last_seen) × (s.last_seen ≤ number_at s.current)) (sym x.2) (h, omega arith)
 turn_meets old new (edit made) reply added (inl x) h =
-    let more = grown_number old.whole (step old.whole made).1 (added_to_list old.whole made) (grows_at old.whole made x.0) in
-    subst (λ s. (old.met ≤ s.met) × (s.met ≤ number_at s.whole)) (sym x.3) (omega (arith, h, more), omega arith)
-turn_meets old new asked reply added (inr (inl (memory, inl x))) h = subst (λ s. (old.met ≤ s.met) × (s.met ≤ number_at s.whole)) (sym x.1) (omega arith, h)
+    let more = grown_number old.current (step old.current made).1 (added_to_list old.current made) (grows_at old.current made x.0) in
+    subst (λ s. (old.last_seen ≤ s.last_seen) × (s.last_seen ≤ number_at s.current)) (sym x.3) (omega (arith, h, more), omega arith)
+turn_meets old new asked reply added (inr (inl (memory, inl x))) h = subst (λ s. (old.last_seen ≤ s.last_seen) × (s.last_seen ≤ number_at s.current)) (sym x.1) (omega arith, h)
 turn_meets old new asked reply added (inr (inl (memory, inr x))) h =
-    let more = grown_number old.whole (step old.whole x.0).1 (added_to_list old.whole x.0) (grows_at old.whole x.0 x.2) in
-    subst (λ s. (old.met ≤ s.met) × (s.met ≤ number_at s.whole)) (sym x.4) (omega arith, omega (arith, h, more))
-turn_meets old new asked reply added (inr (inr x)) h = subst (λ s. (old.met ≤ s.met) × (s.met ≤ number_at s.whole)) (sym x.6) (omega arith, h)
+    let more = grown_number old.current (step old.current x.0).1 (added_to_list old.current x.0) (grows_at old.current x.0 x.2) in
+    subst (λ s. (old.last_seen ≤ s.last_seen) × (s.last_seen ≤ number_at s.current)) (sym x.4) (omega arith, omega (arith, h, more))
+turn_meets old new asked reply added (inr (inr x)) h = subst (λ s. (old.last_seen ≤ s.last_seen) × (s.last_seen ≤ number_at s.current)) (sym x.6) (omega arith, h)
 
 -- ---- one list
 
@@ -118,56 +118,56 @@ judged_so t made None (Some cause) a b = subst (λ s. IsJudged s.1 made s.0) (sy
 judged_so t made None None a b = subst (λ s. IsJudged s.1 made s.0) (sym (step-accepted t made a b)) (kept-entered t made)
 
 abbrev Tells : History → Asked → ℕ → Reply → ℕ → Type 0
-Tells list asked met reply now = IsTold list asked met reply now ⊎ IsToldOfMemory list asked met reply now
+Tells list asked last_seen reply now = IsTold list asked last_seen reply now ⊎ IsToldOfMemory list asked last_seen reply now
 
-told_of_memory : (list : History) (asked : Asked) (met now : ℕ) (reply : Reply) → reply ≡ fixed refusal.Memory → now ≡ met → IsToldOfMemory list asked met reply now
-told_of_memory list (nothing told) met now reply e f = (e, f)
-told_of_memory list (question asked) met now reply e f = (e, inl f)
-told_of_memory list (edit made) met now reply e f = (e, inl f)
+told_of_memory : (list : History) (asked : Asked) (last_seen now : ℕ) (reply : Reply) → reply ≡ fixed refusal.Memory → now ≡ last_seen → IsToldOfMemory list asked last_seen reply now
+told_of_memory list (nothing told) last_seen now reply e f = (e, f)
+told_of_memory list (question asked) last_seen now reply e f = (e, inl f)
+told_of_memory list (edit made) last_seen now reply e f = (e, inl f)
 
-turn_tells : (list : History) (old new : Standing) (asked : Asked) (reply : Reply) (added : List Edit) → Turn old asked reply added new → old.met ≤ number_at old.whole
-    → Moment list old.whole → Moment list new.whole → Tells list asked old.met reply new.met
-turn_tells list old new (nothing told) reply added (inl x) h before now = inl (x.0, ap (λ s. s.met) x.2)
+turn_tells : (list : History) (old new : Standing) (asked : Asked) (reply : Reply) (added : List Edit) → Turn old asked reply added new → old.last_seen ≤ number_at old.current
+    → Moment list old.current → Moment list new.current → Tells list asked old.last_seen reply new.last_seen
+turn_tells list old new (nothing told) reply added (inl x) h before now = inl (x.0, ap (λ s. s.last_seen) x.2)
 turn_tells list old new (question asked) reply added (inl x) h before now =
-    let met : new.met ≡ number_at old.whole = ap (λ s. s.met) x.2 in
+    let last_seen : new.last_seen ≡ number_at old.current = ap (λ s. s.last_seen) x.2 in
     inl (
-      subst (Follows list old.met) (sym met) (before.opened, h, before.within),
-      subst (λ n. reply ≡ answer_at (after (up_to list n)) asked) (sym met) (x.0 ∙ ap (λ t. answer_at t asked) (sym before.named)),
+      subst (Follows list old.last_seen) (sym last_seen) (before.opened, h, before.within),
+      subst (λ n. reply ≡ answer_at (after (up_to list n)) asked) (sym last_seen) (x.0 ∙ ap (λ t. answer_at t asked) (sym before.named)),
     )
 turn_tells list old new (edit made) reply added (inl x) h before now =
-    let met : new.met ≡ number_at (step old.whole made).1 = ap (λ s. s.met) x.3 in
-    let left : new.whole ≡ (step old.whole made).1 = ap (λ s. s.whole) x.3 in
-    let at : Moment list (step old.whole made).1 = subst (Moment list) left now in
-    let more = grown_number old.whole (step old.whole made).1 (added_to_list old.whole made) (grows_at old.whole made x.0) in
+    let last_seen : new.last_seen ≡ number_at (step old.current made).1 = ap (λ s. s.last_seen) x.3 in
+    let left : new.current ≡ (step old.current made).1 = ap (λ s. s.current) x.3 in
+    let at : Moment list (step old.current made).1 = subst (Moment list) left now in
+    let more = grown_number old.current (step old.current made).1 (added_to_list old.current made) (grows_at old.current made x.0) in
     inl (inl (
-      subst (Follows list old.met) (sym met) (at.opened, omega (arith, h, more), at.within),
-      subst (λ n. TellsJudgement (after (up_to list n)) n old.met made reply) (sym met)
-          (subst (λ t. TellsJudgement t (number_at (step old.whole made).1) old.met made reply) (sym at.named)
-          ((step old.whole made).0, judged_so old.whole made (kept_number old.whole made) (refused old.whole made) refl refl, x.1)),
+      subst (Follows list old.last_seen) (sym last_seen) (at.opened, omega (arith, h, more), at.within),
+      subst (λ n. TellsJudgement (after (up_to list n)) n old.last_seen made reply) (sym last_seen)
+          (subst (λ t. TellsJudgement t (number_at (step old.current made).1) old.last_seen made reply) (sym at.named)
+          ((step old.current made).0, judged_so old.current made (kept_number old.current made) (refused old.current made) refl refl, x.1)),
     ))
 turn_tells list old new asked reply added (inr (inl (memory, inl x))) h before now =
-    inr (told_of_memory list asked old.met new.met reply memory (ap (λ s. s.met) x.1))
+    inr (told_of_memory list asked old.last_seen new.last_seen reply memory (ap (λ s. s.last_seen) x.1))
 turn_tells list old new asked reply added (inr (inl (memory, inr x))) h before now =
-    inr (told_of_memory list asked old.met new.met reply memory (ap (λ s. s.met) x.4))
+    inr (told_of_memory list asked old.last_seen new.last_seen reply memory (ap (λ s. s.last_seen) x.4))
 turn_tells list old new asked reply added (inr (inr x)) h before now =
-    inl (subst (λ a. IsTold list a old.met reply new.met) (sym x.1) (inr (x.2, ap (λ s. s.met) x.6)))
+    inl (subst (λ a. IsTold list a old.last_seen reply new.last_seen) (sym x.1) (inr (x.2, ap (λ s. s.last_seen) x.6)))
 
 -- a conversation from a moment of the list on is a talk over the list
 talks : (t : Lists) (all before : List Edit) (old new : Standing) (ms : List Message) (told : List (Told Edit))
-    → Sound t → AreAccepted t all → all ≡ before ++ added_by told → AreAccepted t before → tables_after t before ≡ old.whole → old.met ≤ number_at old.whole
-    → Conversation Turn met_of old ms told new → InOrder (IsAnswered (record { opening = t; edits = all })) old.met ms (replies_of told) new.met
-talks t all before old new [] [] sound fine split some at h x = ap (λ s. s.met) x
+    → Sound t → AreAccepted t all → all ≡ before ++ added_by told → AreAccepted t before → tables_after t before ≡ old.current → old.last_seen ≤ number_at old.current
+    → Conversation Turn last_seen_of old ms told new → InOrder (IsAnswered (record { opening = t; edits = all })) old.last_seen ms (replies_of told) new.last_seen
+talks t all before old new [] [] sound fine split some at h x = ap (λ s. s.last_seen) x
 talks t all before old new [] (one ∷ told) sound fine split some at h x = absurd x
 talks t all before old new (m ∷ ms) [] sound fine split some at h x = absurd x
 talks t all before old new (m ∷ ms) (one ∷ told) sound fine split some at h x =
     let list : History = record { opening = t; edits = all } in
     let grown = turn_grows old x.0 (asked_of m) one.reply one.added x.1.0 in
     let further : AreAccepted t (before ++ one.added) = accepted_on t before one.added some (subst (λ u. AreAccepted u one.added) (sym at) grown.0) in
-    let left : tables_after t (before ++ one.added) ≡ x.0.whole = after_on t before one.added ∙ ap (λ u. tables_after u one.added) at ∙ grown.1 in
+    let left : tables_after t (before ++ one.added) ≡ x.0.current = after_on t before one.added ∙ ap (λ u. tables_after u one.added) at ∙ grown.1 in
     let parts : all ≡ (before ++ one.added) ++ added_by told = split ∙ sym (append_assoc before one.added (added_by told)) in
-    let here : Moment list old.whole = subst (Moment list) at (moment_of t all before (one.added ++ added_by told) sound fine split some) in
-    let there : Moment list x.0.whole = subst (Moment list) left (moment_of t all (before ++ one.added) (added_by told) sound fine parts further) in (
-      x.0.met,
+    let here : Moment list old.current = subst (Moment list) at (moment_of t all before (one.added ++ added_by told) sound fine split some) in
+    let there : Moment list x.0.current = subst (Moment list) left (moment_of t all (before ++ one.added) (added_by told) sound fine parts further) in (
+      x.0.last_seen,
       turn_tells list old x.0 (asked_of m) one.reply one.added x.1.0 h here there,
       talks t all (before ++ one.added) x.0 new ms told sound fine parts further left (turn_meets old x.0 (asked_of m) one.reply one.added x.1.0 h).1 x.2,
     )
@@ -209,9 +209,9 @@ pub evaluated_not_of_store : (t : Lists) (x : Result (List ℕ) AskFault) → (e
 evaluated_not_of_store t (Ok text) = λ e. absurd (omega (arith, e))
 evaluated_not_of_store t (Err cause) = λ e. absurd (omega (arith, e))
 
-pub judged_not_of_store : (whole met : ℕ) (x : Result ℕ RuleFault) → (reply_to_edit whole met x).status ≢ 503
-judged_not_of_store whole met (Ok number) = λ e. absurd (omega (arith, e))
-judged_not_of_store whole met (Err cause) = λ e. absurd (omega (arith, e))
+pub judged_not_of_store : (whole last_seen : ℕ) (x : Result ℕ RuleFault) → (reply_to_edit whole last_seen x).status ≢ 503
+judged_not_of_store whole last_seen (Ok number) = λ e. absurd (omega (arith, e))
+judged_not_of_store whole last_seen (Err cause) = λ e. absurd (omega (arith, e))
 
 pub same_other : (reply told : Reply) → reply ≡ told → told.status ≢ 503 → reply.status ≢ 503
 same_other reply told e other f = other (sym (ap (λ r. r.status) e) ∙ f)
@@ -224,22 +224,22 @@ turn_faults old new asked reply added (inr (inl (memory, inl x))) = omega (arith
 turn_faults old new asked reply added (inr (inl (memory, inr x))) = omega (arith, ap (λ s. s.faults) x.4)
 turn_faults old new asked reply added (inr (inr x)) = x.4
 
-pub conversation_faults : (old new : Standing) (ms : List Message) (told : List (Told Edit)) → Conversation Turn met_of old ms told new → old.faults ≤ new.faults
+pub conversation_faults : (old new : Standing) (ms : List Message) (told : List (Told Edit)) → Conversation Turn last_seen_of old ms told new → old.faults ≤ new.faults
 conversation_faults =
-    in_order_relates (λ old m one new. Turn old (asked_of m) one.reply one.added new × (one.met ≡ met_of new)) (λ a b. a.faults ≤ b.faults) (λ a. omega arith)
+    in_order_relates (λ old m one new. Turn old (asked_of m) one.reply one.added new × (one.last_seen ≡ last_seen_of new)) (λ a b. a.faults ≤ b.faults) (λ a. omega arith)
     (λ a b c x y. omega (arith, x, y)) (λ a b m one x. turn_faults a b (asked_of m) one.reply one.added x.0)
 
 turn_kept : (old new : Standing) (asked : Asked) (reply : Reply) (added : List Edit) → IsNotOfStore asked → Turn old asked reply added new
     → (Rose old.faults new.faults → ⊥) → reply.status ≢ 503
 turn_kept old new (nothing told) reply added other (inl x) steady = same_other reply told x.0 other
-turn_kept old new (question asked) reply added other (inl x) steady = same_other reply (answer_at old.whole asked) x.0 (evaluated_not_of_store old.whole (eval old.whole asked))
+turn_kept old new (question asked) reply added other (inl x) steady = same_other reply (answer_at old.current asked) x.0 (evaluated_not_of_store old.current (eval old.current asked))
 turn_kept old new (edit made) reply added other (inl x) steady =
-    same_other reply (reply_to_edit (number_at (step old.whole made).1) old.met (step old.whole made).0) x.1
-    (judged_not_of_store (number_at (step old.whole made).1) old.met (step old.whole made).0)
+    same_other reply (reply_to_edit (number_at (step old.current made).1) old.last_seen (step old.current made).0) x.1
+    (judged_not_of_store (number_at (step old.current made).1) old.last_seen (step old.current made).0)
 turn_kept old new asked reply added other (inr (inl x)) steady = same_other reply (fixed refusal.Memory) x.0 (λ e. absurd (omega (arith, e)))
 turn_kept old new asked reply added other (inr (inr x)) steady = absurd (steady x.5)
 
-pub conversation_kept : (old new : Standing) (ms : List Message) (told : List (Told Edit)) → Conversation Turn met_of old ms told new → (Rose old.faults new.faults → ⊥)
+pub conversation_kept : (old new : Standing) (ms : List Message) (told : List (Told Edit)) → Conversation Turn last_seen_of old ms told new → (Rose old.faults new.faults → ⊥)
     → AllByRecursion (λ reply. reply.status ≢ 503) (replies_of told)
 conversation_kept old new [] [] x steady = tt
 conversation_kept old new [] (one ∷ told) x steady = absurd x
@@ -254,10 +254,10 @@ conversation_kept old new (m ∷ ms) (one ∷ told) x steady =
 -- ---- all of it
 
 pub converses : (start : Standing) (left : Lists) (last_met counted : ℕ) (ms : List Message) (told : List (Told Edit)) (said : List ℕ)
-    → Sound start.whole → start.met ≤ number_at start.whole → Conversation Turn met_of start ms told (record { whole = left; met = last_met; faults = counted })
+    → Sound start.current → start.last_seen ≤ number_at start.current → Conversation Turn last_seen_of start ms told (record { current = left; last_seen = last_met; faults = counted })
     → said ≡ all_bytes ms (replies_of told) → Converses start left counted ms said
-converses start left last_met counted ms told said sound met x e =
-    let finish : Standing = record { whole = left; met = last_met; faults = counted } in
+converses start left last_met counted ms told said sound last_seen x e =
+    let finish : Standing = record { current = left; last_seen = last_met; faults = counted } in
     let grown = conversation_grows start finish ms told x in
     record {
       told = told;
@@ -265,6 +265,6 @@ converses start left last_met counted ms told said sound met x e =
       bytes = e;
       turns = x;
       grown = (record { sound = sound; accepted = grown.0 }, grown.1);
-      talk = (last_met, talks start.whole (added_by told) [] start finish ms told sound grown.0 refl tt refl met x);
+      talk = (last_met, talks start.current (added_by told) [] start finish ms told sound grown.0 refl tt refl last_seen x);
       kept = conversation_kept start finish ms told x;
     }

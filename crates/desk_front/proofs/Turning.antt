@@ -39,83 +39,83 @@ refuses old reply = inl (refl, refl, refl)
 pub lacks : (old : Standing) (asked : Asked) → Turn old asked (fixed refusal.Memory) [] old
 lacks old asked = inr (inl (refl, inl (refl, refl)))
 
-pub says_answer : (old : Standing) (asked : Question) (close : Bool) (met : ℕ) → met ≡ number_at old.whole
-    → Says Turn old (question asked) close (bytes_with close (answer_at old.whole asked)) (record old { met = met })
-says_answer old asked close met e = (answer_at old.whole asked, [], inl (refl, refl, ap (λ n. record old { met = n }) e), refl)
+pub says_answer : (old : Standing) (asked : Question) (close : Bool) (last_seen : ℕ) → last_seen ≡ number_at old.current
+    → Says Turn old (question asked) close (bytes_with close (answer_at old.current asked)) (record old { last_seen = last_seen })
+says_answer old asked close last_seen e = (answer_at old.current asked, [], inl (refl, refl, ap (λ n. record old { last_seen = n }) e), refl)
 
-pub says_accepted : (old new : Standing) (made : Edit) (close : Bool) (number whole : ℕ) → is_edit_in_form made ≡ true → (step old.whole made).0 ≡ Ok number
-    → whole ≡ number_at new.whole → new.whole ≡ (step old.whole made).1 → new.faults ≡ old.faults → new.met ≡ whole
-    → Says Turn old (edit made) close (bytes_with close (with_body 200 (accepted_body whole old.met number))) new
-says_accepted old new made close number whole form answer counted left steady met =
-    let at : whole ≡ number_at (step old.whole made).1 = counted ∙ ap number_at left in
-    let met_at : new.met ≡ number_at (step old.whole made).1 = met ∙ at in (
-      with_body 200 (accepted_body whole old.met number),
-      added_to_list old.whole made,
+pub says_accepted : (old new : Standing) (made : Edit) (close : Bool) (number whole : ℕ) → is_edit_in_form made ≡ true → (step old.current made).0 ≡ Ok number
+    → whole ≡ number_at new.current → new.current ≡ (step old.current made).1 → new.faults ≡ old.faults → new.last_seen ≡ whole
+    → Says Turn old (edit made) close (bytes_with close (with_body 200 (accepted_body whole old.last_seen number))) new
+says_accepted old new made close number whole form answer counted left steady last_seen =
+    let at : whole ≡ number_at (step old.current made).1 = counted ∙ ap number_at left in
+    let last_seen_at : new.last_seen ≡ number_at (step old.current made).1 = last_seen ∙ at in (
+      with_body 200 (accepted_body whole old.last_seen number),
+      added_to_list old.current made,
       inl (
         form,
-        ap (λ n. reply_to_edit n old.met (Ok number)) at ∙ ap (reply_to_edit (number_at (step old.whole made).1) old.met) (sym answer),
+        ap (λ n. reply_to_edit n old.last_seen (Ok number)) at ∙ ap (reply_to_edit (number_at (step old.current made).1) old.last_seen) (sym answer),
         refl,
-        (λ i. record { whole = left i; met = met_at i; faults = steady i }),
+        (λ i. record { current = left i; last_seen = last_seen_at i; faults = steady i }),
       ),
       refl,
     )
 
-pub says_refused : (old new : Standing) (made : Edit) (close : Bool) (cause : RuleFault) (whole : ℕ) → is_edit_in_form made ≡ true → (step old.whole made).0 ≡ Err cause
-    → (step old.whole made).1 ≡ old.whole → whole ≡ number_at old.whole → new.whole ≡ old.whole → new.faults ≡ old.faults → new.met ≡ whole
-    → Says Turn old (edit made) close (bytes_with close (with_body 409 (refused_body whole old.met cause))) new
-says_refused old new made close cause whole form answer stays counted left steady met =
-    let left_at : new.whole ≡ (step old.whole made).1 = left ∙ sym stays in
-    let at : whole ≡ number_at (step old.whole made).1 = counted ∙ ap number_at (sym stays) in
-    let met_at : new.met ≡ number_at (step old.whole made).1 = met ∙ at in (
-      with_body 409 (refused_body whole old.met cause),
-      added_to_list old.whole made,
+pub says_refused : (old new : Standing) (made : Edit) (close : Bool) (cause : RuleFault) (whole : ℕ) → is_edit_in_form made ≡ true → (step old.current made).0 ≡ Err cause
+    → (step old.current made).1 ≡ old.current → whole ≡ number_at old.current → new.current ≡ old.current → new.faults ≡ old.faults → new.last_seen ≡ whole
+    → Says Turn old (edit made) close (bytes_with close (with_body 409 (refused_body whole old.last_seen cause))) new
+says_refused old new made close cause whole form answer stays counted left steady last_seen =
+    let left_at : new.current ≡ (step old.current made).1 = left ∙ sym stays in
+    let at : whole ≡ number_at (step old.current made).1 = counted ∙ ap number_at (sym stays) in
+    let last_seen_at : new.last_seen ≡ number_at (step old.current made).1 = last_seen ∙ at in (
+      with_body 409 (refused_body whole old.last_seen cause),
+      added_to_list old.current made,
       inl (
         form,
-        ap (λ n. reply_to_edit n old.met (Err cause)) at ∙ ap (reply_to_edit (number_at (step old.whole made).1) old.met) (sym answer),
+        ap (λ n. reply_to_edit n old.last_seen (Err cause)) at ∙ ap (reply_to_edit (number_at (step old.current made).1) old.last_seen) (sym answer),
         refl,
-        (λ i. record { whole = left_at i; met = met_at i; faults = steady i }),
+        (λ i. record { current = left_at i; last_seen = last_seen_at i; faults = steady i }),
       ),
       refl,
     )
 
 -- an edit was made, and there was no memory to tell it
 pub says_made : (old new : Standing) (made : Edit) (close : Bool) (refused : Fixed) → refused ≡ refusal.Memory → is_edit_in_form made ≡ true
-    → new.whole ≡ (step old.whole made).1 → new.met ≡ old.met → new.faults ≡ old.faults → Says Turn old (edit made) close (fixed_reply refused close) new
-says_made old new made close refused e form left met steady =
+    → new.current ≡ (step old.current made).1 → new.last_seen ≡ old.last_seen → new.faults ≡ old.faults → Says Turn old (edit made) close (fixed_reply refused close) new
+says_made old new made close refused e form left last_seen steady =
     subst (λ r. Says Turn old (edit made) close (fixed_reply r close) new) (sym e) (
       fixed refusal.Memory,
-      added_to_list old.whole made,
-      inr (inl (refl, inr (made, refl, form, refl, (λ i. record { whole = left i; met = met i; faults = steady i })))),
+      added_to_list old.current made,
+      inr (inl (refl, inr (made, refl, form, refl, (λ i. record { current = left i; last_seen = last_seen i; faults = steady i })))),
       fixed_bytes refusal.Memory close,
     )
 
 -- nothing was made, and there was no memory to tell why
-pub says_unmade : (old new : Standing) (asked : Asked) (close : Bool) (refused : Fixed) → refused ≡ refusal.Memory → new.whole ≡ old.whole → new.met ≡ old.met
+pub says_unmade : (old new : Standing) (asked : Asked) (close : Bool) (refused : Fixed) → refused ≡ refusal.Memory → new.current ≡ old.current → new.last_seen ≡ old.last_seen
     → new.faults ≡ old.faults → Says Turn old asked close (fixed_reply refused close) new
-says_unmade old new asked close refused e left met steady =
+says_unmade old new asked close refused e left last_seen steady =
     subst (λ r. Says Turn old asked close (fixed_reply r close) new) (sym e) (
       fixed refusal.Memory,
       [],
-      inr (inl (refl, inl (refl, (λ i. record { whole = left i; met = met i; faults = steady i })))),
+      inr (inl (refl, inl (refl, (λ i. record { current = left i; last_seen = last_seen i; faults = steady i })))),
       fixed_bytes refusal.Memory close,
     )
 
 -- the store failed to keep an edit that is new and that meets no refusal
-pub says_failed : (old new : Standing) (made : Edit) (close : Bool) → new.whole ≡ old.whole → new.met ≡ old.met → old.faults ≤ new.faults → Rose old.faults new.faults
-    → (kept_number old.whole made ≡ None) × (is_ok (step old.whole made).0 ≡ true) → Says Turn old (edit made) close (fixed_reply refusal.StoreFault close) new
-says_failed old new made close left met falls rose asked = (
+pub says_failed : (old new : Standing) (made : Edit) (close : Bool) → new.current ≡ old.current → new.last_seen ≡ old.last_seen → old.faults ≤ new.faults → Rose old.faults new.faults
+    → (kept_number old.current made ≡ None) × (is_ok (step old.current made).0 ≡ true) → Says Turn old (edit made) close (fixed_reply refusal.StoreFault close) new
+says_failed old new made close left last_seen falls rose asked = (
   fixed refusal.StoreFault,
   [],
-  inr (inr (made, refl, refl, refl, falls, rose, (λ i. record { whole = left i; met = met i; faults = new.faults }), asked.0, asked.1)),
+  inr (inr (made, refl, refl, refl, falls, rose, (λ i. record { current = left i; last_seen = last_seen i; faults = new.faults }), asked.0, asked.1)),
   fixed_bytes refusal.StoreFault close,
 )
 
 -- memory was wanting: nothing of the edit was made, or it is made and not published
 pub says_untold : {P Q R : Type 0} (old new : Standing) (made : Edit) (close : Bool) → is_edit_in_form made ≡ true
-    → (P × (new.whole ≡ old.whole)) ⊎ ((Q × (new.whole ≡ (step old.whole made).1)) × R) → new.met ≡ old.met → new.faults ≡ old.faults
+    → (P × (new.current ≡ old.current)) ⊎ ((Q × (new.current ≡ (step old.current made).1)) × R) → new.last_seen ≡ old.last_seen → new.faults ≡ old.faults
     → Says Turn old (edit made) close (fixed_reply refusal.Memory close) new
-says_untold old new made close form (inl x) met steady = says_unmade old new (edit made) close refusal.Memory refl x.1 met steady
-says_untold old new made close form (inr x) met steady = says_made old new made close refusal.Memory refl form x.0.1 met steady
+says_untold old new made close form (inl x) last_seen steady = says_unmade old new (edit made) close refusal.Memory refl x.1 last_seen steady
+says_untold old new made close form (inr x) last_seen steady = says_made old new made close refusal.Memory refl form x.0.1 last_seen steady
 
 -- ---- the method that a path takes is one that the desk knows
 

@@ -28,18 +28,18 @@ pub record BeginsWithAllMet (list before : History) (request : Message) (reply :
 
 -- a talk has numbers, and a talk by its numbers is a talk
 pub record TalksHaveNumbers : Type 0 where
-  pub numbers : (list : History) (met : ℕ) (requests : List Message) (replies : List Reply) → Talk list met requests replies
-      → (numbered : List Numbered) × (replies_in numbered ≡ replies) × TalkAt list met requests numbered
-  pub talk : (list : History) (met : ℕ) (requests : List Message) (numbered : List Numbered) → TalkAt list met requests numbered
-      → Talk list met requests (replies_in numbered)
+  pub numbers : (list : History) (last_seen : ℕ) (requests : List Message) (replies : List Reply) → Talk list last_seen requests replies
+      → (numbered : List Numbered) × (replies_in numbered ≡ replies) × TalkAt list last_seen requests numbered
+  pub talk : (list : History) (last_seen : ℕ) (requests : List Message) (numbered : List Numbered) → TalkAt list last_seen requests numbered
+      → Talk list last_seen requests (replies_in numbered)
 
 -- each answer of a talk is at a list that begins with every list met before it
 abbrev pub AnswersBeginWithAllMet : Type 0
-AnswersBeginWithAllMet = (list : History) (met : ℕ) (requests : List Message) (replies : List Reply) →
-    IsHistory list → number_at list.opening ≤ met → met ≤ number_of list → Talk list met requests replies →
-    (last : History) × InOrder (BeginsWithAllMet list) (up_to list met) requests replies last
+AnswersBeginWithAllMet = (list : History) (last_seen : ℕ) (requests : List Message) (replies : List Reply) →
+    IsHistory list → number_at list.opening ≤ last_seen → last_seen ≤ number_of list → Talk list last_seen requests replies →
+    (last : History) × InOrder (BeginsWithAllMet list) (up_to list last_seen) requests replies last
 
 -- what is told from a list is told from every longer one
 abbrev pub TalksStayTrue : Type 0
-TalksStayTrue = (list longer : History) (met : ℕ) (requests : List Message) (replies : List Reply) →
-    IsHistory list → IsHistory longer → Begins list longer → Talk list met requests replies → Talk longer met requests replies
+TalksStayTrue = (list longer : History) (last_seen : ℕ) (requests : List Message) (replies : List Reply) →
+    IsHistory list → IsHistory longer → Begins list longer → Talk list last_seen requests replies → Talk longer last_seen requests replies

@@ -63,15 +63,15 @@ answer_at t question = evaluated t (eval t question)
 
 -- `version N`, the number of the writer's whole list; `seen M`, that of the longest list that was met before; `accepted K`, the edit's own
 unfoldable pub accepted_body : ℕ → ℕ → ℕ → List ℕ
-accepted_body whole met number =
-    codes "version " ++ decimal whole ++ codes "\nseen " ++ decimal met ++ codes "\naccepted " ++ decimal number ++ codes "\n"
+accepted_body whole last_seen number =
+    codes "version " ++ decimal whole ++ codes "\nseen " ++ decimal last_seen ++ codes "\naccepted " ++ decimal number ++ codes "\n"
 
 -- `version N` and `seen M` as where an edit is accepted, and `refused ..` with the rule's words
 unfoldable pub refused_body : ℕ → ℕ → RuleFault → List ℕ
-refused_body whole met cause =
-    codes "version " ++ decimal whole ++ codes "\nseen " ++ decimal met ++ codes "\nrefused " ++ refusal_words cause ++ codes "\n"
+refused_body whole last_seen cause =
+    codes "version " ++ decimal whole ++ codes "\nseen " ++ decimal last_seen ++ codes "\nrefused " ++ refusal_words cause ++ codes "\n"
 
 -- the reply to an edit that is judged so, where the writer's whole list has the first number, and the second was met before
 abbrev pub reply_to_edit : ℕ → ℕ → Result ℕ RuleFault → Reply
-reply_to_edit whole met (Ok number) = with_body 200 (accepted_body whole met number)
-reply_to_edit whole met (Err cause) = with_body 409 (refused_body whole met cause)
+reply_to_edit whole last_seen (Ok number) = with_body 200 (accepted_body whole last_seen number)
+reply_to_edit whole last_seen (Err cause) = with_body 409 (refused_body whole last_seen cause)

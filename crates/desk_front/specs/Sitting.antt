@@ -104,8 +104,8 @@ abbrev pub Gains : Asked → Told Given → Type 0
 Gains (nothing refused) told = told.added ≡ []
 Gains (question asked) told = told.added ≡ []
 Gains (edit made) told =
-    ((answer : Edited) × (told.reply.status ≡ edited_status answer) × (told.added ≡ given_for made told.met answer ∷ []))
-    ⊎ ((told.reply.status ≡ 507) × ((told.added ≡ []) ⊎ ((answer : Edited) × (told.added ≡ given_for made told.met answer ∷ []))))
+    ((answer : Edited) × (told.reply.status ≡ edited_status answer) × (told.added ≡ given_for made told.last_seen answer ∷ []))
+    ⊎ ((told.reply.status ≡ 507) × ((told.added ≡ []) ⊎ ((answer : Edited) × (told.added ≡ given_for made told.last_seen answer ∷ []))))
     ⊎ ((told.reply.status ≡ 503) × (told.added ≡ []))
 
 -- Requests are answered by these bytes, by a seat and an editor that stood so at first and stand so at the end.

@@ -12,7 +12,7 @@ use Rattle.desk_front.specs.Talk.{Numbered}
 -- editor's
 pub record Told (A : Type 0) : Type 0 where
   pub reply : Reply
-  pub met : ℕ
+  pub last_seen : ℕ
   pub added : List A
 
 -- the replies to requests that were told so, in order
@@ -21,7 +21,7 @@ replies_of told = map (λ one. one.reply) told
 
 -- the same with their numbers
 abbrev pub numbered_of : {A : Type 0} → List (Told A) → List Numbered
-numbered_of told = map (λ one. record { reply = one.reply; met = one.met }) told
+numbered_of told = map (λ one. record { reply = one.reply; last_seen = one.last_seen }) told
 
 -- what was added by all of them, in order, and nothing else
 abbrev pub added_by : {A : Type 0} → List (Told A) → List A
@@ -37,5 +37,5 @@ Turns Turn old request said new = Says Turn old (asked_of request) request.close
 
 -- a conversation: a turn for each request, in order. Each leaves a state that has met the number that is told with it
 abbrev pub Conversation : {S A : Type 0} → (S → Asked → Reply → List A → S → Type 0) → (S → ℕ) → S → List Message → List (Told A) → S → Type 0
-Conversation Turn met old requests told new =
-    InOrder (λ before request one next. Turn before (asked_of request) one.reply one.added next × (one.met ≡ met next)) old requests told new
+Conversation Turn last_seen old requests told new =
+    InOrder (λ before request one next. Turn before (asked_of request) one.reply one.added next × (one.last_seen ≡ last_seen next)) old requests told new

@@ -37,7 +37,7 @@ pub fn serve_alone<R: Wait + Sync, L: Link, K: Keeper, J: Naming<DeskBoard>>(
 ) -> Served
     ensures served { result ≢ Served.OutOfMemory → (bytes : List ℕ) × Consumes (L.unread link.old) (L.unread link.new) bytes × (length bytes ≤ stream_limit)
         × Serves (Converses
-        (record { whole = current_tables clerk.old; met = number_at (current_tables clerk.old); faults = K.faults (keeper_of clerk.old) })
+        (record { current = current_tables clerk.old; last_seen = number_at (current_tables clerk.old); faults = K.faults (keeper_of clerk.old) })
         (current_tables clerk.new) (K.faults (keeper_of clerk.new)))
         result bytes (L.unread link.new) (L.written link.old) (L.written link.new) }
     ensures nothing { result ≡ Served.OutOfMemory → (clerk.new ≡ clerk.old) × (link.new ≡ link.old) }
@@ -62,7 +62,7 @@ fn serve_by<R: Wait + Sync, L: Link, K: Keeper, J: Naming<DeskBoard>>(
 ) -> Served
     ensures served { result ≢ Served.OutOfMemory → (bytes : List ℕ) × Consumes (L.unread link.old) (L.unread link.new) bytes × (length bytes ≤ stream_limit)
         × Serves (Converses
-        (record { whole = current_tables clerk.old; met = number_at (current_tables clerk.old); faults = K.faults (keeper_of clerk.old) })
+        (record { current = current_tables clerk.old; last_seen = number_at (current_tables clerk.old); faults = K.faults (keeper_of clerk.old) })
         (current_tables clerk.new) (K.faults (keeper_of clerk.new)))
         result bytes (L.unread link.new) (L.written link.old) (L.written link.new) }
     ensures nothing { result ≡ Served.OutOfMemory → (clerk.new ≡ clerk.old) × (link.new ≡ link.old) }
@@ -72,9 +72,9 @@ fn serve_by<R: Wait + Sync, L: Link, K: Keeper, J: Naming<DeskBoard>>(
 {
     // The call says that the tables are sound.
     clerk.engine();
-    let met = clerk.number();
+    let last_seen = clerk.number();
     let mut room = Bytes::start(alloc);
-    serve_over(rt, alloc, routes, clerk, met, &mut room, link)
+    serve_over(rt, alloc, routes, clerk, last_seen, &mut room, link)
 }
 
 /// The same with the number of the clerk's whole list, and room for the bodies of replies.
@@ -83,15 +83,15 @@ fn serve_over<R: Wait + Sync, L: Link, K: Keeper, J: Naming<DeskBoard>>(
     alloc: Global,
     routes: &Routes,
     clerk: &mut Clerk<K, J>,
-    met: u64,
+    last_seen: u64,
     body: &mut Bytes,
     link: &mut L,
 ) -> Served
     requires sound { Sound (current_tables clerk.old) }
-    requires met { met ≡ number_at (current_tables clerk.old) }
+    requires last_seen { last_seen ≡ number_at (current_tables clerk.old) }
     ensures served { result ≢ Served.OutOfMemory → (bytes : List ℕ) × Consumes (L.unread link.old) (L.unread link.new) bytes × (length bytes ≤ stream_limit)
         × Serves (Converses
-        (record { whole = current_tables clerk.old; met = number_at (current_tables clerk.old); faults = K.faults (keeper_of clerk.old) })
+        (record { current = current_tables clerk.old; last_seen = number_at (current_tables clerk.old); faults = K.faults (keeper_of clerk.old) })
         (current_tables clerk.new) (K.faults (keeper_of clerk.new)))
         result bytes (L.unread link.new) (L.written link.old) (L.written link.new) }
     ensures nothing { result ≡ Served.OutOfMemory → (clerk.new ≡ clerk.old) × (link.new ≡ link.old) }
@@ -102,7 +102,7 @@ fn serve_over<R: Wait + Sync, L: Link, K: Keeper, J: Naming<DeskBoard>>(
     let mut connection = Connection {
         routes,
         clerk,
-        met,
+        last_seen,
         body,
     };
     serve_connection(rt, alloc, link, &mut connection)
@@ -116,11 +116,11 @@ fn serve_connection<R: Wait + Sync, L: Link, K: Keeper, J: Naming<DeskBoard>>(
     connection: &mut Connection<'_, '_, K, J>,
 ) -> Served
     requires sound { Sound (current_tables connection.old.clerk.now) }
-    requires met { connection.old.met ≡ number_at (current_tables connection.old.clerk.now) }
+    requires last_seen { connection.old.last_seen ≡ number_at (current_tables connection.old.clerk.now) }
     ensures same_clerk { connection.new.clerk.ghost_name ≡ connection.old.clerk.ghost_name }
     ensures served { result ≢ Served.OutOfMemory → (bytes : List ℕ) × Consumes (L.unread link.old) (L.unread link.new) bytes × (length bytes ≤ stream_limit)
         × Serves (Converses
-        (record { whole = current_tables connection.old.clerk.now; met = number_at (current_tables connection.old.clerk.now); faults = K.faults (keeper_of connection.old.clerk.now) })
+        (record { current = current_tables connection.old.clerk.now; last_seen = number_at (current_tables connection.old.clerk.now); faults = K.faults (keeper_of connection.old.clerk.now) })
         (current_tables connection.new.clerk.now) (K.faults (keeper_of connection.new.clerk.now)))
         result bytes (L.unread link.new) (L.written link.old) (L.written link.new) }
     ensures nothing { result ≡ Served.OutOfMemory → (connection.new.clerk.now ≡ connection.old.clerk.now) × (link.new ≡ link.old) }

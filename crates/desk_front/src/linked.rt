@@ -62,16 +62,109 @@ impl<E: Editor<S>, S: Seat> Answerer for Linked<'_, '_, '_, E, S> {
         let close = request.close;
         let body = request.body.of(buffer);
         match route(alloc, self.routes, buffer, request) {
-            Ok(Ask::Question(question)) => {
-                answer(rt, alloc, self.seat, &question, close, self.body, out)
-            }
-            Ok(Ask::Edit) => {
-                enter_json(alloc, self.editor, self.seat, body, close, self.body, out)
-            }
-            Ok(Ask::Declaration) => {
-                enter_csv(alloc, self.editor, self.seat, body, close, self.body, out)
-            }
+            Ok(Ask::Question(question)) => self.answer(rt, alloc, &question, close, out),
+            Ok(Ask::Edit) => self.enter_json(alloc, body, close, out),
+            Ok(Ask::Declaration) => self.enter_csv(alloc, body, close, out),
             Err(fault) => tell_no_ask(alloc, fault, close, out),
+        }
+    }
+}
+
+impl<E: Editor<S>, S: Seat> Linked<'_, '_, '_, E, S> {
+    /// Answers a question at one list that the seat looks at.
+    fn answer<R: Wait + Sync>(
+        &mut self,
+        rt: &R,
+        alloc: Global,
+        question: &Question,
+        close: bool,
+        out: &mut Bytes,
+    ) -> Result<(), Fixed>
+        requires { is_question_in_range question.now ≡ true }
+        ensures same_seat { self.new.seat.ghost_name ≡ self.old.seat.ghost_name }
+        ensures editor_stays { self.new.editor ≡ self.old.editor }
+        ensures grown { Begins (S.list self.old.seat.now) (S.list self.new.seat.now) }
+        ensures ok { OnOk result (out.new ≡ out.old ++ bytes_with close (answer_at (after (S.list self.new.seat.now)) question.now)) }
+        ensures memory { IfErr result (λ told. told ≡ refusal.Memory) }
+        ensures err { OnErr result (out.new ≡ out.old) }
+    {
+        self.body.truncate(0);
+        match ask(rt, alloc, self.seat, question, self.body) {
+            Ok(()) => tell(StatusCode::OK, self.body.as_slice(), close, out),
+            Err(AskFault::OutOfMemory) => Err(Fixed::Memory),
+            Err(cause) => tell_no_answer(alloc, self.seat.seen(), &cause, close, out),
+        }
+    }
+
+    /// Enters the edit that a body in JSON is.
+    fn enter_json(
+        &mut self,
+        alloc: Global,
+        text: &[u8],
+        close: bool,
+        out: &mut Bytes,
+    ) -> Result<(), Fixed>
+        ensures same_seat { self.new.seat.ghost_name ≡ self.old.seat.ghost_name }
+        ensures same_editor { self.new.editor.ghost_name ≡ self.old.editor.ghost_name }
+        ensures ok { OnOk result ((said : List ℕ) × (out.new ≡ out.old ++ said) × (Says (SeatTurn E.NeverFails) (sitting (S.list self.old.seat.now) (E.faults self.old.editor.now) (E.given self.old.editor.now)) (of_json (edit_of_json text.now)) close said
+            (sitting (S.list self.new.seat.now) (E.faults self.new.editor.now) (E.given self.new.editor.now)))) }
+        ensures fixed { IfErr result (λ fixed. Says (SeatTurn E.NeverFails) (sitting (S.list self.old.seat.now) (E.faults self.old.editor.now) (E.given self.old.editor.now)) (of_json (edit_of_json text.now)) close (fixed_reply fixed close)
+            (sitting (S.list self.new.seat.now) (E.faults self.new.editor.now) (E.given self.new.editor.now))) }
+        ensures allow { IfErr result (λ fixed. allow_of fixed ≢ Some method.Other) }
+        ensures err { OnErr result (out.new ≡ out.old) }
+    {
+        match read_edit(alloc, text) {
+            Ok(edit) => self.enter(alloc, edit, close, out),
+            Err(fault) => tell_bad_edit(alloc, &fault, close, out),
+        }
+    }
+
+    /// Enters the declaration that a body in CSV is.
+    fn enter_csv(
+        &mut self,
+        alloc: Global,
+        text: &[u8],
+        close: bool,
+        out: &mut Bytes,
+    ) -> Result<(), Fixed>
+        ensures same_seat { self.new.seat.ghost_name ≡ self.old.seat.ghost_name }
+        ensures same_editor { self.new.editor.ghost_name ≡ self.old.editor.ghost_name }
+        ensures ok { OnOk result ((said : List ℕ) × (out.new ≡ out.old ++ said) × (Says (SeatTurn E.NeverFails) (sitting (S.list self.old.seat.now) (E.faults self.old.editor.now) (E.given self.old.editor.now)) (of_csv (declaration_of text.now)) close said
+            (sitting (S.list self.new.seat.now) (E.faults self.new.editor.now) (E.given self.new.editor.now)))) }
+        ensures fixed { IfErr result (λ fixed. Says (SeatTurn E.NeverFails) (sitting (S.list self.old.seat.now) (E.faults self.old.editor.now) (E.given self.old.editor.now)) (of_csv (declaration_of text.now)) close (fixed_reply fixed close)
+            (sitting (S.list self.new.seat.now) (E.faults self.new.editor.now) (E.given self.new.editor.now))) }
+        ensures allow { IfErr result (λ fixed. allow_of fixed ≢ Some method.Other) }
+        ensures err { OnErr result (out.new ≡ out.old) }
+    {
+        match read_declaration(alloc, text) {
+            Ok(edit) => self.enter(alloc, edit, close, out),
+            Err(fault) => tell_bad_declaration(alloc, &fault, close, out),
+        }
+    }
+
+    /// Has an edit answered by the editor.
+    fn enter(
+        &mut self,
+        alloc: Global,
+        edit: Edit,
+        close: bool,
+        out: &mut Bytes,
+    ) -> Result<(), Fixed>
+        ensures same_seat { self.new.seat.ghost_name ≡ self.old.seat.ghost_name }
+        ensures same_editor { self.new.editor.ghost_name ≡ self.old.editor.ghost_name }
+        ensures ok { OnOk result ((said : List ℕ) × (out.new ≡ out.old ++ said) × (Says (SeatTurn E.NeverFails) (sitting (S.list self.old.seat.now) (E.faults self.old.editor.now) (E.given self.old.editor.now)) (an_edit edit) close said
+            (sitting (S.list self.new.seat.now) (E.faults self.new.editor.now) (E.given self.new.editor.now)))) }
+        ensures fixed { IfErr result (λ fixed. Says (SeatTurn E.NeverFails) (sitting (S.list self.old.seat.now) (E.faults self.old.editor.now) (E.given self.old.editor.now)) (an_edit edit) close (fixed_reply fixed close)
+            (sitting (S.list self.new.seat.now) (E.faults self.new.editor.now) (E.given self.new.editor.now))) }
+        ensures allow { IfErr result (λ fixed. allow_of fixed ≢ Some method.Other) }
+        ensures err { OnErr result (out.new ≡ out.old) }
+    {
+        self.body.truncate(0);
+        match self.editor.edit(alloc, self.seat, edit, self.body) {
+            Ok(Edited::Accepted) => tell(StatusCode::OK, self.body.as_slice(), close, out),
+            Ok(Edited::Refused) => tell(StatusCode::CONFLICT, self.body.as_slice(), close, out),
+            Err(EditFailed::KeeperFault) => Err(Fixed::StoreFault),
+            Err(EditFailed::OutOfMemory) => Err(Fixed::Memory),
         }
     }
 }
@@ -97,100 +190,4 @@ fn ask<R: Wait + Sync, S: Seat>(
         }
     }
     unreachable!()
-}
-
-/// Answers a question at one list that the seat looks at.
-fn answer<R: Wait + Sync, S: Seat>(
-    rt: &R,
-    alloc: Global,
-    seat: &mut S,
-    question: &Question,
-    close: bool,
-    body: &mut Bytes,
-    out: &mut Bytes,
-) -> Result<(), Fixed>
-    requires { is_question_in_range question.now ≡ true }
-    ensures grown { Begins (S.list seat.old) (S.list seat.new) }
-    ensures ok { OnOk result (out.new ≡ out.old ++ bytes_with close (answer_at (after (S.list seat.new)) question.now)) }
-    ensures memory { IfErr result (λ told. told ≡ refusal.Memory) }
-    ensures err { OnErr result (out.new ≡ out.old) }
-{
-    body.truncate(0);
-    match ask(rt, alloc, seat, question, body) {
-        Ok(()) => tell(StatusCode::OK, body.as_slice(), close, out),
-        Err(AskFault::OutOfMemory) => Err(Fixed::Memory),
-        Err(cause) => tell_no_answer(alloc, seat.seen(), &cause, close, out),
-    }
-}
-
-/// Enters the edit that a body in JSON is.
-fn enter_json<E: Editor<S>, S: Seat>(
-    alloc: Global,
-    editor: &mut E,
-    seat: &mut S,
-    text: &[u8],
-    close: bool,
-    body: &mut Bytes,
-    out: &mut Bytes,
-) -> Result<(), Fixed>
-    ensures ok { OnOk result ((said : List ℕ) × (out.new ≡ out.old ++ said) × (Says (SeatTurn E.NeverFails) (sitting (S.list seat.old) (E.faults editor.old) (E.given editor.old)) (of_json (edit_of_json text.now)) close said
-        (sitting (S.list seat.new) (E.faults editor.new) (E.given editor.new)))) }
-    ensures fixed { IfErr result (λ fixed. Says (SeatTurn E.NeverFails) (sitting (S.list seat.old) (E.faults editor.old) (E.given editor.old)) (of_json (edit_of_json text.now)) close (fixed_reply fixed close)
-        (sitting (S.list seat.new) (E.faults editor.new) (E.given editor.new))) }
-    ensures allow { IfErr result (λ fixed. allow_of fixed ≢ Some method.Other) }
-    ensures err { OnErr result (out.new ≡ out.old) }
-{
-    match read_edit(alloc, text) {
-        Ok(edit) => enter(alloc, editor, seat, edit, close, body, out),
-        Err(fault) => tell_bad_edit(alloc, &fault, close, out),
-    }
-}
-
-/// Enters the declaration that a body in CSV is.
-fn enter_csv<E: Editor<S>, S: Seat>(
-    alloc: Global,
-    editor: &mut E,
-    seat: &mut S,
-    text: &[u8],
-    close: bool,
-    body: &mut Bytes,
-    out: &mut Bytes,
-) -> Result<(), Fixed>
-    ensures ok { OnOk result ((said : List ℕ) × (out.new ≡ out.old ++ said) × (Says (SeatTurn E.NeverFails) (sitting (S.list seat.old) (E.faults editor.old) (E.given editor.old)) (of_csv (declaration_of text.now)) close said
-        (sitting (S.list seat.new) (E.faults editor.new) (E.given editor.new)))) }
-    ensures fixed { IfErr result (λ fixed. Says (SeatTurn E.NeverFails) (sitting (S.list seat.old) (E.faults editor.old) (E.given editor.old)) (of_csv (declaration_of text.now)) close (fixed_reply fixed close)
-        (sitting (S.list seat.new) (E.faults editor.new) (E.given editor.new))) }
-    ensures allow { IfErr result (λ fixed. allow_of fixed ≢ Some method.Other) }
-    ensures err { OnErr result (out.new ≡ out.old) }
-{
-    match read_declaration(alloc, text) {
-        Ok(edit) => enter(alloc, editor, seat, edit, close, body, out),
-        Err(fault) => tell_bad_declaration(alloc, &fault, close, out),
-    }
-}
-
-/// Has an edit answered by the editor.
-fn enter<E: Editor<S>, S: Seat>(
-    alloc: Global,
-    editor: &mut E,
-    seat: &mut S,
-    edit: Edit,
-    close: bool,
-    body: &mut Bytes,
-    out: &mut Bytes,
-) -> Result<(), Fixed>
-    ensures ok { OnOk result ((said : List ℕ) × (out.new ≡ out.old ++ said) × (Says (SeatTurn E.NeverFails) (sitting (S.list seat.old) (E.faults editor.old) (E.given editor.old)) (an_edit edit) close said
-        (sitting (S.list seat.new) (E.faults editor.new) (E.given editor.new)))) }
-    ensures fixed { IfErr result (λ fixed. Says (SeatTurn E.NeverFails) (sitting (S.list seat.old) (E.faults editor.old) (E.given editor.old)) (an_edit edit) close (fixed_reply fixed close)
-        (sitting (S.list seat.new) (E.faults editor.new) (E.given editor.new))) }
-    ensures allow { IfErr result (λ fixed. allow_of fixed ≢ Some method.Other) }
-    ensures err { OnErr result (out.new ≡ out.old) }
-{
-    body.truncate(0);
-    match editor.edit(alloc, seat, edit, body) {
-        Ok(Edited::Accepted) => tell(StatusCode::OK, body.as_slice(), close, out),
-        Ok(Edited::Refused) => tell(StatusCode::CONFLICT, body.as_slice(), close, out),
-        Err(EditFailed::KeeperFault) => Err(Fixed::StoreFault),
-        Err(EditFailed::OutOfMemory) => Err(Fixed::Memory),
-    }
 }

@@ -86,15 +86,15 @@ pub(crate) fn tell_no_answer(
 pub(crate) fn tell_accepted(
     alloc: Global,
     accepted: &Accepted,
-    met: u64,
+    last_seen: u64,
     close: bool,
     out: &mut Bytes,
 ) -> Result<(), Fixed>
-    ensures ok { OnOk result (out.new ≡ out.old ++ bytes_with close (with_body 200 (accepted_body accepted.now.whole met accepted.now.number))) }
+    ensures ok { OnOk result (out.new ≡ out.old ++ bytes_with close (with_body 200 (accepted_body accepted.now.whole last_seen accepted.now.number))) }
     ensures memory { IfErr result (λ told. told ≡ refusal.Memory) }
     ensures err { OnErr result (out.new ≡ out.old) }
 {
-    let Ok(body) = accepted_text(alloc, accepted, met) else {
+    let Ok(body) = accepted_text(alloc, accepted, last_seen) else {
         return Err(Fixed::Memory);
     };
     tell(StatusCode::OK, body.as_bytes(), close, out)
@@ -105,15 +105,15 @@ pub(crate) fn tell_refused(
     alloc: Global,
     fault: &RuleFault,
     whole: u64,
-    met: u64,
+    last_seen: u64,
     close: bool,
     out: &mut Bytes,
 ) -> Result<(), Fixed>
-    ensures ok { OnOk result (out.new ≡ out.old ++ bytes_with close (with_body 409 (refused_body whole met fault.now))) }
+    ensures ok { OnOk result (out.new ≡ out.old ++ bytes_with close (with_body 409 (refused_body whole last_seen fault.now))) }
     ensures memory { IfErr result (λ told. told ≡ refusal.Memory) }
     ensures err { OnErr result (out.new ≡ out.old) }
 {
-    let Ok(body) = refused_text(alloc, fault, whole, met) else {
+    let Ok(body) = refused_text(alloc, fault, whole, last_seen) else {
         return Err(Fixed::Memory);
     };
     tell(StatusCode::CONFLICT, body.as_bytes(), close, out)
@@ -123,13 +123,13 @@ pub(crate) fn tell_refused(
 pub(crate) fn push_accepted(
     alloc: Global,
     accepted: &Accepted,
-    met: u64,
+    last_seen: u64,
     out: &mut Bytes,
 ) -> Result<(), OutOfMemory>
-    ensures ok { OnOk result (out.new ≡ out.old ++ accepted_body accepted.now.whole met accepted.now.number) }
+    ensures ok { OnOk result (out.new ≡ out.old ++ accepted_body accepted.now.whole last_seen accepted.now.number) }
     ensures err { OnErr result (out.new ≡ out.old) }
 {
-    let body = accepted_text(alloc, accepted, met)?;
+    let body = accepted_text(alloc, accepted, last_seen)?;
     out.push_all(body.as_bytes())
 }
 
@@ -138,23 +138,23 @@ pub(crate) fn push_refused(
     alloc: Global,
     fault: &RuleFault,
     whole: u64,
-    met: u64,
+    last_seen: u64,
     out: &mut Bytes,
 ) -> Result<(), OutOfMemory>
-    ensures ok { OnOk result (out.new ≡ out.old ++ refused_body whole met fault.now) }
+    ensures ok { OnOk result (out.new ≡ out.old ++ refused_body whole last_seen fault.now) }
     ensures err { OnErr result (out.new ≡ out.old) }
 {
-    let body = refused_text(alloc, fault, whole, met)?;
+    let body = refused_text(alloc, fault, whole, last_seen)?;
     out.push_all(body.as_bytes())
 }
 
 /// The body that tells that an edit is accepted, to one who had met the number before.
 #[tactic(auto, unfolding(crate::specs::Replies::accepted_body))]
-fn accepted_text(alloc: Global, accepted: &Accepted, met: u64) -> Result<String, AllocError>
-    ensures { IfOk result (λ text. string_bytes text ≡ accepted_body accepted.now.whole met accepted.now.number) }
+fn accepted_text(alloc: Global, accepted: &Accepted, last_seen: u64) -> Result<String, AllocError>
+    ensures { IfOk result (λ text. string_bytes text ≡ accepted_body accepted.now.whole last_seen accepted.now.number) }
 {
     let Accepted { number, whole } = *accepted;
-    Ok(format!(in alloc; "version {whole}\nseen {met}\naccepted {number}\n")?)
+    Ok(format!(in alloc; "version {whole}\nseen {last_seen}\naccepted {number}\n")?)
 }
 
 /// The body that tells which rule refuses an edit at a list of this number, to one who had met the other before.
@@ -163,11 +163,11 @@ fn refused_text(
     alloc: Global,
     fault: &RuleFault,
     whole: u64,
-    met: u64,
+    last_seen: u64,
 ) -> Result<String, AllocError>
-    ensures { IfOk result (λ text. string_bytes text ≡ refused_body whole met fault.now) }
+    ensures { IfOk result (λ text. string_bytes text ≡ refused_body whole last_seen fault.now) }
 {
-    Ok(format!(in alloc; "version {whole}\nseen {met}\nrefused {fault}\n")?)
+    Ok(format!(in alloc; "version {whole}\nseen {last_seen}\nrefused {fault}\n")?)
 }
 
 /// Appends why a body in JSON is no edit.

@@ -31,7 +31,7 @@ nothing_kept key = None
 
 -- a session begins at these tables: no more than these are met, and the store has counted no fault
 abbrev pub begun : Lists → Standing
-begun t = record { whole = t; met = number_at t; faults = 0 }
+begun t = record { current = t; last_seen = number_at t; faults = 0 }
 
 -- The stream was served over these tables, and the store keeps the desk as the last request has left it, where it tells what it keeps. It
 -- has counted so many faults, and no more bytes were read than the most of a stream.

@@ -29,12 +29,12 @@ returns-clause-told g c =
 pub returns-clause-keeper_never_falls : goal.returns-clause-keeper_never_falls
 returns-clause-keeper_never_falls g c =
     let R = (ghosts g.row.K g.row.J g.K.Keeper g.K.Keeper-dict g.J.Naming g.J.Naming-dict).replies in
-    let old : Standing = record { whole = current_tables c.args.connection.now.clerk.now; met = c.args.connection.now.met; faults = g.K.Keeper.faults (keeper_of c.args.connection.now.clerk.now) } in
-    let new : Standing = record { whole = current_tables c.serve.new.answerer.clerk.now; met = c.serve.new.answerer.met; faults = g.K.Keeper.faults (keeper_of c.serve.new.answerer.clerk.now) } in
+    let old : Standing = record { current = current_tables c.args.connection.now.clerk.now; last_seen = c.args.connection.now.last_seen; faults = g.K.Keeper.faults (keeper_of c.args.connection.now.clerk.now) } in
+    let new : Standing = record { current = current_tables c.serve.new.answerer.clerk.now; last_seen = c.serve.new.answerer.last_seen; faults = g.K.Keeper.faults (keeper_of c.serve.new.answerer.clerk.now) } in
     let x = replied R c.args.connection.now c.serve.new.answerer c.serve.result (g.L.Link.unread c.args.link.now) (g.L.Link.unread c.serve.new.link)
     (g.L.Link.written c.args.link.now) (g.L.Link.written c.serve.new.link) c.serve.ensures.served (λ e. (c.serve.ensures.nothing e).0)
     in
-    let y = conversation_of R (λ a. record { whole = current_tables a.clerk.now; met = a.met; faults = g.K.Keeper.faults (keeper_of a.clerk.now) }) Turn (λ standing. standing.met) (λ a b m said turn. turn.2)
+    let y = conversation_of R (λ a. record { current = current_tables a.clerk.now; last_seen = a.last_seen; faults = g.K.Keeper.faults (keeper_of a.clerk.now) }) Turn (λ standing. standing.last_seen) (λ a b m said turn. turn.2)
     c.args.connection.now c.serve.new.answerer x.0 x.1 x.2
     in
     conversation_faults old new x.0 y.0 y.1
@@ -42,21 +42,21 @@ returns-clause-keeper_never_falls g c =
 pub returns-clause-served : goal.returns-clause-served
 returns-clause-served g c other =
     let R = (ghosts g.row.K g.row.J g.K.Keeper g.K.Keeper-dict g.J.Naming g.J.Naming-dict).replies in
-    let old : Standing = record { whole = current_tables c.args.connection.now.clerk.now; met = c.args.connection.now.met; faults = g.K.Keeper.faults (keeper_of c.args.connection.now.clerk.now) } in
+    let old : Standing = record { current = current_tables c.args.connection.now.clerk.now; last_seen = c.args.connection.now.last_seen; faults = g.K.Keeper.faults (keeper_of c.args.connection.now.clerk.now) } in
     let left = current_tables c.serve.new.answerer.clerk.now in
     let counted = g.K.Keeper.faults (keeper_of c.serve.new.answerer.clerk.now) in
     let x = c.serve.ensures.served other in
-    let met : old.met ≤ number_at old.whole = omega (arith, c.requires.met) in
-    rw (sym c.requires.met) (
+    let last_seen : old.last_seen ≤ number_at old.current = omega (arith, c.requires.last_seen) in
+    rw (sym c.requires.last_seen) (
       x.0,
       x.1,
       x.2,
       serves_weaker (λ requests said. Replies R c.args.connection.now requests said c.serve.new.answerer) (Converses old left counted) c.serve.result x.0
           (g.L.Link.unread c.serve.new.link) (g.L.Link.written c.args.link.now) (g.L.Link.written c.serve.new.link)
           (λ ms said replies.
-          let y = conversation_of R (λ a. record { whole = current_tables a.clerk.now; met = a.met; faults = g.K.Keeper.faults (keeper_of a.clerk.now) }) Turn (λ standing. standing.met) (λ a b m said turn. turn.2)
+          let y = conversation_of R (λ a. record { current = current_tables a.clerk.now; last_seen = a.last_seen; faults = g.K.Keeper.faults (keeper_of a.clerk.now) }) Turn (λ standing. standing.last_seen) (λ a b m said turn. turn.2)
           c.args.connection.now c.serve.new.answerer ms said replies
           in
-          converses old left c.serve.new.answerer.met counted ms y.0 said c.requires.sound met y.1 y.2)
+          converses old left c.serve.new.answerer.last_seen counted ms y.0 said c.requires.sound last_seen y.1 y.2)
           x.3,
     )

@@ -13,6 +13,6 @@ moved P a b p e = subst P e p
 pub returns-clause-served : goal.returns-clause-served
 returns-clause-served g c = λ wanting.
     moved (λ left. (x : List ℕ) × Consumes (g.L.Link.unread c.args.link.now) (g.L.Link.unread c.serve_connection.new.link) x × (length x ≤ stream_limit)
-    × Serves (Converses (record { whole = current_tables c.args.clerk.now; met = number_at (current_tables c.args.clerk.now); faults = g.K.Keeper.faults (keeper_of c.args.clerk.now) }) (current_tables left) (g.K.Keeper.faults (keeper_of left)))
+    × Serves (Converses (record { current = current_tables c.args.clerk.now; last_seen = number_at (current_tables c.args.clerk.now); faults = g.K.Keeper.faults (keeper_of c.args.clerk.now) }) (current_tables left) (g.K.Keeper.faults (keeper_of left)))
     c.serve_connection.result x (g.L.Link.unread c.serve_connection.new.link) (g.L.Link.written c.args.link.now) (g.L.Link.written c.serve_connection.new.link))
     c.serve_connection.new.connection.clerk.now c.clerk-1.given.0 (c.serve_connection.ensures.served wanting) (search rules)

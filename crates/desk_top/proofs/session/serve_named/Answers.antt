@@ -20,7 +20,7 @@ module _ {K : Type 0} (Tells : K → Type 0) (content : K → Content) (faults :
   was_served : (desk : KeptDesk K) (opened left : Clerked K) (keeper : K) (how : Served) (c : Console) → Sound (tables_of desk) → faults desk.keeper ≡ 0 → opened.desk ≡ desk
       → keeper ≡ keeper_of left → (Tells keeper → IsSame (tables_content (current_tables left)) (content keeper))
       → ((bytes : List ℕ) × Consumes c.unread c.left bytes × (length bytes ≤ stream_limit)
-      × Serves (Converses (record { whole = current_tables opened; met = number_at (current_tables opened); faults = faults (keeper_of opened) }) (current_tables left) (faults (keeper_of left))) how bytes c.left c.before c.after)
+      × Serves (Converses (record { current = current_tables opened; last_seen = number_at (current_tables opened); faults = faults (keeper_of opened) }) (current_tables left) (faults (keeper_of left))) how bytes c.left c.before c.after)
       → WasServed (Tells keeper) (content keeper) (faults keeper) (tables_of desk) how c
   was_served desk opened left keeper how c sound none same back kept (bytes, read, within, serves) = record {
     sound = sound;
@@ -28,9 +28,9 @@ module _ {K : Type 0} (Tells : K → Type 0) (content : K → Content) (faults :
     bytes = bytes;
     read = read;
     within = within;
-    serves = subst (λ count. Serves (Converses (record { whole = tables_of desk; met = number_at (tables_of desk); faults = 0 }) (current_tables left) count) how bytes c.left c.before c.after) (ap faults (sym back))
-        (subst (λ count. Serves (Converses (record { whole = tables_of desk; met = number_at (tables_of desk); faults = count }) (current_tables left) (faults (keeper_of left))) how bytes c.left c.before c.after) none
-        (subst (λ at. Serves (Converses (record { whole = tables_of at; met = number_at (tables_of at); faults = faults at.keeper }) (current_tables left) (faults (keeper_of left))) how bytes c.left c.before c.after) same serves));
+    serves = subst (λ count. Serves (Converses (record { current = tables_of desk; last_seen = number_at (tables_of desk); faults = 0 }) (current_tables left) count) how bytes c.left c.before c.after) (ap faults (sym back))
+        (subst (λ count. Serves (Converses (record { current = tables_of desk; last_seen = number_at (tables_of desk); faults = count }) (current_tables left) (faults (keeper_of left))) how bytes c.left c.before c.after) none
+        (subst (λ at. Serves (Converses (record { current = tables_of at; last_seen = number_at (tables_of at); faults = faults at.keeper }) (current_tables left) (faults (keeper_of left))) how bytes c.left c.before c.after) same serves));
     closed = kept;
   }
 

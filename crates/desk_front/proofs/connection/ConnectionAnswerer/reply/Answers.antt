@@ -31,7 +31,7 @@ tell_no_ask-requires g c allow e =
 
 pub returns-in-Err-clause-fixed : goal.returns-in-Err-clause-fixed
 returns-in-Err-clause-fixed g c =
-    let s : Standing = record { whole = current_tables c.args.self.now.clerk.now; met = c.args.self.now.met; faults = g.K.Keeper.faults (keeper_of c.args.self.now.clerk.now) } in
+    let s : Standing = record { current = current_tables c.args.self.now.clerk.now; last_seen = c.args.self.now.last_seen; faults = g.K.Keeper.faults (keeper_of c.args.self.now.clerk.now) } in
     let asked = asked_of (message_of c.args.buffer.now c.args.request.now) in
     if_err_weaker (λ told. Says Turn s asked c.args.request.now.close (fixed_reply told c.args.request.now.close) s) _ c.tell_no_ask.result (λ told h. (refl, (λ tells. tells), h))
     (says_refusal Turn refuses lacks (c.in-Err.fault ≢ cause.OutOfMemory) s asked c.args.request.now.close (no_ask c.in-Err.fault) c.tell_no_ask.result

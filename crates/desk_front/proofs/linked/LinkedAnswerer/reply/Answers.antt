@@ -39,21 +39,22 @@ pub returns-in-Ok-Question-clause-ok : goal.returns-in-Ok-Question-clause-ok
 returns-in-Ok-Question-clause-ok g c =
     let request = c.args.request.now in
     let old : Sitting = sitting (g.S.Seat.list c.args.self.now.seat.now) (g.E.Editor.faults c.args.self.now.editor.now) (g.E.Editor.given c.args.self.now.editor.now) in
-    let new : Sitting = sitting (g.S.Seat.list c.answer.new.seat) (g.E.Editor.faults c.args.self.now.editor.now) (g.E.Editor.given c.args.self.now.editor.now) in
+    let list = g.S.Seat.list c.answer.new.self.seat.now in
     let asked = c.in-Ok-Question.question in
     let routed : Ok (ask.Question asked) ≡ route_of request.method (span_bytes c.args.buffer.now request.target) = ap (λ a. Ok a) (sym c.in-Ok-Question.field-0-is) ∙ c.in-Ok-Question.ensures.value (λ e. cc) in
     let is = ap (of_route (span_bytes c.args.buffer.now request.body)) routed in
-    let said = bytes_with request.close (answer_at (after (g.S.Seat.list c.answer.new.seat)) asked) in
+    let said = bytes_with request.close (answer_at (after (g.S.Seat.list c.answer.new.self.seat.now)) asked) in
     on_ok_weaker c.answer.result
     (λ e. (
       said,
       e,
       (
-        refl,
-        refl,
-        subst (λ a. Says (SeatTurn g.E.Editor.NeverFails) old a request.close said new) is
-            (says_answer g.E.Editor.NeverFails (g.S.Seat.list c.args.self.now.seat.now) (g.S.Seat.list c.answer.new.seat) (g.E.Editor.faults c.args.self.now.editor.now) (g.E.Editor.given c.args.self.now.editor.now)
-            asked request.close c.answer.ensures.grown),
+        ap (λ e. e.ghost_name) c.answer.ensures.editor_stays,
+        c.answer.ensures.same_seat,
+        subst (λ e. Says (SeatTurn g.E.Editor.NeverFails) old (asked_of (message_of c.args.buffer.now request)) request.close said (sitting list (g.E.Editor.faults e.now) (g.E.Editor.given e.now))) (sym c.answer.ensures.editor_stays)
+            (subst (λ a. Says (SeatTurn g.E.Editor.NeverFails) old a request.close said (sitting list (g.E.Editor.faults c.args.self.now.editor.now) (g.E.Editor.given c.args.self.now.editor.now))) is
+            (says_answer g.E.Editor.NeverFails (g.S.Seat.list c.args.self.now.seat.now) (g.S.Seat.list c.answer.new.self.seat.now) (g.E.Editor.faults c.args.self.now.editor.now) (g.E.Editor.given c.args.self.now.editor.now)
+            asked request.close c.answer.ensures.grown)),
       ),
     ))
     c.answer.ensures.ok
@@ -62,17 +63,18 @@ pub returns-in-Ok-Question-clause-fixed : goal.returns-in-Ok-Question-clause-fix
 returns-in-Ok-Question-clause-fixed g c =
     let request = c.args.request.now in
     let old : Sitting = sitting (g.S.Seat.list c.args.self.now.seat.now) (g.E.Editor.faults c.args.self.now.editor.now) (g.E.Editor.given c.args.self.now.editor.now) in
-    let new : Sitting = sitting (g.S.Seat.list c.answer.new.seat) (g.E.Editor.faults c.args.self.now.editor.now) (g.E.Editor.given c.args.self.now.editor.now) in
+    let list = g.S.Seat.list c.answer.new.self.seat.now in
     let asked = c.in-Ok-Question.question in
     let routed : Ok (ask.Question asked) ≡ route_of request.method (span_bytes c.args.buffer.now request.target) = ap (λ a. Ok a) (sym c.in-Ok-Question.field-0-is) ∙ c.in-Ok-Question.ensures.value (λ e. cc) in
     let is = ap (of_route (span_bytes c.args.buffer.now request.body)) routed in
     if_err_weaker (λ told. told ≡ refusal.Memory) _ c.answer.result
     (λ told memory. (
-      refl,
-      refl,
-      subst (λ a. Says (SeatTurn g.E.Editor.NeverFails) old a request.close (fixed_reply told request.close) new) is
-          (says_unanswered g.E.Editor.NeverFails (g.S.Seat.list c.args.self.now.seat.now) (g.S.Seat.list c.answer.new.seat) (g.E.Editor.faults c.args.self.now.editor.now) (g.E.Editor.given c.args.self.now.editor.now)
-          asked request.close told memory c.answer.ensures.grown),
+      ap (λ e. e.ghost_name) c.answer.ensures.editor_stays,
+      c.answer.ensures.same_seat,
+      subst (λ e. Says (SeatTurn g.E.Editor.NeverFails) old (asked_of (message_of c.args.buffer.now request)) request.close (fixed_reply told request.close) (sitting list (g.E.Editor.faults e.now) (g.E.Editor.given e.now))) (sym c.answer.ensures.editor_stays)
+          (subst (λ a. Says (SeatTurn g.E.Editor.NeverFails) old a request.close (fixed_reply told request.close) (sitting list (g.E.Editor.faults c.args.self.now.editor.now) (g.E.Editor.given c.args.self.now.editor.now))) is
+          (says_unanswered g.E.Editor.NeverFails (g.S.Seat.list c.args.self.now.seat.now) (g.S.Seat.list c.answer.new.self.seat.now) (g.E.Editor.faults c.args.self.now.editor.now) (g.E.Editor.given c.args.self.now.editor.now)
+          asked request.close told memory c.answer.ensures.grown)),
     ))
     c.answer.ensures.memory
 
@@ -80,48 +82,48 @@ pub returns-in-Ok-Edit-clause-ok : goal.returns-in-Ok-Edit-clause-ok
 returns-in-Ok-Edit-clause-ok g c =
     let request = c.args.request.now in
     let old : Sitting = sitting (g.S.Seat.list c.args.self.now.seat.now) (g.E.Editor.faults c.args.self.now.editor.now) (g.E.Editor.given c.args.self.now.editor.now) in
-    let new : Sitting = sitting (g.S.Seat.list c.enter_json.new.seat) (g.E.Editor.faults c.enter_json.new.editor) (g.E.Editor.given c.enter_json.new.editor) in
+    let new : Sitting = sitting (g.S.Seat.list c.enter_json.new.self.seat.now) (g.E.Editor.faults c.enter_json.new.self.editor.now) (g.E.Editor.given c.enter_json.new.self.editor.now) in
     let is = ap (λ b. of_json (edit_of_json b)) c.of-body.ensures
     ∙ ap (λ a. of_route (span_bytes c.args.buffer.now request.body) (Ok a)) (sym c.in-Ok-Edit.field-0-is)
     ∙ ap (of_route (span_bytes c.args.buffer.now request.body)) (c.in-Ok-Edit.ensures.value (λ e. cc)) in
     on_ok_weaker c.enter_json.result
-    (λ told. (told.0, told.1, (refl, refl, subst (λ a. Says (SeatTurn g.E.Editor.NeverFails) old a request.close told.0 new) is told.2)))
+    (λ told. (told.0, told.1, (c.enter_json.ensures.same_editor, c.enter_json.ensures.same_seat, subst (λ a. Says (SeatTurn g.E.Editor.NeverFails) old a request.close told.0 new) is told.2)))
     c.enter_json.ensures.ok
 
 pub returns-in-Ok-Edit-clause-fixed : goal.returns-in-Ok-Edit-clause-fixed
 returns-in-Ok-Edit-clause-fixed g c =
     let request = c.args.request.now in
     let old : Sitting = sitting (g.S.Seat.list c.args.self.now.seat.now) (g.E.Editor.faults c.args.self.now.editor.now) (g.E.Editor.given c.args.self.now.editor.now) in
-    let new : Sitting = sitting (g.S.Seat.list c.enter_json.new.seat) (g.E.Editor.faults c.enter_json.new.editor) (g.E.Editor.given c.enter_json.new.editor) in
+    let new : Sitting = sitting (g.S.Seat.list c.enter_json.new.self.seat.now) (g.E.Editor.faults c.enter_json.new.self.editor.now) (g.E.Editor.given c.enter_json.new.self.editor.now) in
     let is = ap (λ b. of_json (edit_of_json b)) c.of-body.ensures
     ∙ ap (λ a. of_route (span_bytes c.args.buffer.now request.body) (Ok a)) (sym c.in-Ok-Edit.field-0-is)
     ∙ ap (of_route (span_bytes c.args.buffer.now request.body)) (c.in-Ok-Edit.ensures.value (λ e. cc)) in
     if_err_weaker (λ told. Says (SeatTurn g.E.Editor.NeverFails) old (of_json (edit_of_json c.of-body.result.now)) request.close (fixed_reply told request.close) new) _ c.enter_json.result
-    (λ told says. (refl, refl, subst (λ a. Says (SeatTurn g.E.Editor.NeverFails) old a request.close (fixed_reply told request.close) new) is says))
+    (λ told says. (c.enter_json.ensures.same_editor, c.enter_json.ensures.same_seat, subst (λ a. Says (SeatTurn g.E.Editor.NeverFails) old a request.close (fixed_reply told request.close) new) is says))
     c.enter_json.ensures.fixed
 
 pub returns-in-Ok-Declaration-clause-ok : goal.returns-in-Ok-Declaration-clause-ok
 returns-in-Ok-Declaration-clause-ok g c =
     let request = c.args.request.now in
     let old : Sitting = sitting (g.S.Seat.list c.args.self.now.seat.now) (g.E.Editor.faults c.args.self.now.editor.now) (g.E.Editor.given c.args.self.now.editor.now) in
-    let new : Sitting = sitting (g.S.Seat.list c.enter_csv.new.seat) (g.E.Editor.faults c.enter_csv.new.editor) (g.E.Editor.given c.enter_csv.new.editor) in
+    let new : Sitting = sitting (g.S.Seat.list c.enter_csv.new.self.seat.now) (g.E.Editor.faults c.enter_csv.new.self.editor.now) (g.E.Editor.given c.enter_csv.new.self.editor.now) in
     let is = ap (λ b. of_csv (declaration_of b)) c.of-body.ensures
     ∙ ap (λ a. of_route (span_bytes c.args.buffer.now request.body) (Ok a)) (sym c.in-Ok-Declaration.field-0-is)
     ∙ ap (of_route (span_bytes c.args.buffer.now request.body)) (c.in-Ok-Declaration.ensures.value (λ e. cc)) in
     on_ok_weaker c.enter_csv.result
-    (λ told. (told.0, told.1, (refl, refl, subst (λ a. Says (SeatTurn g.E.Editor.NeverFails) old a request.close told.0 new) is told.2)))
+    (λ told. (told.0, told.1, (c.enter_csv.ensures.same_editor, c.enter_csv.ensures.same_seat, subst (λ a. Says (SeatTurn g.E.Editor.NeverFails) old a request.close told.0 new) is told.2)))
     c.enter_csv.ensures.ok
 
 pub returns-in-Ok-Declaration-clause-fixed : goal.returns-in-Ok-Declaration-clause-fixed
 returns-in-Ok-Declaration-clause-fixed g c =
     let request = c.args.request.now in
     let old : Sitting = sitting (g.S.Seat.list c.args.self.now.seat.now) (g.E.Editor.faults c.args.self.now.editor.now) (g.E.Editor.given c.args.self.now.editor.now) in
-    let new : Sitting = sitting (g.S.Seat.list c.enter_csv.new.seat) (g.E.Editor.faults c.enter_csv.new.editor) (g.E.Editor.given c.enter_csv.new.editor) in
+    let new : Sitting = sitting (g.S.Seat.list c.enter_csv.new.self.seat.now) (g.E.Editor.faults c.enter_csv.new.self.editor.now) (g.E.Editor.given c.enter_csv.new.self.editor.now) in
     let is = ap (λ b. of_csv (declaration_of b)) c.of-body.ensures
     ∙ ap (λ a. of_route (span_bytes c.args.buffer.now request.body) (Ok a)) (sym c.in-Ok-Declaration.field-0-is)
     ∙ ap (of_route (span_bytes c.args.buffer.now request.body)) (c.in-Ok-Declaration.ensures.value (λ e. cc)) in
     if_err_weaker (λ told. Says (SeatTurn g.E.Editor.NeverFails) old (of_csv (declaration_of c.of-body.result.now)) request.close (fixed_reply told request.close) new) _ c.enter_csv.result
-    (λ told says. (refl, refl, subst (λ a. Says (SeatTurn g.E.Editor.NeverFails) old a request.close (fixed_reply told request.close) new) is says))
+    (λ told says. (c.enter_csv.ensures.same_editor, c.enter_csv.ensures.same_seat, subst (λ a. Says (SeatTurn g.E.Editor.NeverFails) old a request.close (fixed_reply told request.close) new) is says))
     c.enter_csv.ensures.fixed
 
 pub returns-in-Err-clause-ok : goal.returns-in-Err-clause-ok

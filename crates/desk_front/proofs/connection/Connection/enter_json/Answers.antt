@@ -11,7 +11,7 @@ use Rattle.desk_front.specs.Replies.{bad_edit_body}
 use Rattle.desk_front.specs.Turn.{Standing, Turn}
 use Rattle.desk_front.proofs.Saying.{says_memory_of, says_told}
 use Rattle.desk_front.proofs.Turning.{lacks, refuses}
-use Rattle.desk_front.proofs.connection.enter_json.Goals as goal
+use Rattle.desk_front.proofs.connection.Connection.enter_json.Goals as goal
 
 unlike : (x : JsonFault) → x ≢ fault.OutOfMemory → ◌≢◌ {A = Result Edit JsonFault} (Err x) (Err fault.OutOfMemory)
 unlike x other e = other (inside x fault.OutOfMemory e)
@@ -21,11 +21,11 @@ unlike x other e = other (inside x fault.OutOfMemory e)
 
 pub returns-in-Err-clause-ok : goal.returns-in-Err-clause-ok
 returns-in-Err-clause-ok g c =
-    let old : Standing = record { whole = current_tables c.args.clerk.now; met = c.args.met.now; faults = g.K.Keeper.faults (keeper_of c.args.clerk.now) } in
+    let old : Standing = record { current = current_tables c.args.self.now.clerk.now; last_seen = c.args.self.now.last_seen; faults = g.K.Keeper.faults (keeper_of c.args.self.now.clerk.now) } in
     says_told Turn refuses lacks (c.in-Err.fault ≢ fault.OutOfMemory) old (of_json (edit_of_json c.args.body.now)) c.args.close (with_body 400 (bad_edit_body c.in-Err.fault)) c.args.out.now
     c.tell_bad_edit.new.out c.tell_bad_edit.result (λ other. ap of_json (sym (c.in-Err.ensures.edit (unlike c.in-Err.fault other)))) c.tell_bad_edit.ensures.ok
 
 pub returns-in-Err-clause-fixed : goal.returns-in-Err-clause-fixed
 returns-in-Err-clause-fixed g c =
-    let old : Standing = record { whole = current_tables c.args.clerk.now; met = c.args.met.now; faults = g.K.Keeper.faults (keeper_of c.args.clerk.now) } in
+    let old : Standing = record { current = current_tables c.args.self.now.clerk.now; last_seen = c.args.self.now.last_seen; faults = g.K.Keeper.faults (keeper_of c.args.self.now.clerk.now) } in
     says_memory_of Turn refuses lacks old (of_json (edit_of_json c.args.body.now)) c.args.close c.tell_bad_edit.result c.tell_bad_edit.ensures.memory

@@ -10,22 +10,22 @@ use Rattle.desk_front.specs.Told.{Says}
 use Rattle.desk_front.specs.Turn.{Standing, Turn}
 use Rattle.desk_front.proofs.Saying.{says_memory}
 use Rattle.desk_front.proofs.Turning.{lacks, refuses, says_answer}
-use Rattle.desk_front.proofs.connection.answer.Goals as goal
+use Rattle.desk_front.proofs.connection.Connection.answer.Goals as goal
 
 pub returns-then-is_err-clause-fixed : goal.returns-then-is_err-clause-fixed
 returns-then-is_err-clause-fixed g c =
-    let old : Standing = record { whole = tables_of c.args.clerk.now.desk; met = c.args.met.now; faults = g.K.Keeper.faults c.args.clerk.now.desk.keeper } in
+    let old : Standing = record { current = tables_of c.args.self.now.clerk.now.desk; last_seen = c.args.self.now.last_seen; faults = g.K.Keeper.faults c.args.self.now.clerk.now.desk.keeper } in
     subst
     (λ d. Says Turn old (question c.args.question.now) c.args.close (fixed_reply refusal.Memory c.args.close)
-    (record { whole = tables_of d; met = c.args.met.now; faults = g.K.Keeper.faults d.keeper }))
+    (record { current = tables_of d; last_seen = c.args.self.now.last_seen; faults = g.K.Keeper.faults d.keeper }))
     (sym c.catch_up.ensures.desk) (says_memory Turn refuses lacks old (question c.args.question.now) c.args.close refusal.Memory refl)
 
 pub returns-in-Err-clause-fixed : goal.returns-in-Err-clause-fixed
 returns-in-Err-clause-fixed g c =
-    let old : Standing = record { whole = tables_of c.args.clerk.now.desk; met = c.args.met.now; faults = g.K.Keeper.faults c.args.clerk.now.desk.keeper } in
+    let old : Standing = record { current = tables_of c.args.self.now.clerk.now.desk; last_seen = c.args.self.now.last_seen; faults = g.K.Keeper.faults c.args.self.now.clerk.now.desk.keeper } in
     subst
     (λ d. Says Turn old (question c.args.question.now) c.args.close (fixed_reply c.in-Err.fixed c.args.close)
-    (record { whole = tables_of d; met = c.args.met.now; faults = g.K.Keeper.faults d.keeper }))
+    (record { current = tables_of d; last_seen = c.args.self.now.last_seen; faults = g.K.Keeper.faults d.keeper }))
     (sym c.catch_up.ensures.desk) (says_memory Turn refuses lacks old (question c.args.question.now) c.args.close c.in-Err.fixed c.in-Err.ensures.memory)
 
 pub returns-in-Ok-clause-ok : goal.returns-in-Ok-clause-ok
@@ -33,10 +33,10 @@ returns-in-Ok-clause-ok g c =
     let desk = c.catch_up.new.self.desk in
     let asked = c.args.question.now in
     let said = bytes_with c.args.close (answer_at (tables_of desk) asked) in
-    let new : Standing = record { whole = tables_of desk; met = c.number.result; faults = g.K.Keeper.faults desk.keeper } in (
+    let new : Standing = record { current = tables_of desk; last_seen = c.number-self.result; faults = g.K.Keeper.faults desk.keeper } in (
       said,
       c.in-Ok.ensures.ok ∙ ap (λ e. c.args.out.now ++ bytes_with c.args.close (answer_at (lists_of e) asked)) c.engine.ensures.engine,
-      subst (λ d. Says Turn (record { whole = tables_of d; met = c.args.met.now; faults = g.K.Keeper.faults d.keeper }) (question asked) c.args.close said new)
+      subst (λ d. Says Turn (record { current = tables_of d; last_seen = c.args.self.now.last_seen; faults = g.K.Keeper.faults d.keeper }) (question asked) c.args.close said new)
           c.catch_up.ensures.desk
-          (says_answer (record { whole = tables_of desk; met = c.args.met.now; faults = g.K.Keeper.faults desk.keeper }) asked c.args.close c.number.result c.number.ensures),
+          (says_answer (record { current = tables_of desk; last_seen = c.args.self.now.last_seen; faults = g.K.Keeper.faults desk.keeper }) asked c.args.close c.number-self.result c.number-self.ensures),
     )

@@ -11,7 +11,7 @@ use Rattle.desk_front.specs.Sitting.{SeatTurn, Sitting, sitting}
 use Rattle.desk_front.specs.Told.{Says}
 use Rattle.desk_front.proofs.Saying.{if_err_weaker, on_ok_weaker, says_memory_of, says_told}
 use Rattle.desk_front.proofs.Seating.{lacks, refuses}
-use Rattle.desk_front.proofs.linked.enter_csv.Goals as goal
+use Rattle.desk_front.proofs.linked.Linked.enter_csv.Goals as goal
 
 unlike : (x : DeclareFault) → x ≢ fault.OutOfMemory → ◌≢◌ {A = Result Edit DeclareFault} (Err x) (Err fault.OutOfMemory)
 unlike x other e = other (inside x fault.OutOfMemory e)
@@ -21,26 +21,26 @@ unlike x other e = other (inside x fault.OutOfMemory e)
 
 pub returns-in-Ok-clause-ok : goal.returns-in-Ok-clause-ok
 returns-in-Ok-clause-ok g c =
-    let old : Sitting = sitting (g.S.Seat.list c.args.seat.now) (g.E.Editor.faults c.args.editor.now) (g.E.Editor.given c.args.editor.now) in
-    let new : Sitting = sitting (g.S.Seat.list c.enter.new.seat) (g.E.Editor.faults c.enter.new.editor) (g.E.Editor.given c.enter.new.editor) in
+    let old : Sitting = sitting (g.S.Seat.list c.args.self.now.seat.now) (g.E.Editor.faults c.args.self.now.editor.now) (g.E.Editor.given c.args.self.now.editor.now) in
+    let new : Sitting = sitting (g.S.Seat.list c.enter.new.self.seat.now) (g.E.Editor.faults c.enter.new.self.editor.now) (g.E.Editor.given c.enter.new.self.editor.now) in
     let is = ap of_csv (c.in-Ok.ensures.edit (λ e. cc)) in
     on_ok_weaker c.enter.result (λ told. (told.0, told.1, subst (λ a. Says (SeatTurn g.E.Editor.NeverFails) old a c.args.close told.0 new) is told.2)) c.enter.ensures.ok
 
 pub returns-in-Ok-clause-fixed : goal.returns-in-Ok-clause-fixed
 returns-in-Ok-clause-fixed g c =
-    let old : Sitting = sitting (g.S.Seat.list c.args.seat.now) (g.E.Editor.faults c.args.editor.now) (g.E.Editor.given c.args.editor.now) in
-    let new : Sitting = sitting (g.S.Seat.list c.enter.new.seat) (g.E.Editor.faults c.enter.new.editor) (g.E.Editor.given c.enter.new.editor) in
+    let old : Sitting = sitting (g.S.Seat.list c.args.self.now.seat.now) (g.E.Editor.faults c.args.self.now.editor.now) (g.E.Editor.given c.args.self.now.editor.now) in
+    let new : Sitting = sitting (g.S.Seat.list c.enter.new.self.seat.now) (g.E.Editor.faults c.enter.new.self.editor.now) (g.E.Editor.given c.enter.new.self.editor.now) in
     let is = ap of_csv (c.in-Ok.ensures.edit (λ e. cc)) in
     if_err_weaker (λ told. Says (SeatTurn g.E.Editor.NeverFails) old (an_edit c.in-Ok.edit) c.args.close (fixed_reply told c.args.close) new) _ c.enter.result
     (λ told says. subst (λ a. Says (SeatTurn g.E.Editor.NeverFails) old a c.args.close (fixed_reply told c.args.close) new) is says) c.enter.ensures.fixed
 
 pub returns-in-Err-clause-ok : goal.returns-in-Err-clause-ok
 returns-in-Err-clause-ok g c =
-    let old : Sitting = sitting (g.S.Seat.list c.args.seat.now) (g.E.Editor.faults c.args.editor.now) (g.E.Editor.given c.args.editor.now) in
+    let old : Sitting = sitting (g.S.Seat.list c.args.self.now.seat.now) (g.E.Editor.faults c.args.self.now.editor.now) (g.E.Editor.given c.args.self.now.editor.now) in
     says_told (SeatTurn g.E.Editor.NeverFails) (refuses g.E.Editor.NeverFails) (lacks g.E.Editor.NeverFails) (c.in-Err.fault ≢ fault.OutOfMemory) old (of_csv (declaration_of c.args.text.now)) c.args.close (with_body 400 (bad_declaration_body c.in-Err.fault)) c.args.out.now
     c.tell_bad_declaration.new.out c.tell_bad_declaration.result (λ other. ap of_csv (sym (c.in-Err.ensures.edit (unlike c.in-Err.fault other)))) c.tell_bad_declaration.ensures.ok
 
 pub returns-in-Err-clause-fixed : goal.returns-in-Err-clause-fixed
 returns-in-Err-clause-fixed g c =
-    let old : Sitting = sitting (g.S.Seat.list c.args.seat.now) (g.E.Editor.faults c.args.editor.now) (g.E.Editor.given c.args.editor.now) in
+    let old : Sitting = sitting (g.S.Seat.list c.args.self.now.seat.now) (g.E.Editor.faults c.args.self.now.editor.now) (g.E.Editor.given c.args.self.now.editor.now) in
     says_memory_of (SeatTurn g.E.Editor.NeverFails) (refuses g.E.Editor.NeverFails) (lacks g.E.Editor.NeverFails) old (of_csv (declaration_of c.args.text.now)) c.args.close c.tell_bad_declaration.result c.tell_bad_declaration.ensures.memory

@@ -5,11 +5,11 @@ use Rattle.desk_http.specs.declared.fixed.Fixed.TheVariants as refusal
 use Rattle.desk_front.specs.Sitting.{Sitting, edited_status, sitting}
 use Rattle.desk_front.proofs.Saying.{if_err_weaker, on_ok_weaker}
 use Rattle.desk_front.proofs.Seating.{IsEdited, says_edited, says_failed, says_unmade, says_untold}
-use Rattle.desk_front.proofs.linked.enter.Goals as goal
+use Rattle.desk_front.proofs.linked.Linked.enter.Goals as goal
 
 pub returns-in-Ok-Accepted-clause-ok : goal.returns-in-Ok-Accepted-clause-ok
 returns-in-Ok-Accepted-clause-ok g c =
-    let old : Sitting = sitting (g.S.Seat.list c.args.seat.now) (g.E.Editor.faults c.args.editor.now) (g.E.Editor.given c.args.editor.now) in
+    let old : Sitting = sitting (g.S.Seat.list c.args.self.now.seat.now) (g.E.Editor.faults c.args.self.now.editor.now) (g.E.Editor.given c.args.self.now.editor.now) in
     let new : Sitting = sitting (g.S.Seat.list c.edit.new.seat) (g.E.Editor.faults c.edit.new.self) (g.E.Editor.given c.edit.new.self) in
     let answer = c.in-Ok-Accepted.field-0 in
     let body = c.as_slice.result.now in
@@ -30,7 +30,7 @@ returns-in-Ok-Accepted-clause-ok g c =
 
 pub returns-in-Ok-Accepted-clause-fixed : goal.returns-in-Ok-Accepted-clause-fixed
 returns-in-Ok-Accepted-clause-fixed g c =
-    let old : Sitting = sitting (g.S.Seat.list c.args.seat.now) (g.E.Editor.faults c.args.editor.now) (g.E.Editor.given c.args.editor.now) in
+    let old : Sitting = sitting (g.S.Seat.list c.args.self.now.seat.now) (g.E.Editor.faults c.args.self.now.editor.now) (g.E.Editor.given c.args.self.now.editor.now) in
     let new : Sitting = sitting (g.S.Seat.list c.edit.new.seat) (g.E.Editor.faults c.edit.new.self) (g.E.Editor.given c.edit.new.self) in
     let answer = c.in-Ok-Accepted.field-0 in
     let edited : IsEdited old c.args.edit answer c.truncate.new.self c.edit.new.out new = record {
@@ -45,7 +45,7 @@ returns-in-Ok-Accepted-clause-fixed g c =
 
 pub returns-in-Ok-Refused-clause-ok : goal.returns-in-Ok-Refused-clause-ok
 returns-in-Ok-Refused-clause-ok g c =
-    let old : Sitting = sitting (g.S.Seat.list c.args.seat.now) (g.E.Editor.faults c.args.editor.now) (g.E.Editor.given c.args.editor.now) in
+    let old : Sitting = sitting (g.S.Seat.list c.args.self.now.seat.now) (g.E.Editor.faults c.args.self.now.editor.now) (g.E.Editor.given c.args.self.now.editor.now) in
     let new : Sitting = sitting (g.S.Seat.list c.edit.new.seat) (g.E.Editor.faults c.edit.new.self) (g.E.Editor.given c.edit.new.self) in
     let answer = c.in-Ok-Refused.field-0 in
     let body = c.as_slice-in-Ok-Refused.result.now in
@@ -66,7 +66,7 @@ returns-in-Ok-Refused-clause-ok g c =
 
 pub returns-in-Ok-Refused-clause-fixed : goal.returns-in-Ok-Refused-clause-fixed
 returns-in-Ok-Refused-clause-fixed g c =
-    let old : Sitting = sitting (g.S.Seat.list c.args.seat.now) (g.E.Editor.faults c.args.editor.now) (g.E.Editor.given c.args.editor.now) in
+    let old : Sitting = sitting (g.S.Seat.list c.args.self.now.seat.now) (g.E.Editor.faults c.args.self.now.editor.now) (g.E.Editor.given c.args.self.now.editor.now) in
     let new : Sitting = sitting (g.S.Seat.list c.edit.new.seat) (g.E.Editor.faults c.edit.new.self) (g.E.Editor.given c.edit.new.self) in
     let answer = c.in-Ok-Refused.field-0 in
     let edited : IsEdited old c.args.edit answer c.truncate.new.self c.edit.new.out new = record {
@@ -82,12 +82,12 @@ returns-in-Ok-Refused-clause-fixed g c =
 pub returns-in-Err-KeeperFault-clause-fixed : goal.returns-in-Err-KeeperFault-clause-fixed
 returns-in-Err-KeeperFault-clause-fixed g c =
     let stays = c.in-Err-KeeperFault.ensures.err in
-    says_failed g.E.Editor.NeverFails (g.S.Seat.list c.args.seat.now) (g.S.Seat.list c.edit.new.seat) (g.E.Editor.faults c.args.editor.now) (g.E.Editor.faults c.edit.new.self)
-    (g.E.Editor.given c.args.editor.now) (g.E.Editor.given c.edit.new.self) c.args.edit c.args.close (ap g.S.Seat.list stays.1) c.edit.ensures.faults.never_falls stays.2
+    says_failed g.E.Editor.NeverFails (g.S.Seat.list c.args.self.now.seat.now) (g.S.Seat.list c.edit.new.seat) (g.E.Editor.faults c.args.self.now.editor.now) (g.E.Editor.faults c.edit.new.self)
+    (g.E.Editor.given c.args.self.now.editor.now) (g.E.Editor.given c.edit.new.self) c.args.edit c.args.close (ap g.S.Seat.list stays.1) c.edit.ensures.faults.never_falls stays.2
     (c.in-Err-KeeperFault.ensures.faults.rises (ap Err c.in-Err-KeeperFault.field-0-is)) (λ never. c.in-Err-KeeperFault.ensures.sure never (ap Err c.in-Err-KeeperFault.field-0-is))
 
 pub returns-in-Err-OutOfMemory-clause-fixed : goal.returns-in-Err-OutOfMemory-clause-fixed
 returns-in-Err-OutOfMemory-clause-fixed g c =
     let stays = c.in-Err-OutOfMemory.ensures.err in
-    says_unmade g.E.Editor.NeverFails (g.S.Seat.list c.args.seat.now) (g.S.Seat.list c.edit.new.seat) (g.E.Editor.faults c.args.editor.now) (g.E.Editor.faults c.edit.new.self)
-    (g.E.Editor.given c.args.editor.now) (g.E.Editor.given c.edit.new.self) c.args.edit c.args.close (ap g.S.Seat.list stays.1) c.edit.ensures.faults.never_falls stays.2
+    says_unmade g.E.Editor.NeverFails (g.S.Seat.list c.args.self.now.seat.now) (g.S.Seat.list c.edit.new.seat) (g.E.Editor.faults c.args.self.now.editor.now) (g.E.Editor.faults c.edit.new.self)
+    (g.E.Editor.given c.args.self.now.editor.now) (g.E.Editor.given c.edit.new.self) c.args.edit c.args.close (ap g.S.Seat.list stays.1) c.edit.ensures.faults.never_falls stays.2
